@@ -1,0 +1,26 @@
+#!/usr/bin/env bash
+# make test: proves every crate of crates.txt from nothing, tries the must-fail edits, runs the programs,
+# then the comparisons. The last line printed is `rt ci`'s own, 'N passed, 0 failed', and only if all of it held.
+set -u
+cd "$(dirname "$0")/.."
+
+fail() {
+    echo "make test: $*" >&2
+    exit 1
+}
+
+command -v rt >/dev/null 2>&1 || fail "the Rattle toolchain's command 'rt' is not on the PATH"
+
+rt fmt --check || fail "a file is not in the formatter's layout: run 'rt fmt'"
+
+log=$(mktemp) || fail "no temporary file could be made"
+trap 'rm -f "$log"' EXIT
+
+# All that rt ci prints goes on at once but for its last line, which is kept back.
+rt ci 2>&1 | tee "$log" | head -n -1
+status=${PIPESTATUS[0]}
+verdict=$(tail -n 1 "$log")
+[ "$status" -eq 0 ] || { echo "$verdict"; fail "rt ci ended with status $status"; }
+[[ "$verdict" =~ ^[1-9][0-9]*\ passed,\ 0\ failed$ ]] || fail "rt ci's last line is not a verdict: $verdict"
+
+echo "$verdict"
