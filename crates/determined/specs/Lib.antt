@@ -1,0 +1,3 @@
+-- What is claimed of each contract, then a file for each crate with the claim proved for each of its public calls.
+pub mod Claim
+pub mod BitTimes
