@@ -1,7 +1,7 @@
 -- What other crates may use of bit times, each with the sentence that it proves.
 use Prim.Native.Nat.{ℕ, zero, suc, _*_, _<_, _≤_}
 use mathlib.Core.Path.{_≡_, refl}
-use mathlib.Core.List.{List, [], _∷_}
+use mathlib.Core.List.{map}
 use lib.Dec.{eqb, ltb, lit≤}
 use lib.ListN.{getD, List·getD-eq-default}
 use native.Mathlib.Omega.{arith}
@@ -48,7 +48,7 @@ listed B12000000 = row-listed B12000000 refl (lit≤ tt) (lit≤ tt, lit≤ tt) 
 -- a code above 10 has no rate
 pub baud-unknown : (n : ℕ) → 11 ≤ n → baudOf n ≡ Unknown
 unfolding baudOf
-baud-unknown n h = List·getD-eq-default rates Unknown h
+baud-unknown n h = List·getD-eq-default (map Rate rates) Unknown h
 
 -- both parts of a conjunction hold
 and-true : (a b : Bool) → (a && b) ≡ true → (a ≡ true) × (b ≡ true)

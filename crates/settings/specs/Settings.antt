@@ -1,0 +1,168 @@
+-- Document 01, "Settings" and refusals 1 to 10, beside profirust's parameters.rs.
+-- A refusal is document 01's number; 0 stands for no refusal. `cond t a b` is a if the test t holds, else b.
+use Prim.Native.Nat.{ℕ, zero, suc, _+_, _-_, _*_, _/_}
+use mathlib.Core.Bool.{Bool, true, false, cond, _&&_}
+use lib.Dec.{ltb, leb, eqb}
+use Rattle.bit_times.specs.declared.Baud.{Baud}
+use Rattle.bit_times.specs.declared.Coded.{Coded}
+use Rattle.bit_times.specs.declared.Coded.the-variants.{Rate, Unknown}
+use Rattle.bit_times.specs.declared.Micros.{Micros}
+use Rattle.bit_times.specs.Times.{codeOf, leastSlotBits, baudOf, timeOf}
+use Rattle.settings.specs.declared.WatchdogFactors.{WatchdogFactors}
+use Rattle.settings.specs.declared.WatchdogFactors.the-variants as wf
+use Rattle.settings.specs.declared.Parameters.{Parameters}
+use Rattle.settings.specs.declared.Fields.{Fields}
+use Rattle.settings.specs.declared.Created.{Created}
+use Rattle.settings.specs.declared.Created.the-variants as created
+use Rattle.settings.specs.declared.Changed.{Changed}
+use Rattle.settings.specs.declared.Changed.the-variants as changed
+use Rattle.settings.specs.declared.Factored.{Factored}
+use Rattle.settings.specs.declared.Factored.the-variants as factored
+use Rattle.settings.specs.declared.Timeout.{Timeout}
+use Rattle.settings.specs.declared.Timeout.the-variants as timeout
+
+-- a value below low is refused with n
+unfoldable pub belowOf : ℕ → ℕ → ℕ → ℕ
+belowOf low v n = cond (leb low v) 0 n
+
+-- a value outside low..high is refused with n
+unfoldable pub outsideOf : ℕ → ℕ → ℕ → ℕ → ℕ
+outsideOf low v high n = cond (leb low v && leb v high) 0 n
+
+-- u / f rounded up
+abbrev pub ceilOf : ℕ → ℕ → ℕ
+ceilOf u f = (u + f - 1) / f
+
+-- the least f1 of the k numbers from f on with u / f1 rounded up below 256, and that quotient; 9 where there is none
+unfoldable pub trial : ℕ → ℕ → ℕ → Factored
+trial u zero f = factored.Refused 9
+trial u (suc k) f = let rest = trial u k (suc f) in cond (ltb (ceilOf u f) 256) (factored.Factors f (ceilOf u f)) rest
+
+-- watchdog_factors: none of 0 ms, else by trial from 1 to 255, in units of 10 ms
+unfoldable pub factorsOf : ℕ → Factored
+factorsOf ms = cond (eqb ms 0) factored.None (trial (ms / 10) 255 1)
+
+-- Parameters::default with the address and the rate of ParametersBuilder::new; 10 where the code has no rate
+unfoldable pub newAt : ℕ → Coded → Created
+newAt address (Rate baud) = created.Accepted (record { «token_rotation_bits» = 32436; «slot_bits» = leastSlotBits baud; address = address; baudrate = baud; «gap_wait_rotations» = 10; «highest_station_address» = 126; «max_retry_limit» = 1; «min_tsdr_bits» = 11; «watchdog_factors» = wf.None })
+newAt address Unknown = created.Refused 10
+
+-- ParametersBuilder::new
+unfoldable pub newOf : ℕ → ℕ → Created
+newOf address code = cond (leb address 125) (newAt address (baudOf code)) (created.Refused 1)
+
+-- a setter's answer: refused with n and the settings as they were, or, where n is 0, the answer given
+unfoldable pub unless : ℕ → Parameters → Changed → Changed
+unless n p answer = cond (eqb n 0) answer (changed.Refused n p)
+
+-- ParametersBuilder::slot_bits
+unfoldable pub slotBitsOf : Parameters → ℕ → Changed
+slotBitsOf p v = unless (belowOf (leastSlotBits (p .baudrate)) v 2) p (changed.Accepted (record { «token_rotation_bits» = p .«token_rotation_bits»; «slot_bits» = v; address = p .address; baudrate = p .baudrate; «gap_wait_rotations» = p .«gap_wait_rotations»; «highest_station_address» = p .«highest_station_address»; «max_retry_limit» = p .«max_retry_limit»; «min_tsdr_bits» = p .«min_tsdr_bits»; «watchdog_factors» = p .«watchdog_factors» }))
+
+-- ParametersBuilder::highest_station_address: above the address, at most 126; it also sets the rotation to HSA × 5000
+unfoldable pub hsaOf : Parameters → ℕ → Changed
+hsaOf p v = unless (outsideOf (p .address + 1) v 126 3) p (changed.Accepted (record { «token_rotation_bits» = v * 5000; «slot_bits» = p .«slot_bits»; address = p .address; baudrate = p .baudrate; «gap_wait_rotations» = p .«gap_wait_rotations»; «highest_station_address» = v; «max_retry_limit» = p .«max_retry_limit»; «min_tsdr_bits» = p .«min_tsdr_bits»; «watchdog_factors» = p .«watchdog_factors» }))
+
+-- ParametersBuilder::token_rotation_bits
+unfoldable pub rotationOf : Parameters → ℕ → Changed
+rotationOf p v = unless (outsideOf 256 v 16777960 4) p (changed.Accepted (record { «token_rotation_bits» = v; «slot_bits» = p .«slot_bits»; address = p .address; baudrate = p .baudrate; «gap_wait_rotations» = p .«gap_wait_rotations»; «highest_station_address» = p .«highest_station_address»; «max_retry_limit» = p .«max_retry_limit»; «min_tsdr_bits» = p .«min_tsdr_bits»; «watchdog_factors» = p .«watchdog_factors» }))
+
+-- ParametersBuilder::gap_wait_rotations
+unfoldable pub gapWaitOf : Parameters → ℕ → Changed
+gapWaitOf p v = unless (outsideOf 1 v 100 5) p (changed.Accepted (record { «token_rotation_bits» = p .«token_rotation_bits»; «slot_bits» = p .«slot_bits»; address = p .address; baudrate = p .baudrate; «gap_wait_rotations» = v; «highest_station_address» = p .«highest_station_address»; «max_retry_limit» = p .«max_retry_limit»; «min_tsdr_bits» = p .«min_tsdr_bits»; «watchdog_factors» = p .«watchdog_factors» }))
+
+-- ParametersBuilder::max_retry_limit
+unfoldable pub retryOf : Parameters → ℕ → Changed
+retryOf p v = unless (outsideOf 1 v 15 6) p (changed.Accepted (record { «token_rotation_bits» = p .«token_rotation_bits»; «slot_bits» = p .«slot_bits»; address = p .address; baudrate = p .baudrate; «gap_wait_rotations» = p .«gap_wait_rotations»; «highest_station_address» = p .«highest_station_address»; «max_retry_limit» = v; «min_tsdr_bits» = p .«min_tsdr_bits»; «watchdog_factors» = p .«watchdog_factors» }))
+
+-- ParametersBuilder::min_tsdr
+unfoldable pub minTsdrOf : Parameters → ℕ → Changed
+minTsdrOf p v = unless (belowOf 11 v 7) p (changed.Accepted (record { «token_rotation_bits» = p .«token_rotation_bits»; «slot_bits» = p .«slot_bits»; address = p .address; baudrate = p .baudrate; «gap_wait_rotations» = p .«gap_wait_rotations»; «highest_station_address» = p .«highest_station_address»; «max_retry_limit» = p .«max_retry_limit»; «min_tsdr_bits» = v; «watchdog_factors» = p .«watchdog_factors» }))
+
+-- the settings with other watchdog factors
+unfoldable pub withWatchdog : Parameters → WatchdogFactors → Parameters
+withWatchdog p w = record { «token_rotation_bits» = p .«token_rotation_bits»; «slot_bits» = p .«slot_bits»; address = p .address; baudrate = p .baudrate; «gap_wait_rotations» = p .«gap_wait_rotations»; «highest_station_address» = p .«highest_station_address»; «max_retry_limit» = p .«max_retry_limit»; «min_tsdr_bits» = p .«min_tsdr_bits»; «watchdog_factors» = w }
+
+-- ParametersBuilder::watchdog_timeout once the time lies in its range: the factors, as watchdog_factors gives them
+unfoldable pub watchdogAt : Parameters → Factored → Changed
+watchdogAt p factored.None = changed.Accepted (withWatchdog p wf.None)
+watchdogAt p (factored.Factors f1 f2) = changed.Accepted (withWatchdog p (wf.Some f1 f2))
+watchdogAt p (factored.Refused n) = changed.Refused n p
+
+-- ParametersBuilder::watchdog_timeout, in milliseconds
+unfoldable pub watchdogOf : Parameters → ℕ → Changed
+watchdogOf p ms = unless (outsideOf 10 ms 650000 8) p (watchdogAt p (factorsOf ms))
+
+-- ParametersBuilder::build_verified, for one peripheral: max Tsdr + 15 is at most the slot bits
+unfoldable pub slotCheckOf : Parameters → ℕ → Bool
+slotCheckOf p tsdr = leb (tsdr + 15) (p .«slot_bits»)
+
+-- 8 where one factor is zero and the other is not
+unfoldable pub factorsRefusal : ℕ → ℕ → ℕ
+factorsRefusal f1 f2 = cond (eqb f1 0) (cond (eqb f2 0) 0 8) (cond (eqb f2 0) 8 0)
+
+-- the first refusal of two
+abbrev pub first : ℕ → ℕ → ℕ
+first n rest = cond (eqb n 0) rest n
+
+-- document 01's header order after 1 and 10: 2, 3, 4, 5, 6, 7, 8
+unfoldable pub restRefusal : Fields → Baud → ℕ
+restRefusal f baud =
+    first (belowOf (leastSlotBits baud) (f .«slot_bits») 2)
+    (first (outsideOf (f .address + 1) (f .«highest_station_address») 126 3)
+    (first (outsideOf 256 (f .«token_rotation_bits») 16777960 4)
+    (first (outsideOf 1 (f .«gap_wait_rotations») 100 5)
+    (first (outsideOf 1 (f .«max_retry_limit») 15 6)
+    (first (belowOf 11 (f .«min_tsdr_bits») 7) (factorsRefusal (f .«factor_1») (f .«factor_2»)))))))
+
+-- 10 where the code has no rate, then the rest
+unfoldable pub codedRefusal : Fields → Coded → ℕ
+codedRefusal f (Rate baud) = restRefusal f baud
+codedRefusal f Unknown = 10
+
+-- the check of a whole record, in document 01's header order: 1, 10, 2, 3, 4, 5, 6, 7, 8
+unfoldable pub firstRefusal : Fields → ℕ
+firstRefusal f = cond (leb (f .address) 125) (codedRefusal f (baudOf (f .«baud_code»))) 1
+
+-- two factors as the settings keep them: zero says that there are none
+unfoldable pub pairOf : ℕ → ℕ → WatchdogFactors
+pairOf f1 f2 = cond (eqb f1 0) wf.None (wf.Some f1 f2)
+
+-- the settings with each field as given
+unfoldable pub builtAt : Fields → Coded → Created
+builtAt f (Rate baud) = created.Accepted (record { «token_rotation_bits» = f .«token_rotation_bits»; «slot_bits» = f .«slot_bits»; address = f .address; baudrate = baud; «gap_wait_rotations» = f .«gap_wait_rotations»; «highest_station_address» = f .«highest_station_address»; «max_retry_limit» = f .«max_retry_limit»; «min_tsdr_bits» = f .«min_tsdr_bits»; «watchdog_factors» = pairOf (f .«factor_1») (f .«factor_2») })
+builtAt f Unknown = created.Refused 10
+
+-- ParametersBuilder::build over a whole record: its first refusal, or the settings
+unfoldable pub buildOf : Fields → Created
+buildOf f = cond (eqb (firstRefusal f) 0) (builtAt f (baudOf (f .«baud_code»))) (created.Refused (firstRefusal f))
+
+-- the two factors as numbers, zero where there are none
+abbrev pub factorsPair : WatchdogFactors → ℕ × ℕ
+factorsPair wf.None = (0, 0)
+factorsPair (wf.Some f1 f2) = (f1, f2)
+
+-- the settings as plain numbers
+unfoldable pub fieldsOf : Parameters → Fields
+fieldsOf p = record { «token_rotation_bits» = p .«token_rotation_bits»; «slot_bits» = p .«slot_bits»; address = p .address; «baud_code» = codeOf (p .baudrate); «gap_wait_rotations» = p .«gap_wait_rotations»; «highest_station_address» = p .«highest_station_address»; «max_retry_limit» = p .«max_retry_limit»; «min_tsdr_bits» = p .«min_tsdr_bits»; «factor_1» = factorsPair (p .«watchdog_factors») .0; «factor_2» = factorsPair (p .«watchdog_factors») .1 }
+
+-- Parameters::bits_to_time, slot_time, min_tsdr_time, token_lost_timeout (slot bits × (6 + 2 × address)), token_rotation_time
+abbrev pub bitsToTime : Parameters → ℕ → Micros
+bitsToTime p bits = timeOf (record { 0 = bits }) (p .baudrate)
+
+unfoldable pub slotTimeOf : Parameters → Micros
+slotTimeOf p = bitsToTime p (p .«slot_bits»)
+
+unfoldable pub minTsdrTimeOf : Parameters → Micros
+minTsdrTimeOf p = bitsToTime p (p .«min_tsdr_bits»)
+
+unfoldable pub tokenLostOf : Parameters → Micros
+tokenLostOf p = bitsToTime p (p .«slot_bits» * (6 + 2 * p .address))
+
+unfoldable pub rotationTimeOf : Parameters → Micros
+rotationTimeOf p = bitsToTime p (p .«token_rotation_bits»)
+
+-- Parameters::watchdog_timeout: f1 × f2 × 10 ms, where there are factors
+unfoldable pub watchdogTimeOf : WatchdogFactors → Timeout
+watchdogTimeOf wf.None = timeout.None
+watchdogTimeOf (wf.Some f1 f2) = timeout.After (record { 0 = f1 * f2 * 10000 })
