@@ -42,9 +42,13 @@ trial u (suc k) f = let rest = trial u k (suc f) in cond (ltb (ceilOf u f) 256) 
 unfoldable pub factorsOf : ℕ → Factored
 factorsOf ms = cond (eqb ms 0) factored.None (trial (ms / 10) 255 1)
 
--- Parameters::default with the address and the rate of ParametersBuilder::new; 10 where the code has no rate
+-- Parameters::default, with the address, the rate and the rate's least slot bits
+abbrev pub defaultOf : ℕ → Baud → Parameters
+defaultOf address baud = record { «token_rotation_bits» = 32436; «slot_bits» = leastSlotBits baud; address = address; baudrate = baud; «gap_wait_rotations» = 10; «highest_station_address» = 126; «max_retry_limit» = 1; «min_tsdr_bits» = 11; «watchdog_factors» = wf.None }
+
+-- 10 where the code has no rate
 unfoldable pub newAt : ℕ → Coded → Created
-newAt address (Rate baud) = created.Accepted (record { «token_rotation_bits» = 32436; «slot_bits» = leastSlotBits baud; address = address; baudrate = baud; «gap_wait_rotations» = 10; «highest_station_address» = 126; «max_retry_limit» = 1; «min_tsdr_bits» = 11; «watchdog_factors» = wf.None })
+newAt address (Rate baud) = created.Accepted (defaultOf address baud)
 newAt address Unknown = created.Refused 10
 
 -- ParametersBuilder::new
