@@ -1,0 +1,287 @@
+//! Document 01, "Ring (ours)", word by word, over a plain set.
+//!
+//! Addresses are walked one by one; nothing here is clever. The names are those that the Rust
+//! station calls.
+
+use std::collections::BTreeSet;
+
+pub type Address = u8;
+
+/// The highest address: "125 followed by 0".
+pub const LAST: Address = 125;
+
+/// "A set of addresses 0..125, own always in it; laps; ready."
+#[derive(Debug, Clone, PartialEq, Eq)]
+pub struct TokenRing {
+    own: Address,
+    members: BTreeSet<Address>,
+    laps: u8,
+    ready: bool,
+}
+
+/// The address after this one, going up.
+fn up(address: Address) -> Address {
+    if address == LAST {
+        0
+    } else {
+        address + 1
+    }
+}
+
+/// The address after this one, going down.
+fn down(address: Address) -> Address {
+    if address == 0 {
+        LAST
+    } else {
+        address - 1
+    }
+}
+
+/// The addresses strictly between `from` and `to` going up; none if they are the same.
+fn strictly_between(from: Address, to: Address) -> Vec<Address> {
+    let mut met = Vec::new();
+    if from != to {
+        let mut address = up(from);
+        while address != to {
+            met.push(address);
+            address = up(address);
+        }
+    }
+    met
+}
+
+impl TokenRing {
+    /// "Fresh: own only, 0, no." An own address above 125 is refused long before (refusal 1).
+    pub fn new(own: Address) -> Self {
+        assert!(own <= LAST, "own address {} is above {}", own, LAST);
+        TokenRing {
+            own,
+            members: BTreeSet::from([own]),
+            laps: 0,
+            ready: false,
+        }
+    }
+
+    pub fn own(&self) -> Address {
+        self.own
+    }
+
+    /// "Next: first member going up from own, 125 followed by 0; own if alone."
+    pub fn next_station(&self) -> Address {
+        let mut address = up(self.own);
+        while address != self.own && !self.members.contains(&address) {
+            address = up(address);
+        }
+        address
+    }
+
+    /// "Previous: the same going down."
+    pub fn previous_station(&self) -> Address {
+        let mut address = down(self.own);
+        while address != self.own && !self.members.contains(&address) {
+            address = down(address);
+        }
+        address
+    }
+
+    /// "Witness s→d: nothing if either is above 125. Else add s and d, take out every member but own
+    /// strictly between s and d going up (none if s = d). If the set changed, laps = 0. Then if
+    /// d ≤ s, laps rises by one, at most to 2. At 2, ready is set and stays."
+    pub fn witness_token_pass(&mut self, source: Address, destination: Address) {
+        if source > LAST || destination > LAST {
+            return;
+        }
+        let before = self.members.clone();
+        self.members.insert(source);
+        self.members.insert(destination);
+        for address in strictly_between(source, destination) {
+            if address != self.own {
+                self.members.remove(&address);
+            }
+        }
+        if self.members != before {
+            self.laps = 0;
+        }
+        if destination <= source {
+            self.laps = std::cmp::min(self.laps + 1, 2);
+        }
+        if self.laps == 2 {
+            self.ready = true;
+        }
+    }
+
+    /// "Claim sets ready."
+    pub fn claim_token(&mut self) {
+        self.ready = true;
+    }
+
+    /// "Set-next adds." The set is one of addresses 0..125, so a number above adds nothing.
+    pub fn set_next_station(&mut self, address: Address) {
+        if address <= LAST {
+            self.members.insert(address);
+        }
+    }
+
+    /// "Remove takes out any but own."
+    pub fn remove_station(&mut self, address: Address) {
+        if address != self.own {
+            self.members.remove(&address);
+        }
+    }
+
+    pub fn ready_for_ring(&self) -> bool {
+        self.ready
+    }
+
+    pub fn laps(&self) -> u8 {
+        self.laps
+    }
+
+    pub fn member(&self, address: Address) -> bool {
+        self.members.contains(&address)
+    }
+
+    /// The members, lowest first.
+    pub fn members(&self) -> impl Iterator<Item = Address> + '_ {
+        self.members.iter().copied()
+    }
+
+    pub fn size(&self) -> usize {
+        self.members.len()
+    }
+
+    pub fn alone(&self) -> bool {
+        self.members.len() == 1
+    }
+
+    /// "Gap walk from a: candidate a + 1, or 0 if that is ≥ HSA. It is polled exactly if it lies
+    /// strictly between own and next going up (if alone: any but own); else waiting, count 0."
+    /// `Some` is the polled address, `None` waiting with count 0.
+    pub fn gap_walk(&self, from: Address, highest_station_address: Address) -> Option<Address> {
+        let candidate = match from.checked_add(1) {
+            Some(above) if above < highest_station_address => above,
+            _ => 0,
+        };
+        let polled = if self.alone() {
+            candidate != self.own
+        } else {
+            strictly_between(self.own, self.next_station()).contains(&candidate)
+        };
+        if polled {
+            Some(candidate)
+        } else {
+            None
+        }
+    }
+}
+
+#[cfg(test)]
+mod tests {
+    use super::*;
+
+    fn ring(own: Address, others: &[Address]) -> TokenRing {
+        let mut ring = TokenRing::new(own);
+        for &address in others {
+            ring.set_next_station(address);
+        }
+        ring
+    }
+
+    fn listed(ring: &TokenRing) -> Vec<Address> {
+        ring.members().collect()
+    }
+
+    #[test]
+    fn a_fresh_ring_is_alone() {
+        let ring = TokenRing::new(5);
+        assert_eq!(listed(&ring), [5]);
+        assert_eq!((ring.next_station(), ring.previous_station()), (5, 5));
+        assert_eq!((ring.laps(), ring.ready_for_ring()), (0, false));
+    }
+
+    #[test]
+    fn next_and_previous_pass_125_to_0() {
+        let ring = ring(125, &[3, 9]);
+        assert_eq!((ring.next_station(), ring.previous_station()), (3, 9));
+        let ring = self::ring(0, &[125]);
+        assert_eq!((ring.next_station(), ring.previous_station()), (125, 125));
+    }
+
+    #[test]
+    fn a_pass_takes_out_those_it_jumps_but_never_own() {
+        let mut ring = ring(5, &[4, 6, 9]);
+        ring.witness_token_pass(3, 9);
+        assert_eq!(listed(&ring), [3, 5, 9]);
+        ring.witness_token_pass(120, 2);
+        assert_eq!(listed(&ring), [2, 3, 5, 9, 120]);
+        ring.witness_token_pass(9, 3);
+        assert_eq!(listed(&ring), [3, 5, 9]);
+    }
+
+    #[test]
+    fn one_pass_can_reset_laps_and_raise_them() {
+        let mut ring = TokenRing::new(5);
+        ring.witness_token_pass(9, 9);
+        assert_eq!((ring.laps(), ring.ready_for_ring()), (1, false));
+        ring.witness_token_pass(9, 9);
+        assert_eq!((ring.laps(), ring.ready_for_ring()), (2, true));
+        ring.witness_token_pass(9, 9);
+        assert_eq!(ring.laps(), 2);
+        ring.witness_token_pass(9, 10);
+        assert_eq!((ring.laps(), ring.ready_for_ring()), (0, true));
+        ring.witness_token_pass(10, 9);
+        ring.witness_token_pass(10, 8);
+        assert_eq!(ring.laps(), 1);
+    }
+
+    #[test]
+    fn above_125_nothing_happens() {
+        let mut ring = TokenRing::new(5);
+        for high in [126, 127, 200, 255] {
+            ring.witness_token_pass(high, 3);
+            ring.witness_token_pass(3, high);
+            ring.witness_token_pass(high, high);
+            ring.set_next_station(high);
+            ring.remove_station(high);
+            assert!(!ring.member(high));
+        }
+        assert_eq!(ring, TokenRing::new(5));
+    }
+
+    #[test]
+    fn claim_set_next_and_remove_leave_laps() {
+        let mut ring = ring(5, &[9]);
+        ring.witness_token_pass(9, 5);
+        ring.claim_token();
+        ring.set_next_station(7);
+        ring.remove_station(7);
+        ring.remove_station(5);
+        assert_eq!((ring.laps(), ring.ready_for_ring()), (1, true));
+        assert_eq!(listed(&ring), [5, 9]);
+    }
+
+    /// Document 01, example 8.
+    #[test]
+    fn the_gap_walk_of_example_8() {
+        let ring = TokenRing::new(5);
+        assert_eq!(ring.gap_walk(5, 126), Some(6));
+        assert_eq!(ring.gap_walk(125, 126), Some(0));
+        assert_eq!(ring.gap_walk(4, 126), None);
+    }
+
+    #[test]
+    fn the_gap_ends_at_next() {
+        let ring = ring(5, &[9, 2]);
+        assert_eq!(ring.gap_walk(7, 126), Some(8));
+        assert_eq!(ring.gap_walk(8, 126), None);
+        assert_eq!(ring.gap_walk(9, 126), None);
+        assert_eq!(ring.gap_walk(5, 6), None);
+        let ring = self::ring(100, &[3]);
+        assert_eq!(ring.gap_walk(100, 110), Some(101));
+        assert_eq!(ring.gap_walk(109, 110), Some(0));
+        assert_eq!(ring.gap_walk(255, 110), Some(0));
+        assert_eq!(ring.gap_walk(1, 110), Some(2));
+        assert_eq!(ring.gap_walk(2, 110), None);
+        assert_eq!(ring.gap_walk(99, 110), None);
+    }
+}
