@@ -110,7 +110,7 @@ fn first_difference(expected: &[String], got: &[String]) -> Option<usize> {
 /// Drops parts of the list, large ones first, as long as `differs` holds of what is left.
 pub fn shrink<T: Clone>(items: &[T], differs: &mut dyn FnMut(&[T]) -> bool) -> Vec<T> {
     let mut items = items.to_vec();
-    let mut size = items.len() / 2;
+    let mut size = (items.len() / 2).max(1);
     while size >= 1 {
         let mut dropped = false;
         let mut at = 0;
@@ -227,9 +227,10 @@ fn describe<P: Protocol>(
             .push_str("  a second run did not differ: the program does not always answer alike\n");
     }
     report.push_str(&format!(
-        "  the shortest input found that differs, {} {}s:\n",
+        "  the shortest input found that differs, {} {}{}:\n",
         items.len(),
-        P::ITEM
+        P::ITEM,
+        if items.len() == 1 { "" } else { "s" }
     ));
     for item in items.iter().take(PRINTED) {
         report.push_str(&format!("    {}\n", P::item_in_words(item)));

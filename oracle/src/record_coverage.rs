@@ -16,6 +16,7 @@ const SENT: [&str; 5] = [
     "application",
 ];
 const ADDRESS_EDGES: [&str; 5] = ["0", "1", "125", "126", "127"];
+const TOP_ADDRESSES: [&str; 4] = ["0", "125", "126", "127"];
 const DECISION_CLASSES: [&str; 5] = [
     "reply without send",
     "address without send",
@@ -49,6 +50,15 @@ pub fn points() -> Coverage {
     c.group("record accepted, applications", &numbers(1, 8));
     c.group("record accepted, telegrams", &numbers(0, 8));
     c.group("11, applications", &["0", "9", "10", "128", "255"]);
+    c.group(
+        "11",
+        &[
+            "under 8 bytes",
+            "with a count above 8",
+            "0 applications and a length that fits",
+            "9 applications and a length that fits",
+        ],
+    );
     c.group("12, length", &numbers(0, 7));
     c.group(
         "12",
@@ -165,16 +175,16 @@ pub fn points() -> Coverage {
     c.group("answer, consumed", &numbers(0, 8));
     c.group("answer, notice", &numbers(0, 2));
     for sent in &SENT[1..] {
-        c.group(&format!("answer, destination of {}", sent), &["0", "127"]);
+        c.group(&format!("answer, destination of {}", sent), &TOP_ADDRESSES);
     }
     c.group("answer, response type", &numbers(0, 3));
     c.group("answer, application", &["0", "7"]);
     c.group("answer, high", &["0", "1"]);
     c.group("answer, bytes of an application", &["1", "255"]);
     c.group("answer, its application", &["0", "7"]);
-    c.group("answer, its address", &["0", "127"]);
+    c.group("answer, its address", &TOP_ADDRESSES);
     c.group("answer, next application", &["0", "7"]);
-    c.group("answer, next station", &["0", "127"]);
+    c.group("answer, next station", &TOP_ADDRESSES);
     c.group("one rule of the answer broken", &rules());
     c.long_group(
         "ending",
@@ -379,9 +389,7 @@ pub fn see_poll(
         Err(refused) => {
             c.hit("record", &refused.number.to_string());
             match refused.place {
-                Place::Applications => {
-                    c.hit_if_named("11, applications", &applications.to_string())
-                }
+                Place::Applications => see_applications(c, applications, bytes),
                 Place::Length => see_length(c, applications, bytes),
                 Place::Count => {
                     let count = count_of(bytes);
@@ -400,6 +408,18 @@ pub fn see_poll(
                 Place::Telegram(at) => see_bad_telegram(c, applications, bytes, at),
             }
         }
+    }
+}
+
+fn see_applications(c: &mut Coverage, applications: u8, bytes: &[u8]) {
+    c.hit_if_named("11, applications", &applications.to_string());
+    if bytes.len() < HEAD {
+        c.hit("11", "under 8 bytes");
+    } else if count_of(bytes) > 8 {
+        c.hit("11", "with a count above 8");
+    } else if bytes.len() == 8 + 6 * applications as usize + 4 * count_of(bytes) {
+        let point = format!("{} applications and a length that fits", applications);
+        c.hit_if_named("11", &point);
     }
 }
 

@@ -295,6 +295,19 @@ const FLAWS_14: [Flaw; 5] = [
     Flaw::ZeroBits,
 ];
 
+/// The bytes given with a number of applications that is refused.
+#[derive(Debug, Clone, Copy, PartialEq, Eq)]
+enum Body {
+    /// Under 8 bytes.
+    Short,
+    /// A count above 8.
+    Count,
+    /// Zeros, as many as would be right for that number of applications, at most 255.
+    Fitting,
+    /// A record for another number of applications.
+    Other,
+}
+
 /// An item to make; what it leaves open is filled from the seed.
 #[derive(Debug, Clone)]
 enum Spec {
@@ -303,7 +316,10 @@ enum Spec {
         applications: usize,
         telegrams: usize,
     },
-    Applications(u8),
+    Applications {
+        applications: u8,
+        body: Body,
+    },
     Short {
         length: usize,
         ones: bool,
@@ -330,6 +346,8 @@ enum Spec {
         at: usize,
         kind: u8,
         bit: Option<usize>,
+        /// The last telegram is bad as well.
+        another: bool,
     },
     Word(AnswerFields),
     WordBit(usize),
@@ -621,15 +639,17 @@ fn make(spec: &Spec, seed: &mut Seed) -> Item {
             let record = good_record(seed, *applications, *telegrams);
             poll(&record, record.encode())
         }
-        Spec::Applications(applications) => {
-            let record = any_good(seed);
-            let bytes = match seed.below(3) {
-                0 => vec![],
-                1 => {
-                    let length = (8 + 6 * *applications as usize).min(255);
-                    vec![0; length]
+        Spec::Applications { applications, body } => {
+            let length = (8 + 6 * *applications as usize).min(255);
+            let bytes = match body {
+                Body::Short => vec![0; seed.below(8) as usize],
+                Body::Count => {
+                    let mut bytes = vec![0; length];
+                    put_count(&mut bytes, seed.between(9, 15) as u8);
+                    bytes
                 }
-                _ => record.encode(),
+                Body::Fitting => vec![0; length],
+                Body::Other => any_good(seed).encode(),
             };
             Item::Poll {
                 applications: *applications,
@@ -664,7 +684,7 @@ fn make(spec: &Spec, seed: &mut Seed) -> Item {
             if *bad_bits {
                 put_decision(&mut bytes, 0, [0x40, 0, 1]);
             }
-            let length = (bytes.len() as i32 + change).max(8).min(255) as usize;
+            let length = (bytes.len() as i32 + change).clamp(8, 255) as usize;
             bytes.resize(length, 0);
             poll(&record, bytes)
         }
@@ -717,17 +737,17 @@ fn make(spec: &Spec, seed: &mut Seed) -> Item {
             at,
             kind,
             bit,
+            another,
         } => {
             let applications = seed.between(1, 8) as usize;
             let record = good_record(seed, applications, *telegrams);
             let mut bytes = record.encode();
-            let telegram = flawed_telegram(seed, *kind, *bit);
-            put_telegram(&mut bytes, applications, *at, telegram);
-            // now and then another bad one after it
-            if at + 1 < *telegrams && seed.one_in(4) {
+            if *another {
                 let telegram = flawed_telegram(seed, 1, None);
                 put_telegram(&mut bytes, applications, telegrams - 1, telegram);
             }
+            let telegram = flawed_telegram(seed, *kind, *bit);
+            put_telegram(&mut bytes, applications, *at, telegram);
             poll(&record, bytes)
         }
         Spec::Word(fields) => Item::Answer(fields.write()),
@@ -849,7 +869,7 @@ fn edge_words() -> Vec<AnswerFields> {
     for consumed in 0..16 {
         words.push(AnswerFields { consumed, ..plain });
     }
-    for (notice_application, notice_address) in [(0, 0), (7, 0), (0, 127), (7, 127)] {
+    for (notice_application, notice_address) in [(0, 0), (7, 0), (0, 127), (7, 126), (3, 125)] {
         for notice in 0..4 {
             words.push(AnswerFields {
                 notice,
@@ -859,7 +879,7 @@ fn edge_words() -> Vec<AnswerFields> {
             });
         }
     }
-    for (next_application, next_station) in [(0, 0), (7, 127)] {
+    for (next_application, next_station) in [(0, 0), (7, 127), (1, 126), (2, 125)] {
         words.push(AnswerFields {
             next_application,
             next_station,
@@ -870,7 +890,7 @@ fn edge_words() -> Vec<AnswerFields> {
         words.push(AnswerFields { zero, ..plain });
     }
     // what is sent, good and with one thing wrong
-    let bytes_of = [0, 3, 6, 6, 1, 0, 0, 0];
+    let bytes_of = [0, 3, 6, 6, 1, 0, 3, 6];
     for sent in 0..8 {
         let good = AnswerFields {
             sent,
@@ -878,10 +898,15 @@ fn edge_words() -> Vec<AnswerFields> {
             ..plain
         };
         words.push(good);
-        words.push(AnswerFields {
-            destination: 127,
-            ..good
-        });
+        if sent > 4 {
+            continue;
+        }
+        for destination in [125, 126, 127] {
+            words.push(AnswerFields {
+                destination,
+                ..good
+            });
+        }
         for response_type in 1..4 {
             words.push(AnswerFields {
                 response_type,
@@ -968,7 +993,11 @@ fn specs(long: bool) -> Vec<Spec> {
         }
     }
     for applications in [0, 9, 10, 128, 255] {
-        specs.push(Spec::Applications(applications));
+        for body in [Body::Short, Body::Count, Body::Fitting, Body::Other] {
+            if long || [0, 9, 255].contains(&applications) || body == Body::Other {
+                specs.push(Spec::Applications { applications, body });
+            }
+        }
     }
     for length in 0..8 {
         specs.push(Spec::Short {
@@ -1052,6 +1081,7 @@ fn specs(long: bool) -> Vec<Spec> {
                         at,
                         kind,
                         bit: None,
+                        another: at % 3 == 1,
                     });
                 }
             }
@@ -1065,6 +1095,7 @@ fn specs(long: bool) -> Vec<Spec> {
                     at: 0,
                     kind,
                     bit: Some(bit),
+                    another: false,
                 });
             }
         }
@@ -1358,13 +1389,11 @@ mod tests {
 
     #[test]
     fn the_sample_reaches_its_points() {
-        let (input, output) = sample_texts(&mut RecordSuite::new(), 1).unwrap();
-        let items = items_of(&input);
-        assert!(
-            items.len() >= 250 && items.len() <= 400,
-            "{} items",
-            items.len()
-        );
-        assert_eq!(RecordSuite::serve(&input), output);
+        for seed in 1..=20 {
+            let (input, output) = sample_texts(&mut RecordSuite::new(), seed).unwrap();
+            let items = items_of(&input);
+            assert!((250..=450).contains(&items.len()), "{} items", items.len());
+            assert_eq!(RecordSuite::serve(&input), output);
+        }
     }
 }

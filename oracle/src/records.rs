@@ -360,7 +360,7 @@ impl PollRecord {
     /// left to right, 14 before 15 in one decision." The number of applications comes first: 11.
     pub fn decode(applications: u8, bytes: &[u8]) -> Result<PollRecord, Refused> {
         let refused = |number, place| Err(Refused { number, place });
-        if applications < 1 || applications > 8 {
+        if !(1..=8).contains(&applications) {
             return refused(11, Place::Applications);
         }
         if bytes.len() < HEAD {

@@ -615,6 +615,9 @@ pub fn directed() -> Vec<Vec<Call>> {
             gap(127, 126),
             gap(255, 126),
             gap(254, 126),
+            gap(128, 126),
+            gap(130, 126),
+            gap(200, 126),
             gap(0, 0),
             gap(0, 1),
             gap(0, 2),
@@ -755,6 +758,8 @@ pub fn directed() -> Vec<Vec<Call>> {
             gap(6, 8),
             gap(6, 7),
             gap(200, 0),
+            gap(133, 126),
+            gap(134, 126),
             set(6),
             gap(5, 126),
             gap(5, 3),
@@ -799,6 +804,15 @@ pub fn directed() -> Vec<Vec<Call>> {
         pass(125, 0),
         member(125),
         member(64),
+        member(126),
+        member(127),
+        member(128),
+        member(200),
+        member(255),
+        remove(126),
+        remove(127),
+        remove(128),
+        remove(255),
         remove(65),
         gap(64, 126),
         set(65),
@@ -888,13 +902,11 @@ mod tests {
 
     #[test]
     fn the_sample_reaches_everything() {
-        let (input, output) = sample_texts(&mut RingSuite::new(), 1).unwrap();
-        let calls = calls_of(&input);
-        assert!(
-            calls.len() >= 400 && calls.len() <= 600,
-            "{} calls",
-            calls.len()
-        );
-        assert_eq!(RingSuite::serve(&input), output);
+        for seed in 1..=20 {
+            let (input, output) = sample_texts(&mut RingSuite::new(), seed).unwrap();
+            let calls = calls_of(&input);
+            assert!((400..=600).contains(&calls.len()), "{} calls", calls.len());
+            assert_eq!(RingSuite::serve(&input), output);
+        }
     }
 }
