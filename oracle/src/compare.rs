@@ -2,7 +2,7 @@
 
 use crate::pipe::{self, Ran};
 use std::ffi::OsString;
-use std::time::Duration;
+use std::time::{Duration, Instant};
 
 /// Something that turns bytes into bytes as the program under test does.
 pub trait Program {
@@ -134,6 +134,9 @@ pub fn shrink<T: Clone>(items: &[T], differs: &mut dyn FnMut(&[T]) -> bool) -> V
     items
 }
 
+/// How long a difference is made shorter.
+const SHORTENING: Duration = Duration::from_secs(60);
+
 /// Runs the program on the load. `Ok(None)`: every line is the model's. `Err`: it could not be run.
 pub fn compare<P: Protocol>(
     program: &mut dyn Program,
@@ -156,14 +159,19 @@ pub fn compare<P: Protocol>(
     }
     let item = (first - start + 1).min(load.sequences[sequence].len());
 
-    // alone, the sequence up to the item that differs; else all that came before it as well
+    // once the time is over nothing counts as differing any more, so what was found last stays
+    let started = Instant::now();
     let mut differs = |items: &[P::Item], ending: &[u8]| -> bool {
+        if started.elapsed() > SHORTENING {
+            return false;
+        }
         let expected = text_of(&P::lines(items));
         match program.run(&bytes_of::<P>(items, ending)) {
             Ok(ran) => ran.output != expected || ran.trouble.is_some(),
             Err(_) => false,
         }
     };
+    // alone, the sequence up to the item that differs; else all that came before it as well
     let alone = load.sequences[sequence][..item].to_vec();
     let before = items[..(start + item).min(items.len())].to_vec();
     let mut kept: Option<(Vec<P::Item>, Vec<u8>)> = None;
@@ -208,7 +216,7 @@ pub fn compare<P: Protocol>(
     }))
 }
 
-/// At most this many items of a difference are printed.
+/// At most this many items of a difference are printed, the last ones.
 const PRINTED: usize = 200;
 
 fn describe<P: Protocol>(
@@ -232,7 +240,10 @@ fn describe<P: Protocol>(
         P::ITEM,
         if items.len() == 1 { "" } else { "s" }
     ));
-    for item in items.iter().take(PRINTED) {
+    if items.len() > PRINTED {
+        report.push_str("    ..\n");
+    }
+    for item in &items[items.len().saturating_sub(PRINTED)..] {
         report.push_str(&format!("    {}\n", P::item_in_words(item)));
     }
     if !ending.is_empty() {

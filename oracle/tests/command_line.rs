@@ -38,6 +38,15 @@ fn the_model_agrees_with_itself_through_pipes() {
 }
 
 #[test]
+fn any_hsa_is_an_option_of_the_ring_alone() {
+    let (status, said, _) = run(PROGRAMS[0], &["--any-hsa", "--self", "7", "2000"]);
+    assert_eq!(status, 0, "{}", said);
+    let (_, usual, _) = run(PROGRAMS[0], &["--self", "7", "2000"]);
+    assert_ne!(said, usual);
+    assert_eq!(run(PROGRAMS[1], &["--any-hsa", "--self", "7", "2000"]).0, 2);
+}
+
+#[test]
 fn too_few_items_are_said_to_miss_something() {
     for program in PROGRAMS {
         let (status, said, _) = run(program, &["--self", "7", "3"]);
