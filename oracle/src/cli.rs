@@ -36,6 +36,9 @@ pub trait Suite: Protocol {
 /// How long one start of the program may take.
 const LIMIT: Duration = Duration::from_secs(120);
 
+/// At most this many points that were never reached are named.
+const NAMED: usize = 20;
+
 enum Mode {
     Compare {
         seed: u64,
@@ -131,8 +134,12 @@ pub fn compare_all<S: Suite>(
         coverage.report()
     );
     let missed = coverage.missed(false);
-    for point in &missed {
+    for point in missed.iter().take(NAMED) {
         said.push_str(&format!("{}: never reached: {}\n", S::NAME, point));
+    }
+    if missed.len() > NAMED {
+        let more = missed.len() - NAMED;
+        said.push_str(&format!("{}: never reached: {} more\n", S::NAME, more));
     }
     if missed.is_empty() {
         said.push_str(&format!(

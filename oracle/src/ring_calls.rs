@@ -432,6 +432,41 @@ impl Maker {
     }
 }
 
+/// The next pairs s -> d of all, each with members just inside and just outside of what lies between.
+fn pair_sweep(seed: &mut Seed, part: u64) -> Vec<Call> {
+    let pairs = (LONGEST as u64 - 1) / 5;
+    let mut calls = vec![call(FRESH, seed.below(126) as u8, 0)];
+    for pair in part * pairs..(part + 1) * pairs {
+        let (s, d) = (pair / 126 % 126, pair % 126);
+        for neighbour in [s + 1, s + 125, d + 1, d + 125] {
+            calls.push(call(SET_NEXT, (neighbour % 126) as u8, 0));
+        }
+        calls.push(call(WITNESS, s as u8, d as u8));
+    }
+    calls
+}
+
+/// The walk from every address, with one other member or none.
+fn gap_sweep(seed: &mut Seed) -> Vec<Call> {
+    let own = seed.below(126) as u8;
+    let mut calls = vec![call(FRESH, own, 0)];
+    if !seed.one_in(4) {
+        calls.push(call(SET_NEXT, seed.below(126) as u8, 0));
+    }
+    let hsa = if seed.coin() {
+        126
+    } else {
+        seed.below(127) as u8
+    };
+    for from in (0..=129).chain([254, 255]) {
+        calls.push(call(GAP_WALK, from, hsa));
+    }
+    while calls.len() < LONGEST {
+        calls.push(call(GAP_WALK, seed.byte(), seed.below(127) as u8));
+    }
+    calls
+}
+
 impl RingSuite {
     pub fn new() -> Self {
         RingSuite::default()
@@ -458,6 +493,11 @@ impl Suite for RingSuite {
 
     fn sequence(&self, seed: u64, index: u64, first: bool) -> Vec<Call> {
         let seed = &mut Seed::of_index(seed, index);
+        match index % 8 {
+            5 => return pair_sweep(seed, index / 8),
+            6 if index % 16 == 6 => return gap_sweep(seed),
+            _ => {}
+        }
         let kind = seed.below(8);
         let addresses = Addresses::new(seed);
         let own = match seed.below(10) {
@@ -894,7 +934,7 @@ mod tests {
             &mut RingSuite::new(),
             &mut Inside(RingSuite::serve),
             1,
-            2000,
+            4000,
         );
         assert_eq!(status, 0, "{}", said);
         assert!(said.ends_with(" calls, 0 differ\n"), "{}", said);

@@ -108,6 +108,14 @@ pub fn points() -> Coverage {
         &["126", "127", "255", "other above 126", "125", "own"],
     );
     c.group("gap walk, HSA", &["0", "1", "125", "126"]);
+    let addresses: Vec<u8> = (0..=LAST).collect();
+    let mut pairs = Vec::new();
+    for s in &addresses {
+        pairs.extend(addresses.iter().map(|d| format!("{} -> {}", s, d)));
+    }
+    c.long_group("witness, each pair, with members just inside", &pairs);
+    c.long_group("gap walk, each candidate polled", &addresses);
+    c.long_group("gap walk, each candidate waiting", &addresses);
     c.long_group(
         "ending",
         &[
@@ -243,6 +251,12 @@ fn see_witness(c: &mut Coverage, before: &TokenRing, s: u8, d: u8, after: &Token
     if (s, d) == (LAST, 0) {
         c.hit("witness", "125 -> 0");
     }
+    let (first, last) = ((s + 1) % 126, (d + 125) % 126);
+    let nothing_inside = s == d || first == d;
+    if nothing_inside || before.member(first) && before.member(last) {
+        let pair = format!("{} -> {}", s, d);
+        c.hit("witness, each pair, with members just inside", &pair);
+    }
     let own = before.own();
     if s == own {
         c.hit("witness", "from own");
@@ -338,6 +352,12 @@ fn see_gap(c: &mut Coverage, ring: &TokenRing, from: u8, hsa: u8, reply: Reply) 
             (false, false) => "not alone, waiting",
         },
     );
+    let each = if polled {
+        "gap walk, each candidate polled"
+    } else {
+        "gap walk, each candidate waiting"
+    };
+    c.hit_if_named(each, &candidate.to_string());
     if above == hsa as u16 {
         c.hit("gap walk", "from + 1 = HSA");
     } else if above > hsa as u16 {

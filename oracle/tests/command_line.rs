@@ -28,7 +28,7 @@ fn folder(name: &str) -> PathBuf {
 
 #[test]
 fn the_model_agrees_with_itself_through_pipes() {
-    for (program, count) in PROGRAMS.iter().zip(["2000", "20000"]) {
+    for (program, count) in PROGRAMS.iter().zip(["4000", "20000"]) {
         let (status, said, _) = run(program, &["--self", "7", count]);
         assert_eq!(status, 0, "{}", said);
         assert!(said.ends_with(", 0 differ\n"), "{}", said);
@@ -39,11 +39,11 @@ fn the_model_agrees_with_itself_through_pipes() {
 
 #[test]
 fn any_hsa_is_an_option_of_the_ring_alone() {
-    let (status, said, _) = run(PROGRAMS[0], &["--any-hsa", "--self", "7", "2000"]);
+    let (status, said, _) = run(PROGRAMS[0], &["--any-hsa", "--self", "7", "4000"]);
     assert_eq!(status, 0, "{}", said);
-    let (_, usual, _) = run(PROGRAMS[0], &["--self", "7", "2000"]);
+    let (_, usual, _) = run(PROGRAMS[0], &["--self", "7", "4000"]);
     assert_ne!(said, usual);
-    assert_eq!(run(PROGRAMS[1], &["--any-hsa", "--self", "7", "2000"]).0, 2);
+    assert_eq!(run(PROGRAMS[1], &["--any-hsa", "--self", "7", "4000"]).0, 2);
 }
 
 #[test]

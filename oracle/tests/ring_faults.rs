@@ -296,14 +296,14 @@ fn compared(fault: Fault, count: u64) -> (String, i32) {
 
 #[test]
 fn the_second_ring_agrees() {
-    let (said, status) = compared(Fault::None, 3000);
+    let (said, status) = compared(Fault::None, 4000);
     assert_eq!(status, 0, "{}", said);
 }
 
 #[test]
 fn every_planted_error_is_found_and_made_short() {
     for fault in FAULTS {
-        let (said, status) = compared(fault, 3000);
+        let (said, status) = compared(fault, 4000);
         assert_eq!(status, 1, "{:?}: {}", fault, said);
         assert!(
             said.contains("the program differs from the model"),
@@ -323,7 +323,7 @@ fn every_planted_error_is_found_and_made_short() {
 
 #[test]
 fn a_difference_is_told_in_words() {
-    let (said, _) = compared(Fault::LapsOnlyBelow, 3000);
+    let (said, _) = compared(Fault::LapsOnlyBelow, 4000);
     for part in [
         "ring: seed 1, sequence ",
         "witness ",
