@@ -1,0 +1,6 @@
+pub mod Set
+pub mod SetLaws
+pub mod Words
+pub mod WordLaws
+pub mod Ring
+pub mod Laws
