@@ -3,6 +3,7 @@ use Prim.Native.Nat.{ℕ, zero, suc, _+_, _<_, _≤_}
 use mathlib.Core.Path.{_≡_, refl, sym, ap, subst, _∙_}
 use mathlib.Core.Bool.{Bool, true, false, not, _&&_, _||_, and-false, or-true}
 use mathlib.Core.List.{List, [], _∷_}
+use mathlib.Core.Logic.{_⊎_, inl, inr}
 use native.Mathlib.Omega.{arith}
 use lib.ListN.{length}
 use lib.Dec.{ltb, leb, eqb}
@@ -309,20 +310,20 @@ ready-run (c ∷ cs) r e = ready-run cs (after r c) (ready-after r c e)
 -- The other members.
 
 -- next is the first of the others, own if there is none
-pub next-head : (r : Ring) → nextOf r ≡ headOr (r .own) (others r)
+pub next-head : (r : Ring) → Sound r → nextOf r ≡ headOr (r .own) (others r)
 unfolding nextOf nearest others
-next-head r = refl
+next-head r s = refl
 
-pub next-is : (r : Ring) (x : ℕ) (xs : List ℕ) → others r ≡ x ∷ xs → nextOf r ≡ x
-next-is r x xs e = next-head r ∙ ap (headOr (r .own)) e
+pub next-is : (r : Ring) (x : ℕ) (xs : List ℕ) → Sound r → others r ≡ x ∷ xs → nextOf r ≡ x
+next-is r x xs s e = next-head r s ∙ ap (headOr (r .own)) e
 
-pub next-alone : (r : Ring) → others r ≡ [] → nextOf r ≡ r .own
-next-alone r e = next-head r ∙ ap (headOr (r .own)) e
+pub next-alone : (r : Ring) → Sound r → others r ≡ [] → nextOf r ≡ r .own
+next-alone r s e = next-head r s ∙ ap (headOr (r .own)) e
 
 -- previous is the last of the others, own if there is none
-pub previous-last : (r : Ring) → prevOf r ≡ lastOr (r .own) (others r)
+pub previous-last : (r : Ring) → Sound r → prevOf r ≡ lastOr (r .own) (others r)
 unfolding prevOf nearest others
-previous-last r = last-walk (has r) (r .own) (r .own) 125 (omega arith)
+previous-last r s = last-walk (has r) (r .own) (r .own) 125 (omega arith)
 
 -- one of the others is an address, a member, and not own
 pub record Other (r : Ring) (x : ℕ) : Type 0 where
@@ -355,15 +356,15 @@ pub next-low : (r : Ring) → Sound r → nextOf r < 126
 next-low r s = go (others r) refl
   where
     go : (os : List ℕ) → others r ≡ os → nextOf r < 126
-    go [] e = rw (next-alone r e) (s .own-low)
-    go (y ∷ ys) e = rw (next-is r y ys e) (next-other r y ys s e .low)
+    go [] e = rw (next-alone r s e) (s .own-low)
+    go (y ∷ ys) e = rw (next-is r y ys s e) (next-other r y ys s e .low)
 
 pub next-in : (r : Ring) → Sound r → has r (nextOf r) ≡ true
 next-in r s = go (others r) refl
   where
     go : (os : List ℕ) → others r ≡ os → has r (nextOf r) ≡ true
-    go [] e = rw (next-alone r e) (s .own-in)
-    go (y ∷ ys) e = rw (next-is r y ys e) (next-other r y ys s e .in-set)
+    go [] e = rw (next-alone r s e) (s .own-in)
+    go (y ∷ ys) e = rw (next-is r y ys s e) (next-other r y ys s e .in-set)
 
 last-all : (P : ℕ → Type 0) (z : ℕ) (xs : List ℕ) → P z → All P xs → P (lastOr z xs)
 last-all P z [] h a = h
@@ -378,7 +379,7 @@ all-members r [] a = tt
 all-members r (x ∷ xs) a = ((a .0 .low, a .0 .in-set), all-members r xs (a .1))
 
 previous-member : (r : Ring) → Sound r → Member r (prevOf r)
-previous-member r s = subst (Member r) (sym (previous-last r)) (last-all (Member r) (r .own) (others r) (s .own-low, s .own-in) (all-members r (others r) (others-all r s)))
+previous-member r s = subst (Member r) (sym (previous-last r s)) (last-all (Member r) (r .own) (others r) (s .own-low, s .own-in) (all-members r (others r) (others-all r s)))
 
 pub previous-low : (r : Ring) → Sound r → prevOf r < 126
 previous-low r s = previous-member r s .0
@@ -386,13 +387,26 @@ previous-low r s = previous-member r s .0
 pub previous-in : (r : Ring) → Sound r → has r (prevOf r) ≡ true
 previous-in r s = previous-member r s .1
 
--- alone, next is own exactly if there is no other
+-- next is own exactly if there is no other: this is one way, `next-alone` the other
 pub alone : (r : Ring) → Sound r → nextOf r ≡ r .own → others r ≡ []
 alone r s n = go (others r) refl
   where
     go : (os : List ℕ) → others r ≡ os → others r ≡ []
     go [] e = e
-    go (y ∷ ys) e = absurd (next-other r y ys s e .not-own (sym (next-is r y ys e) ∙ n))
+    go (y ∷ ys) e = absurd (next-other r y ys s e .not-own (sym (next-is r y ys s e) ∙ n))
+
+-- then own is the only member
+pub alone-has : (r : Ring) (x : ℕ) → Sound r → x < 126 → others r ≡ [] → has r x ≡ true → x ≡ r .own
+unfolding others
+alone-has r x s l e h = go (eqb x (r .own)) refl
+  where
+    go : (b : Bool) → eqb x (r .own) ≡ b → x ≡ r .own
+    go true q = eqb-true x (r .own) q
+    go false q =
+        let n : x ≡ r .own → ⊥ = eqb-false x (r .own) q in
+        let o = s .own-low in
+        let back : up (r .own) (distOf (r .own) x) ≡ x = omega arith in
+        absurd (true≢false (sym h ∙ ap (has r) (sym back) ∙ nobody (has r) (up (r .own)) 125 1 e (distOf (r .own) x) (omega arith) (omega arith)))
 
 -- nothing lies strictly between own and next
 pub gap : (r : Ring) (x : ℕ) → Sound r → x < 126 → betweenOf (r .own) x (nextOf r) ≡ true → has r x ≡ false
@@ -400,10 +414,10 @@ unfolding others
 gap r x s l b = go (others r) refl (between-on (r .own) x (nextOf r) (s .own-low) l (next-low r s) b)
   where
     go : (os : List ℕ) → others r ≡ os → (0 < distOf (r .own) x) × (distOf (r .own) x < distOf (r .own) (nextOf r)) → has r x ≡ false
-    go [] e h = let n : nextOf r ≡ r .own = next-alone r e in let o = s .own-low in absurd (omega arith)
+    go [] e h = let n : nextOf r ≡ r .own = next-alone r s e in let o = s .own-low in absurd (omega arith)
     go (y ∷ ys) e h =
         let w = first (has r) (up (r .own)) 125 1 y ys e in
-        let n : nextOf r ≡ y = next-is r y ys e in
+        let n : nextOf r ≡ y = next-is r y ys s e in
         let is : y ≡ up (r .own) (w .dist) = w .is in
         let o = s .own-low in
         let back : up (r .own) (distOf (r .own) x) ≡ x = omega arith in
@@ -468,9 +482,68 @@ witness-laps r w =
 
 -- The gap walk.
 
--- an address that is polled is the candidate, below the highest station address or 0, no member, and not own
+-- an address that is polled is the candidate: an address below the highest station address or 0, not own, and no member
 pub record Polled (r : Ring) (a hsa x : ℕ) : Type 0 where
   pub is : x ≡ candidateOf a hsa
+  pub below : (x < hsa) ⊎ (x ≡ 0)
   pub low : x < 126
   pub not-own : x ≡ r .own → ⊥
   pub not-in : has r x ≡ false
+
+candidate-below : (a hsa : ℕ) → (candidateOf a hsa < hsa) ⊎ (candidateOf a hsa ≡ 0)
+unfolding candidateOf
+candidate-below a hsa = go (ltb (a + 1) hsa) refl
+  where
+    go : (b : Bool) → ltb (a + 1) hsa ≡ b → (pick b (a + 1) 0 < hsa) ⊎ (pick b (a + 1) 0 ≡ 0)
+    go true q = inl (ltb-true (a + 1) hsa q)
+    go false q = inr refl
+
+polled : (r : Ring) (x : ℕ) → Sound r → polls r x ≡ true → (x < 126) × (x ≡ r .own → ⊥) × (has r x ≡ false)
+unfolding polls
+polled r x s e = low (ltb x 126) refl
+  where
+    lone : (b : Bool) → has r x ≡ b → (x ≡ r .own → ⊥) → x < 126 → others r ≡ [] → has r x ≡ false
+    lone true h n l o = absurd (n (alone-has r x s l o h))
+    lone false h n l o = h
+
+    own : (b : Bool) → eqb x (r .own) ≡ b → ltb x 126 ≡ true → nextOf r ≡ r .own → (x < 126) × (x ≡ r .own → ⊥) × (has r x ≡ false)
+    own true q l n = absurd (true≢false (sym (rw (l, eq-eqb (nextOf r) (r .own) n, q) at e)))
+    own false q l n = (
+      ltb-true x 126 l,
+      eqb-false x (r .own) q,
+      lone (has r x) refl (eqb-false x (r .own) q) (ltb-true x 126 l) (alone r s n),
+    )
+
+    next : (b : Bool) → eqb (nextOf r) (r .own) ≡ b → ltb x 126 ≡ true → (x < 126) × (x ≡ r .own → ⊥) × (has r x ≡ false)
+    next true q l = own (eqb x (r .own)) refl l (eqb-true (nextOf r) (r .own) q)
+    next false q l =
+        let b : betweenOf (r .own) x (nextOf r) ≡ true = rw (l, q) at e in (
+          ltb-true x 126 l,
+          λ o. true≢false (sym b ∙ ap (λ (y : ℕ). betweenOf (r .own) y (nextOf r)) o ∙ between-start (r .own) (nextOf r)),
+          gap r x s (ltb-true x 126 l) b,
+        )
+
+    low : (b : Bool) → ltb x 126 ≡ b → (x < 126) × (x ≡ r .own → ⊥) × (has r x ≡ false)
+    low true l = next (eqb (nextOf r) (r .own)) refl l
+    low false l = absurd (true≢false (sym (rw l at e)))
+
+pub gap-polls : (r : Ring) (a hsa x : ℕ) → Sound r → gapOf r a hsa ≡ DoPoll x → Polled r a hsa x
+unfolding gapOf
+gap-polls r a hsa x s e = go (polls r (candidateOf a hsa)) refl
+  where
+    go : (b : Bool) → polls r (candidateOf a hsa) ≡ b → Polled r a hsa x
+    go true q =
+        let h : _≡_ {A = GapState} (DoPoll (candidateOf a hsa)) (DoPoll x) = rw q at e in
+        let is : x ≡ candidateOf a hsa = cc in
+        let p = polled r (candidateOf a hsa) s q in
+        record {
+          is = is;
+          below = rw is (candidate-below a hsa);
+          low = rw is (p .0);
+          not-own = rw is (p .1);
+          not-in = rw is (p .2);
+        }
+    go false q =
+        let h : _≡_ {A = GapState} (Waiting 0) (DoPoll x) = rw q at e in
+        let z : _≡_ {A = ℕ} 0 1 = cc in
+        absurd (omega arith)

@@ -4,3 +4,4 @@ pub mod Words
 pub mod WordLaws
 pub mod Ring
 pub mod Laws
+pub mod Examples
