@@ -271,11 +271,12 @@ impl Ring {
     }
 
     // The token was claimed: ready is set.
-    pub fn claim_token(mut self) -> Ring
+    pub fn claim_token(self) -> Ring
         ensures { λ r. ⌜ r ≡ claimOf self ⌝ }
     {
-        self.ready = true;
-        self
+        let mut claimed = self;
+        claimed.ready = true;
+        claimed
     }
 
     // Adds `a`; nothing above 125.
