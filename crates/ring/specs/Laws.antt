@@ -29,20 +29,23 @@ pub has-make : (own : ℕ) (f : ℕ → Bool) (laps : ℕ) (ready : Bool) (x : �
 unfolding has make
 has-make own f laps ready x l = has-words f x l
 
--- its own address, laps and ready are those that it was made with
+-- a ring's own address, laps and ready
 pub record Made (r : Ring) (own laps : ℕ) (ready : Bool) : Type 0 where
   pub own-is : r .own ≡ own
   pub laps-is : r .laps ≡ laps
   pub ready-is : r .ready ≡ ready
 
+-- the ring made of a set has the own address, laps and ready that it was made with
 pub made : (own : ℕ) (f : ℕ → Bool) (laps : ℕ) (ready : Bool) → Made (make own f laps ready) own laps ready
 unfolding make
 made own f laps ready = record { own-is = refl; laps-is = refl; ready-is = refl }
 
+-- claiming changes no member
 pub claim-has : (r : Ring) (x : ℕ) → has (claimOf r) x ≡ has r x
 unfolding has claimOf
 claim-has r x = refl
 
+-- claiming sets ready and leaves own and laps
 pub claim-made : (r : Ring) → Made (claimOf r) (r .own) (r .laps) true
 unfolding claimOf
 claim-made r = record { own-is = refl; laps-is = refl; ready-is = refl }
@@ -90,20 +93,21 @@ remove-made r a = go (eqb a (r .own)) (ltb a 126)
     go false true = made (r .own) (takeOut a (has r)) (r .laps) (r .ready)
     go false false = record { own-is = refl; laps-is = refl; ready-is = refl }
 
--- witnessing a pass from s to d that is seen: own stays; laps go on from 0 if the set changed, and rise by one if d is at
--- most s, at most to 2; at 2 ready is set
+-- laps after a pass from s to d: from 0 if the set changed, and one more if d is at most s, at most 2
 abbrev pub lapsAfter : Ring → ℕ → ℕ → ℕ
 lapsAfter r s d = lapsOf (sameSet (has r) (keepsAll (r .own) s d (has r)) 126) (r .laps) s d
 
+-- a pass between addresses leaves own, counts laps, and sets ready at 2
 pub witness-made : (r : Ring) (s d : ℕ) → s < 126 → d < 126 → Made (witnessOf r s d) (r .own) (lapsAfter r s d) (r .ready || leb 2 (lapsAfter r s d))
 unfolding witnessOf passed
 witness-made r s d ls ld = rw (lt-ltb s 126 ls, lt-ltb d 126 ld) (made (r .own) (keepsAll (r .own) s d (has r)) (lapsAfter r s d) (r .ready || leb 2 (lapsAfter r s d)))
 
--- a pass from or to an address above 125 changes nothing
+-- a pass from an address above 125 changes nothing
 pub witness-out-s : (r : Ring) (s d : ℕ) → 126 ≤ s → witnessOf r s d ≡ r
 unfolding witnessOf
 witness-out-s r s d l = rw (le-ltb s 126 l)
 
+-- a pass to an address above 125 changes nothing
 pub witness-out-d : (r : Ring) (s d : ℕ) → 126 ≤ d → witnessOf r s d ≡ r
 unfolding witnessOf
 witness-out-d r s d l = rw (le-ltb d 126 l, and-false (ltb s 126))
@@ -117,29 +121,39 @@ seen P r s d h n = go (ltb s 126) (ltb d 126) refl refl
     go true false p q = subst P (sym (witness-out-d r s d (ltb-false d 126 q))) n
     go false b p q = subst P (sym (witness-out-s r s d (ltb-false s 126 p))) n
 
--- own never changes
+-- Own never changes.
+
+-- claiming leaves own
 pub claim-own : (r : Ring) → claimOf r .own ≡ r .own
 claim-own r = claim-made r .own-is
 
+-- adding leaves own
 pub add-own : (r : Ring) (a : ℕ) → addOf r a .own ≡ r .own
 add-own r a = add-made r a .own-is
 
+-- removing leaves own
 pub remove-own : (r : Ring) (a : ℕ) → removeOf r a .own ≡ r .own
 remove-own r a = remove-made r a .own-is
 
+-- witnessing leaves own
 pub witness-own : (r : Ring) (s d : ℕ) → witnessOf r s d .own ≡ r .own
 witness-own r s d = seen (λ q. q .own ≡ r .own) r s d (λ p q. witness-made r s d p q .own-is) refl
 
--- ready never goes back
+-- Ready never goes back.
+
+-- claiming sets ready
 pub claim-ready : (r : Ring) → claimOf r .ready ≡ true
 claim-ready r = claim-made r .ready-is
 
+-- adding leaves ready
 pub add-ready : (r : Ring) (a : ℕ) → addOf r a .ready ≡ r .ready
 add-ready r a = add-made r a .ready-is
 
+-- removing leaves ready
 pub remove-ready : (r : Ring) (a : ℕ) → removeOf r a .ready ≡ r .ready
 remove-ready r a = remove-made r a .ready-is
 
+-- witnessing leaves ready set
 pub witness-ready : (r : Ring) (s d : ℕ) → r .ready ≡ true → witnessOf r s d .ready ≡ true
 witness-ready r s d e =
     seen (λ q. q .ready ≡ true) r s d (λ p q. witness-made r s d p q .ready-is ∙ ap (λ (b : Bool). b || leb 2 (lapsAfter r s d)) e) e
@@ -151,14 +165,16 @@ pub fresh-has : (own x : ℕ) → x < 126 → has (freshOf own) x ≡ eqb x own
 unfolding freshOf
 fresh-has own x l = has-make own (only own) 0 false x l
 
--- adding an address adds it and changes no other
+-- the members after adding: the address, and those that were
 pub add-has : (r : Ring) (a x : ℕ) → a < 126 → x < 126 → has (addOf r a) x ≡ (eqb x a || has r x)
 unfolding addOf addTo
 add-has r a x la lx = rw (lt-ltb a 126 la) (has-make (r .own) (addTo a (has r)) (r .laps) (r .ready) x lx)
 
+-- an address that was added is a member
 pub add-same : (r : Ring) (a : ℕ) → a < 126 → has (addOf r a) a ≡ true
 add-same r a l = add-has r a a l l ∙ rw (eq-eqb a a refl)
 
+-- adding changes no other address
 pub add-other : (r : Ring) (a x : ℕ) → x < 126 → (x ≡ a → ⊥) → has (addOf r a) x ≡ has r x
 unfolding addOf addTo
 add-other r a x l n = go (ltb a 126)
@@ -167,7 +183,7 @@ add-other r a x l n = go (ltb a 126)
     go true = has-make (r .own) (addTo a (has r)) (r .laps) (r .ready) x l ∙ rw (ne-eqb x a n)
     go false = refl
 
--- removing an address but own takes it out and changes no other
+-- the members after removing an address but own: those that were, without it
 pub remove-has : (r : Ring) (a x : ℕ) → x < 126 → (a ≡ r .own → ⊥) → has (removeOf r a) x ≡ (not (eqb x a) && has r x)
 unfolding removeOf takeOut
 remove-has r a x l n = rw (ne-eqb a (r .own) n) (go (ltb a 126) refl)
@@ -178,6 +194,7 @@ remove-has r a x l n = rw (ne-eqb a (r .own) n) (go (ltb a 126) refl)
         let far : x ≡ a → ⊥ = (λ e. let h = ltb-false a 126 q in omega arith) in
         rw (q, ne-eqb x a far)
 
+-- an address but own that was removed is no member
 pub remove-same : (r : Ring) (a : ℕ) → a < 126 → (a ≡ r .own → ⊥) → has (removeOf r a) a ≡ false
 remove-same r a l n = remove-has r a a l n ∙ rw (eq-eqb a a refl)
 
@@ -186,6 +203,7 @@ pub remove-me : (r : Ring) → removeOf r (r .own) ≡ r
 unfolding removeOf
 remove-me r = rw (eq-eqb (r .own) (r .own) refl)
 
+-- removing changes no other address
 pub remove-other : (r : Ring) (a x : ℕ) → x < 126 → (x ≡ a → ⊥) → has (removeOf r a) x ≡ has r x
 remove-other r a x l n = go (eqb a (r .own)) refl
   where
@@ -201,10 +219,12 @@ witness-has r s d x ls ld lx =
 
 -- Every ring that calls make of a fresh one is sound.
 
+-- a fresh ring is sound
 pub sound-fresh : (own : ℕ) → own < 126 → Sound (freshOf own)
 unfolding freshOf
 sound-fresh own l = make-sound own (only own) 0 false l (eq-eqb own own refl) (omega arith)
 
+-- claiming keeps a ring sound
 pub sound-claim : (r : Ring) → Sound r → Sound (claimOf r)
 sound-claim r s =
     let m = claim-made r in
@@ -214,6 +234,7 @@ sound-claim r s =
       laps-two = rw (m .laps-is) (s .laps-two);
     }
 
+-- adding keeps a ring sound
 pub sound-add : (r : Ring) (a : ℕ) → Sound r → Sound (addOf r a)
 unfolding addOf addTo
 sound-add r a s = go (ltb a 126)
@@ -222,6 +243,7 @@ sound-add r a s = go (ltb a 126)
     go true = make-sound (r .own) (addTo a (has r)) (r .laps) (r .ready) (s .own-low) (rw (s .own-in) (or-true (eqb (r .own) a))) (s .laps-two)
     go false = s
 
+-- removing keeps a ring sound
 pub sound-remove : (r : Ring) (a : ℕ) → Sound r → Sound (removeOf r a)
 unfolding removeOf takeOut
 sound-remove r a s = go (eqb a (r .own)) refl (ltb a 126)
@@ -232,6 +254,7 @@ sound-remove r a s = go (eqb a (r .own)) refl (ltb a 126)
         make-sound (r .own) (takeOut a (has r)) (r .laps) (r .ready) (s .own-low) (rw (ne-eqb (r .own) a (λ e. eqb-false a (r .own) q (sym e))) (s .own-in)) (s .laps-two)
     go false q false = s
 
+-- witnessing keeps a ring sound
 pub sound-witness : (r : Ring) (s d : ℕ) → Sound r → Sound (witnessOf r s d)
 sound-witness r s d w = seen Sound r s d pass w
   where
@@ -248,19 +271,23 @@ sound-witness r s d w = seen Sound r s d pass w
           laps-two = rw (m .laps-is) (laps-low (sameSet (has r) (keepsAll (r .own) s d (has r)) 126) (r .laps) s d (w .laps-two));
         }
 
--- The calls that change a ring, in any order: what they make of a fresh ring is sound, own stays, and ready never goes back.
+-- Calls in any order.
+
+-- a call that changes a ring
 pub data Call : Type 0 where
   claim : Call
   add : ℕ → Call
   remove : ℕ → Call
   witness : ℕ → ℕ → Call
 
+-- the ring after a call
 unfoldable pub after : Ring → Call → Ring
 after r claim = claimOf r
 after r (add a) = addOf r a
 after r (remove a) = removeOf r a
 after r (witness s d) = witnessOf r s d
 
+-- the ring after a list of calls
 unfoldable pub run : Ring → List Call → Ring
 run r [] = r
 run r (c ∷ cs) = run (after r c) cs
@@ -314,9 +341,11 @@ pub next-head : (r : Ring) → Sound r → nextOf r ≡ headOr (r .own) (others 
 unfolding nextOf nearest others
 next-head r s = refl
 
+-- next is the head of the others
 pub next-is : (r : Ring) (x : ℕ) (xs : List ℕ) → Sound r → others r ≡ x ∷ xs → nextOf r ≡ x
 next-is r x xs s e = next-head r s ∙ ap (headOr (r .own)) e
 
+-- with no others next is own
 pub next-alone : (r : Ring) → Sound r → others r ≡ [] → nextOf r ≡ r .own
 next-alone r s e = next-head r s ∙ ap (headOr (r .own)) e
 
@@ -334,10 +363,12 @@ pub record Other (r : Ring) (x : ℕ) : Type 0 where
 away : (own d : ℕ) → own < 126 → 1 ≤ d → d < 126 → up own d ≡ own → ⊥
 away own d l m n e = omega arith
 
+-- each of the others is such
 pub others-all : (r : Ring) → Sound r → All (Other r) (others r)
 unfolding others
 others-all r s = walk-all (Other r) (has r) (up (r .own)) 125 1 (λ e l u i. record { low = omega arith; in-set = i; not-own = away (r .own) e (s .own-low) l (omega arith) })
 
+-- so is their head
 pub next-other : (r : Ring) (x : ℕ) (xs : List ℕ) → Sound r → others r ≡ x ∷ xs → Other r x
 next-other r x xs s e = subst (All (Other r)) e (others-all r s) .0
 
@@ -351,7 +382,7 @@ pub others-length : (r : Ring) → length (others r) ≤ 125
 unfolding others
 others-length r = walk-length (has r) (up (r .own)) 125 1
 
--- next and previous are addresses and members
+-- next is an address
 pub next-low : (r : Ring) → Sound r → nextOf r < 126
 next-low r s = go (others r) refl
   where
@@ -359,6 +390,7 @@ next-low r s = go (others r) refl
     go [] e = rw (next-alone r s e) (s .own-low)
     go (y ∷ ys) e = rw (next-is r y ys s e) (next-other r y ys s e .low)
 
+-- next is a member
 pub next-in : (r : Ring) → Sound r → has r (nextOf r) ≡ true
 next-in r s = go (others r) refl
   where
@@ -381,9 +413,11 @@ all-members r (x ∷ xs) a = ((a .0 .low, a .0 .in-set), all-members r xs (a .1)
 previous-member : (r : Ring) → Sound r → Member r (prevOf r)
 previous-member r s = subst (Member r) (sym (previous-last r s)) (last-all (Member r) (r .own) (others r) (s .own-low, s .own-in) (all-members r (others r) (others-all r s)))
 
+-- previous is an address
 pub previous-low : (r : Ring) → Sound r → prevOf r < 126
 previous-low r s = previous-member r s .0
 
+-- previous is a member
 pub previous-in : (r : Ring) → Sound r → has r (prevOf r) ≡ true
 previous-in r s = previous-member r s .1
 
@@ -451,7 +485,7 @@ pub others-remove : (r : Ring) (x : ℕ) (xs : List ℕ) → Sound r → others 
 others-remove r x xs s e =
     others-without r x (next-other r x xs s e .not-own) ∙ ap (without x) e ∙ without-head x xs (subst Distinct e (others-distinct r))
 
--- the token that goes from own to next changes no member
+-- what the pass from own to next would leave is what there is
 next-keeps : (r : Ring) (x : ℕ) → Sound r → x < 126 → keeps (r .own) (r .own) (nextOf r) (has r x) x ≡ has r x
 next-keeps r x s l = own (eqb x (r .own)) refl
   where
@@ -467,9 +501,11 @@ next-keeps r x s l = own (eqb x (r .own)) refl
     own true q = keeps-start (r .own) (r .own) (nextOf r) (has r x) x (eqb-true x (r .own) q) ∙ sym (ap (has r) (eqb-true x (r .own) q) ∙ s .own-in)
     own false q = next (eqb x (nextOf r)) refl (eqb-false x (r .own) q)
 
+-- the token that goes from own to next changes no member
 pub witness-next : (r : Ring) (x : ℕ) → Sound r → x < 126 → has (witnessOf r (r .own) (nextOf r)) x ≡ has r x
 witness-next r x s l = witness-has r (r .own) (nextOf r) x (s .own-low) (next-low r s) l ∙ next-keeps r x s l
 
+-- nor the list of the others
 pub others-witness : (r : Ring) → Sound r → others (witnessOf r (r .own) (nextOf r)) ≡ others r
 others-witness r s = others-same (witnessOf r (r .own) (nextOf r)) r (witness-own r (r .own) (nextOf r)) (λ x l. witness-next r x s l)
 
@@ -527,6 +563,7 @@ polled r x s e = low (ltb x 126) refl
     low true l = next (eqb (nextOf r) (r .own)) refl l
     low false l = absurd (true≢false (sym (rw l at e)))
 
+-- what the gap walk polls is such
 pub gap-polls : (r : Ring) (a hsa x : ℕ) → Sound r → gapOf r a hsa ≡ DoPoll x → Polled r a hsa x
 unfolding gapOf
 gap-polls r a hsa x s e = go (polls r (candidateOf a hsa)) refl

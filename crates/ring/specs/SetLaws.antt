@@ -12,6 +12,7 @@ use lib.Dec.{ltb, leb, eqb}
 use borrow.Author.Tests.{lt-ltb, le-ltb, le-leb, lt-leb, eq-eqb, ne-eqb, ltb-true, ltb-false, eqb-true, eqb-false}
 use Rattle.ring.specs.Set.{pick, up, down, walk, headOr, lastOr, betweenOf, takeOut, keeps, eqB, sameSet, roundOf, lapsOf}
 
+-- the two truth values differ
 pub true≢false : true ≡ false → ⊥
 true≢false e = let z : _≡_ {A = ℕ} 0 1 = cc in omega arith
 
@@ -68,6 +69,7 @@ pub record First (f : ℕ → Bool) (p : ℕ → ℕ) (k d x : ℕ) (xs : List �
   pub none : (e : ℕ) → d ≤ e → e < dist → f (p e) ≡ false
   pub rest : xs ≡ walk f p left (suc dist)
 
+-- an empty list has no head
 pub empty : (x : ℕ) (xs : List ℕ) → _≡_ {A = List ℕ} [] (x ∷ xs) → ⊥
 empty x xs e = let z : _≡_ {A = ℕ} 0 1 = cc in omega arith
 
@@ -98,6 +100,7 @@ skip f p k d x xs q w =
       rest = w .rest;
     }
 
+-- a walk that is not empty has a first member
 pub first : (f : ℕ → Bool) (p : ℕ → ℕ) (k d x : ℕ) (xs : List ℕ) → walk f p k d ≡ x ∷ xs → First f p k d x xs
 unfolding walk
 first f p zero d x xs e = absurd (empty x xs e)
@@ -117,11 +120,12 @@ nobody f p (suc k) d q e l u = go (f (p d)) refl (λ q′ l′. nobody f p k (su
     go true h ih = absurd (empty _ _ (sym (rw h at q)))
     go false h ih = ⊎-elim (λ same. subst (λ (n : ℕ). f (p n) ≡ false) same h) (λ more. ih (rw h at q) more) (eq-or-lt-of-le l)
 
--- what holds of every member at a place holds of all that a walk meets
+-- a property of each address of a list
 abbrev pub All : (ℕ → Type 0) → List ℕ → Type 0
 All P [] = Unit {0}
 All P (x ∷ xs) = P x × All P xs
 
+-- what holds of every member at its place holds of all that a walk meets
 pub walk-all : (P : ℕ → Type 0) (f : ℕ → Bool) (p : ℕ → ℕ) (k d : ℕ) → ((e : ℕ) → d ≤ e → e < d + k → f (p e) ≡ true → P (p e)) → All P (walk f p k d)
 unfolding walk
 walk-all P f p zero d h = tt
@@ -143,6 +147,7 @@ up-inj own d e p q h = omega arith
 apart : (own d e : ℕ) → e < 126 → d < e → up own d ≡ up own e → ⊥
 apart own d e p q s = let same : d ≡ e = up-inj own d e (omega arith) p s in omega arith
 
+-- a walk of at most one round meets no address twice
 pub walk-distinct : (f : ℕ → Bool) (own k d : ℕ) → d + k ≤ 126 → Distinct (walk f (up own) k d)
 unfolding walk
 walk-distinct f own zero d m = tt
@@ -210,6 +215,7 @@ head-pick false z x l = refl
 turned : (own k : ℕ) → k < 126 → down own (125 - k) ≡ up own (suc k)
 turned own k l = omega arith
 
+-- the first member met going down is the last one met going up
 pub last-walk : (f : ℕ → Bool) (own z k : ℕ) → k ≤ 125 → headOr z (walk f (down own) k (126 - k)) ≡ lastOr z (walk f (up own) k 1)
 unfolding walk
 last-walk f own z zero l = refl
@@ -258,7 +264,7 @@ between-on a x b la lx lb e = go (ltb a b) refl (eqb a b) refl (ltb a x) refl (l
         (omega arith, omega arith)
     go false p false q false u false v = absurd (true≢false (sym (rw (p, q, u, v) at e)))
 
--- the ends are not between themselves
+-- the start is not between
 pub between-start : (a b : ℕ) → betweenOf a a b ≡ false
 unfolding betweenOf
 between-start a b = rw (le-ltb a a (omega arith)) (go (ltb a b) refl (eqb a b))
@@ -268,6 +274,7 @@ between-start a b = rw (le-ltb a a (omega arith)) (go (ltb a b) refl (eqb a b))
     go false p true = rw p
     go false p false = rw p
 
+-- the end is not between
 pub between-end : (a b : ℕ) → betweenOf a b b ≡ false
 unfolding betweenOf
 between-end a b = rw (le-ltb b b (omega arith)) (go (ltb a b) refl (eqb a b))
@@ -293,10 +300,12 @@ own-plain : (b : Bool) → (b || false || false) && true ≡ b
 own-plain true = refl
 own-plain false = refl
 
+-- the start of a pass is a member
 pub keeps-start : (own s d : ℕ) (was : Bool) (x : ℕ) → x ≡ s → keeps own s d was x ≡ true
 unfolding keeps
 keeps-start own s d was x e = rw e (rw (between-start s d) (both was (eqb s s) (eqb s d) (eqb s own) (rw (eq-eqb s s refl))))
 
+-- the end of a pass is a member
 pub keeps-end : (own s d : ℕ) (was : Bool) (x : ℕ) → x ≡ d → keeps own s d was x ≡ true
 unfolding keeps
 keeps-end own s d was x e =
@@ -341,16 +350,19 @@ and-right : (a b : Bool) → a && b ≡ true → b ≡ true
 and-right true b e = e
 and-right false b e = absurd (true≢false (sym e))
 
+-- sets that agree below n are the same there
 pub same-if : (f g : ℕ → Bool) (n : ℕ) → ((x : ℕ) → x < n → f x ≡ g x) → sameSet f g n ≡ true
 unfolding sameSet
 same-if f g zero h = refl
 same-if f g (suc n) h = rw (same-if f g n (λ x l. h x (omega arith)), eqB-refl (f n) (g n) (h n (omega arith)))
 
+-- sets that are the same below n agree there
 pub same-then : (f g : ℕ → Bool) (n : ℕ) → sameSet f g n ≡ true → (x : ℕ) → x < n → f x ≡ g x
 unfolding sameSet
 same-then f g zero e x l = absurd (omega arith)
 same-then f g (suc n) e x l = ⊎-elim (λ q. subst (λ (m : ℕ). f m ≡ g m) (let s : n ≡ x = omega arith in s) (eqB-true (f n) (g n) (and-right (sameSet f g n) (eqB (f n) (g n)) e))) (λ q. same-then f g n (and-left (sameSet f g n) (eqB (f n) (g n)) e) x (omega arith)) (eq-or-lt-of-le l)
 
+-- the test looks at members only
 pub same-ext : (f g h : ℕ → Bool) (n : ℕ) → ((x : ℕ) → x < n → g x ≡ h x) → sameSet f g n ≡ sameSet f h n
 unfolding sameSet
 same-ext f g h zero q = refl
@@ -358,6 +370,7 @@ same-ext f g h (suc n) q = rw (same-ext f g h n (λ x l. q x (omega arith)), q n
 
 -- Laps.
 
+-- a lap more does not lead above 2
 pub round-low : (laps s d : ℕ) → laps ≤ 2 → roundOf laps s d ≤ 2
 unfolding roundOf
 round-low laps s d l = go (leb d s)

@@ -12,16 +12,19 @@ use Rattle.ring.specs.Set.{pick, betweenOf, arcOf, only, lower, keeps, k
 use Rattle.ring.specs.SetLaws.{true≢false, between-start, between-end, same-if, same-then}
 use Rattle.ring.specs.Words.{bitOf, wordOf, wordSet, hasIn}
 
+-- bit 0
 pub bit-zero : (w : ℕ) → bitOf w 0 ≡ eqb (w % 2) 1
 unfolding bitOf
 bit-zero w = ap (λ (n : ℕ). eqb (n % 2) 1) (div-one w)
 
+-- bit k + 1 is bit k of the half
 pub bit-suc : (w k : ℕ) → bitOf w (suc k) ≡ bitOf (w / 2) k
 unfolding bitOf
 bit-suc w k =
     let e : suc k ≡ 1 + k = omega arith in
     ap (λ (n : ℕ). eqb (w / 2 ^ n % 2) 1) e ∙ ap (λ (n : ℕ). eqb (n % 2) 1) (sym (shr-shr w 1 k))
 
+-- 0 has no bit
 pub bit-none : (k : ℕ) → bitOf 0 k ≡ false
 bit-none zero = bit-zero 0
 bit-none (suc k) = bit-suc 0 k ∙ bit-none k
@@ -55,6 +58,7 @@ word-bit f from (suc n) (suc k) l =
     ∙ word-bit f (suc from) n k (omega arith)
     ∙ ap f (omega arith)
 
+-- a word of n bits is below 2 to the n
 pub word-lt : (f : ℕ → Bool) (from n : ℕ) → wordOf f from n < 2 ^ n
 unfolding wordOf
 word-lt f from zero = omega arith
@@ -91,6 +95,7 @@ word-is f from n w l h = word-ext n w (wordOf f from n) l (word-lt f from n) (λ
 pub word-same : (f g : ℕ → Bool) (from n : ℕ) → ((k : ℕ) → k < n → f (from + k) ≡ g (from + k)) → wordOf f from n ≡ wordOf g from n
 word-same f g from n h = word-is g from n (wordOf f from n) (word-lt f from n) (λ k l. word-bit f from n k l ∙ h k l)
 
+-- 2 to the j has bit j alone
 pub bit-power : (j k : ℕ) → bitOf (2 ^ j) k ≡ eqb k j
 bit-power zero zero = bit-zero 1
 bit-power zero (suc k) = bit-suc 1 k ∙ bit-none k ∙ sym (eqb·suc-zero k)
@@ -137,6 +142,7 @@ bit-op op g shr cut table a b k =
     ∙ ap (λ (n : ℕ). eqb n 1) (cut (a / 2 ^ k) (b / 2 ^ k) 1)
     ∙ table (a / 2 ^ k % 2) (omega arith) (b / 2 ^ k % 2) (omega arith)
 
+-- `|` on one bit
 pub bit-or : (a b k : ℕ) → bitOf (bitOr a b) k ≡ (bitOf a k || bitOf b k)
 bit-or =
     bit-op bitOr (λ x y. x || y) or-shr or-mod
@@ -144,6 +150,7 @@ bit-or =
     (below-two (λ y. eqb (bitOr 0 y) 1 ≡ (eqb 0 1 || eqb y 1)) refl refl)
     (below-two (λ y. eqb (bitOr 1 y) 1 ≡ (eqb 1 1 || eqb y 1)) refl refl))
 
+-- `&` on one bit
 pub bit-and : (a b k : ℕ) → bitOf (bitAnd a b) k ≡ (bitOf a k && bitOf b k)
 bit-and =
     bit-op bitAnd (λ x y. x && y) and-shr and-mod
@@ -156,6 +163,7 @@ abbrev pub either : Bool → Bool → Bool
 either true b = not b
 either false b = b
 
+-- `^` on one bit
 pub bit-xor : (a b k : ℕ) → bitOf (bitXor a b) k ≡ either (bitOf a k) (bitOf b k)
 bit-xor =
     bit-op bitXor either xor-shr xor-mod
@@ -200,16 +208,19 @@ bit-short w n k l =
 
 -- The two words.
 
+-- below 64 the low word says who is a member
 pub has-low : (low high a : ℕ) → a < 64 → hasIn low high a ≡ bitOf low a
 unfolding hasIn
 has-low low high a l = rw (lt-ltb a 64 l)
 
+-- from 64 to 125 the high word does
 pub has-high : (low high k : ℕ) → k < 62 → hasIn low high (64 + k) ≡ bitOf high k
 unfolding hasIn
 has-high low high k l =
     let less : 64 + k - 64 ≡ k = omega arith in
     rw (le-ltb (64 + k) 64 (omega arith), lt-ltb (64 + k) 126 (omega arith), less)
 
+-- above 125 nobody is
 pub has-out : (low high a : ℕ) → 126 ≤ a → hasIn low high a ≡ false
 unfolding hasIn
 has-out low high a l = rw (le-ltb a 64 (omega arith), le-ltb a 126 l)
@@ -276,18 +287,22 @@ shifted n l = shl-exact 1 n 64 (lit< tt) (omega arith) ∙ one-mul (2 ^ n)
 nothing : (f : ℕ → Bool) (from : ℕ) → ((k : ℕ) → k < 64 → f (from + k) ≡ false) → 0 ≡ wordOf f from 64
 nothing f from h = word-is f from 64 0 (pow-pos 64) (λ k l. bit-none k ∙ sym (h k l))
 
+-- an address before the word has no bit in it
 pub one-before : (from a : ℕ) → a < from → 0 ≡ wordOf (only a) from 64
 one-before from a l = nothing (only a) from (λ k m. ne-eqb (from + k) a (λ e. omega arith))
 
+-- nor has one past it
 pub one-past : (from a : ℕ) → from ≤ a → 64 ≤ a - from → 0 ≡ wordOf (only a) from 64
 one-past from a h l = nothing (only a) from (λ k m. ne-eqb (from + k) a (λ e. omega arith))
 
+-- an address of the word is one bit shifted to its place
 pub one-at : (from a : ℕ) → from ≤ a → a - from < 64 → (1 * 2 ^ (a - from)) % 2 ^ 64 ≡ wordOf (only a) from 64
 one-at from a h l =
     shifted (a - from) l
     ∙ word-is (only a) from 64 (2 ^ (a - from)) (pow-lt l)
     (λ k m. bit-power (a - from) k ∙ eqb-as k (a - from) (from + k) a (λ e. omega arith) (λ e. omega arith))
 
+-- no address of the word is below one that is not past its start
 pub below-none : (from a : ℕ) → a ≤ from → 0 ≡ wordOf (lower a) from 64
 below-none from a l = nothing (lower a) from (λ k m. le-ltb (from + k) a (omega arith))
 
@@ -295,12 +310,14 @@ below-none from a l = nothing (lower a) from (λ k m. le-ltb (from + k) a (omega
 ones : (from a n : ℕ) → n ≤ 64 → ((k : ℕ) → k < 64 → (k < n → from + k < a) × (from + k < a → k < n)) → 2 ^ n - 1 < 2 ^ 64 → 2 ^ n - 1 ≡ wordOf (lower a) from 64
 ones from a n l h b = word-is (lower a) from 64 (2 ^ n - 1) b (λ k m. bit-ones n k ∙ ltb-as k n (from + k) a (h k m .0) (h k m .1))
 
+-- those below an address of the word are as many ones
 pub below-some : (from a : ℕ) → from < a → a - from < 64 → (1 * 2 ^ (a - from)) % 2 ^ 64 - 1 ≡ wordOf (lower a) from 64
 below-some from a h l =
     let b : 2 ^ (a - from) < 2 ^ 64 = pow-lt l in
     ap (λ (n : ℕ). n - 1) (shifted (a - from) l)
     ∙ ones from a (a - from) (omega arith) (λ k m. (λ q. omega arith, λ q. omega arith)) (omega arith)
 
+-- all are below an address past the word
 pub below-all : (from a : ℕ) → from < a → 64 ≤ a - from → 18446744073709551615 ≡ wordOf (lower a) from 64
 below-all from a h l = ones from a 64 (omega arith) (λ k m. (λ q. omega arith, λ q. m)) (lit< tt)
 
@@ -328,6 +345,7 @@ above x s = go (ltb s x) refl
     go true q = let h = ltb-true s x q in rw q (le-ltb x (s + 1) (omega arith))
     go false q = let h = ltb-false s x q in rw q (lt-ltb x (s + 1) (omega arith))
 
+-- between s and d, where d is above s
 pub arc-up : (from s d : ℕ) → s < d → turnedOf from s d ≡ wordOf (arcOf s d) from 64
 unfolding betweenOf
 arc-up from s d l = word-is (arcOf s d) from 64 (turnedOf from s d) (turned-lt from s d) (λ k m. turned-bit from s d k m ∙ inside (from + k))
@@ -339,10 +357,12 @@ arc-up from s d l = word-is (arcOf s d) from 64 (turnedOf from s d) (turned-lt f
         go true q = rw q
         go false q = let h = ltb-false s x q in rw (q, lt-ltb x d (omega arith))
 
+-- between an address and itself there is nothing
 pub arc-none : (from s d : ℕ) → s ≡ d → 0 ≡ wordOf (arcOf s d) from 64
 unfolding betweenOf
 arc-none from s d e = nothing (arcOf s d) from (λ k m. rw (le-ltb s d (omega arith), eq-eqb s d e))
 
+-- between s and d, where d is below s: round by 125 and 0
 pub arc-round : (from s d : ℕ) → d ≤ s → (s ≡ d → ⊥) → bitXor (turnedOf from s d) 18446744073709551615 ≡ wordOf (arcOf s d) from 64
 unfolding betweenOf
 arc-round from s d l n =
@@ -383,9 +403,11 @@ kept-bit false false false true d p q = refl
 kept-bit false false false false true p q = refl
 kept-bit false false false false false p q = refl
 
+-- what the code makes of a word: those between are cleared, own stays as it was, the ends are set
 abbrev pub keptOf : ℕ → ℕ → ℕ → ℕ → ℕ → ℕ
 keptOf w g o s d = bitOr (bitOr (bitXor (bitOr w g) g) (bitAnd w o)) (bitOr s d)
 
+-- that is what a pass leaves
 pub kept-is : (w from own s d : ℕ) → w < 2 ^ 64
     → keptOf w (wordOf (arcOf s d) from 64) (wordOf (only own) from 64) (wordOf (only s) from 64) (wordOf (only d) from 64)
     ≡ wordOf (keepsAll own s d (wordSet w from)) from 64
