@@ -1,13 +1,13 @@
 -- The words that the code works out make the ring that the definitions speak of.
-use Prim.Native.Nat.{ℕ, zero, suc, _+_, _-_, _%_, _^_, _<_, _≤_}
-use mathlib.Core.Path.{_≡_, refl, sym, ap, _∙_}
-use mathlib.Core.Bool.{Bool, true, false, not, _&&_, _||_, or-comm}
+use Prim.Native.Nat.{ℕ, _+_, _-_, _%_, _^_, _<_, _≤_}
+use mathlib.Core.Path.{_≡_, sym, ap, _∙_}
+use mathlib.Core.Bool.{Bool, false, _||_, or-comm}
 use native.Mathlib.Nat.{zero-add, sub-zero}
 use native.Mathlib.Omega.{arith}
-use lib.Dec.{ltb, leb, eqb}
+use lib.Dec.{leb, eqb}
 use lib.Bits.{bitOr, bitXor, or-lt, xor-lt}
 use borrow.Author.Tests.{lt-ltb, le-ltb, eq-eqb, ne-eqb}
-use Rattle.ring.specs.Set.{pick, only, addTo, takeOut, keeps, keepsAll, sameSet, lapsOf}
+use Rattle.ring.specs.Set.{only, addTo, takeOut, keepsAll, sameSet, lapsOf}
 use Rattle.ring.specs.SetLaws.{same-ext}
 use Rattle.ring.specs.Words.{bitOf, wordOf, wordSet, hasIn}
 use Rattle.ring.specs.WordLaws.{word-bit, word-lt, word-is, word-same, word-short, bit-or, bit-clear, has-low, has-high, has-words}

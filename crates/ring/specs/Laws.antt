@@ -1,5 +1,5 @@
 -- Laws of the ring, which upper crates cite in place of the definitions' text. Their premises are `Sound` and bounds of addresses.
-use Prim.Native.Nat.{ℕ, zero, suc, _+_, _<_, _≤_}
+use Prim.Native.Nat.{ℕ, _+_, _<_, _≤_}
 use mathlib.Core.Path.{_≡_, refl, sym, ap, subst, _∙_}
 use mathlib.Core.Bool.{Bool, true, false, not, _&&_, _||_, and-false, or-true}
 use mathlib.Core.List.{List, [], _∷_}
@@ -9,7 +9,7 @@ use lib.ListN.{length}
 use lib.Dec.{ltb, leb, eqb}
 use borrow.Author.Tests.{lt-ltb, le-ltb, eq-eqb, ne-eqb, ltb-true, ltb-false, eqb-true, eqb-false}
 use Rattle.ring.specs.Set.{pick, up, walk, headOr, lastOr, nearest, betweenOf, only, addTo, takeOut, keeps, keepsAll, sameSet, roundOf, lapsOf, candidateOf}
-use Rattle.ring.specs.SetLaws.{true≢false, walk-ext, walk-length, first, nobody, All, Distinct, walk-all, walk-distinct, without, walk-without, without-head, last-walk, distOf, between-on, between-start, keeps-start, keeps-end, keeps-between, keeps-else, keeps-me, same-if, laps-low}
+use Rattle.ring.specs.SetLaws.{true≢false, walk-ext, walk-length, first, nobody, walk-nobody, All, Distinct, walk-all, walk-distinct, without, walk-without, without-head, last-walk, distOf, between-on, between-start, keeps-start, keeps-end, keeps-between, keeps-else, keeps-me, same-if, laps-low}
 use Rattle.ring.specs.WordLaws.{has-words}
 use Rattle.ring.specs.WordLaws.{has-out as words-out}
 use Rattle.ring.specs.declared.Ring.{Ring}
@@ -216,6 +216,22 @@ pub witness-has : (r : Ring) (s d x : ℕ) → s < 126 → d < 126 → x < 126 �
 unfolding witnessOf passed
 witness-has r s d x ls ld lx =
     rw (lt-ltb s 126 ls, lt-ltb d 126 ld) (has-make (r .own) (keepsAll (r .own) s d (has r)) (lapsAfter r s d) (r .ready || leb 2 (lapsAfter r s d)) x lx)
+
+-- the start of a pass is a member
+pub witness-start : (r : Ring) (s d : ℕ) → s < 126 → d < 126 → has (witnessOf r s d) s ≡ true
+witness-start r s d ls ld = witness-has r s d s ls ld ls ∙ keeps-start (r .own) s d (has r s) s refl
+
+-- the end of a pass is a member
+pub witness-end : (r : Ring) (s d : ℕ) → s < 126 → d < 126 → has (witnessOf r s d) d ≡ true
+witness-end r s d ls ld = witness-has r s d d ls ld ld ∙ keeps-end (r .own) s d (has r d) d refl
+
+-- what lies strictly between them is no member, own excepted
+pub witness-between : (r : Ring) (s d x : ℕ) → s < 126 → d < 126 → x < 126 → (x ≡ r .own → ⊥) → betweenOf s x d ≡ true → has (witnessOf r s d) x ≡ false
+witness-between r s d x ls ld lx n b = witness-has r s d x ls ld lx ∙ keeps-between (r .own) s d (has r x) x n b
+
+-- what is neither end nor between them is as it was
+pub witness-else : (r : Ring) (s d x : ℕ) → s < 126 → d < 126 → x < 126 → (x ≡ s → ⊥) → (x ≡ d → ⊥) → betweenOf s x d ≡ false → has (witnessOf r s d) x ≡ has r x
+witness-else r s d x ls ld lx ns nd b = witness-has r s d x ls ld lx ∙ keeps-else (r .own) s d (has r x) x ns nd b
 
 -- Every ring that calls make of a fresh one is sound.
 
@@ -468,6 +484,13 @@ up-low own d = omega arith
 pub others-same : (q r : Ring) → q .own ≡ r .own → ((x : ℕ) → x < 126 → has q x ≡ has r x) → others q ≡ others r
 unfolding others
 others-same q r e h = others-at q (r .own) e ∙ walk-ext (has q) (has r) (up (r .own)) 125 1 (λ n l u. h (up (r .own) n) (up-low (r .own) n))
+
+-- a fresh ring has no others
+pub others-fresh : (own : ℕ) → own < 126 → others (freshOf own) ≡ []
+others-fresh own l =
+    others-at (freshOf own) own (fresh-made own .own-is)
+    ∙ walk-nobody (has (freshOf own)) (up own) 125 1
+    (λ e m u. fresh-has own (up own e) (up-low own e) ∙ ne-eqb (up own e) own (away own e l m (omega arith)))
 
 -- claiming changes no other
 pub others-claim : (r : Ring) → others (claimOf r) ≡ others r

@@ -9,8 +9,8 @@ use native.Mathlib.Omega.{arith}
 use native.Mathlib.Numerals.{add-one}
 use lib.ListN.{length}
 use lib.Dec.{ltb, leb, eqb}
-use borrow.Author.Tests.{lt-ltb, le-ltb, le-leb, lt-leb, eq-eqb, ne-eqb, ltb-true, ltb-false, eqb-true, eqb-false}
-use Rattle.ring.specs.Set.{pick, up, down, walk, headOr, lastOr, betweenOf, takeOut, keeps, eqB, sameSet, roundOf, lapsOf}
+use borrow.Author.Tests.{le-ltb, eq-eqb, ne-eqb, ltb-true, ltb-false, eqb-false}
+use Rattle.ring.specs.Set.{pick, up, down, walk, headOr, lastOr, betweenOf, keeps, eqB, sameSet, roundOf, lapsOf}
 
 -- the two truth values differ
 pub true≢false : true ≡ false → ⊥
@@ -119,6 +119,13 @@ nobody f p (suc k) d q e l u = go (f (p d)) refl (λ q′ l′. nobody f p k (su
     go : (b : Bool) → f (p d) ≡ b → (walk f p k (suc d) ≡ [] → suc d ≤ e → f (p e) ≡ false) → f (p e) ≡ false
     go true h ih = absurd (empty _ _ (sym (rw h at q)))
     go false h ih = ⊎-elim (λ same. subst (λ (n : ℕ). f (p n) ≡ false) same h) (λ more. ih (rw h at q) more) (eq-or-lt-of-le l)
+
+-- where no place has a member the walk is empty
+pub walk-nobody : (f : ℕ → Bool) (p : ℕ → ℕ) (k d : ℕ) → ((e : ℕ) → d ≤ e → e < d + k → f (p e) ≡ false) → walk f p k d ≡ []
+unfolding walk
+walk-nobody f p zero d h = refl
+walk-nobody f p (suc k) d h =
+    rw (h d (omega arith) (omega arith)) (walk-nobody f p k (suc d) (λ e l u. h e (omega arith) (omega arith)))
 
 -- a property of each address of a list
 abbrev pub All : (ℕ → Type 0) → List ℕ → Type 0

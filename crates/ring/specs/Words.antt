@@ -1,6 +1,6 @@
 -- How a set of addresses is kept: address a is bit a of `low` below 64 and bit a - 64 of `high` from there on.
 use Prim.Native.Nat.{ℕ, zero, suc, _+_, _-_, _*_, _/_, _%_, _^_}
-use mathlib.Core.Bool.{Bool, true, false}
+use mathlib.Core.Bool.{Bool, false}
 use lib.Dec.{ltb, eqb}
 use Rattle.ring.specs.Set.{pick}
 

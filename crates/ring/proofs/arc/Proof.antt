@@ -1,4 +1,3 @@
-use mathlib.Core.Path.{_∙_}
 use borrow.Author.Needs.{needs}
 use Rattle.ring.specs.WordLaws.{arc-up, arc-none, arc-round}
 use Rattle.ring.proofs.arc.Statement.{statement}
