@@ -46,15 +46,28 @@ fn holds(low: u64, high: u64, a: u8) -> bool
     false
 }
 
+// The address that a count from 0 ends at, 125 followed by 0. A search asks for it at each step, and dividing is slow.
+fn wrapped(n: u16) -> u8
+    ensures { λ r. ⌜ r ≡ n % 126 ⌝ }
+{
+    if n < 126 {
+        return n as u8;
+    }
+    if n < 252 {
+        return (n - 126) as u8;
+    }
+    (n % 126) as u8
+}
+
 // The address at distance `d` from own, going up or down, 125 followed by 0.
 fn place(up: bool, own: u8, d: u8) -> u8
     requires { ⌜ d ≤ 126 ⌝ }
     ensures { λ r. ⌜ r ≡ placeOf up own d ⌝ }
 {
     if up {
-        return ((own as u16 + d as u16) % 126) as u8;
+        return wrapped(own as u16 + d as u16);
     }
-    ((own as u16 + 126 - d as u16) % 126) as u8
+    wrapped(own as u16 + 126 - d as u16)
 }
 
 // The first member met from own on, up or down; own if it is alone.

@@ -7,9 +7,9 @@ place-spec =
     tie.close
     (tie.spec
     (λ c. search needs)
+    (λ c κs. search needs)
+    (λ c. simp (c .before .if1 .taken, ← c .wrapped .ensures))
     (λ c. search needs)
-    (λ c. simp (c .if1 .taken))
     (λ c. search needs)
-    (λ c. search needs)
-    (λ c. search needs)
-    (λ c. simp (c .if1 .left)))
+    (λ c κs. search needs)
+    (λ c. simp (c .before .if1 .left, ← c .wrapped2 .ensures)))
