@@ -4,6 +4,7 @@ use mathlib.Core.Bool.{Bool, true, false, not, _&&_, _||_}
 use mathlib.Core.List.{List, [], _∷_}
 use lib.Dec.{ltb, leb, eqb}
 
+-- the first if the test holds, else the second
 abbrev pub pick {ℓ} : {A : Type ℓ} → Bool → A → A → A
 pick true a b = a
 pick false a b = b
@@ -74,6 +75,7 @@ keeps own s d was x = (was || eqb x s || eqb x d) && (eqb x own || not (betweenO
 abbrev pub keepsAll : ℕ → ℕ → ℕ → (ℕ → Bool) → ℕ → Bool
 keepsAll own s d f x = keeps own s d (f x) x
 
+-- both or neither
 abbrev pub eqB : Bool → Bool → Bool
 eqB true b = b
 eqB false b = not b
@@ -91,6 +93,6 @@ roundOf laps s d = pick (leb d s) (min 2 (laps + 1)) laps
 unfoldable pub lapsOf : Bool → ℕ → ℕ → ℕ → ℕ
 lapsOf same laps s d = roundOf (pick same laps 0) s d
 
--- the gap walk's candidate after a
+-- the gap walk's candidate after a: a + 1, or 0 if that is not below the highest station address
 unfoldable pub candidateOf : ℕ → ℕ → ℕ
 candidateOf a hsa = pick (ltb (a + 1) hsa) (a + 1) 0

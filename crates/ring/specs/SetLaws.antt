@@ -3,18 +3,26 @@ use Prim.Native.Nat.{ℕ, zero, suc, _+_, _-_, _%_, _<_, _≤_, min}
 use mathlib.Core.Path.{_≡_, refl, sym, ap, subst, _∙_}
 use mathlib.Core.Bool.{Bool, true, false, not, _&&_, _||_, and-false, or-true}
 use mathlib.Core.List.{List, [], _∷_, _++_}
-use mathlib.Core.Logic.{⊎-elim}
+use mathlib.Core.Logic.{_⊎_, ⊎-elim, inl, inr}
 use native.Mathlib.Nat.{eq-or-lt-of-le, add-zero}
 use native.Mathlib.Omega.{arith}
 use native.Mathlib.Numerals.{add-one}
 use lib.ListN.{length}
 use lib.Dec.{ltb, leb, eqb}
-use borrow.Author.Tests.{le-ltb, eq-eqb, ne-eqb, ltb-true, ltb-false, eqb-false}
+use borrow.Author.Tests.{lt-ltb, le-ltb, eq-eqb, ne-eqb, ltb-true, ltb-false, eqb-true, eqb-false}
 use Rattle.ring.specs.Set.{pick, up, down, walk, headOr, lastOr, betweenOf, keeps, eqB, sameSet, roundOf, lapsOf}
 
 -- the two truth values differ
 pub true≢false : true ≡ false → ⊥
 true≢false e = let z : _≡_ {A = ℕ} 0 1 = cc in omega arith
+
+and-left : (a b : Bool) → a && b ≡ true → a ≡ true
+and-left true b e = refl
+and-left false b e = e
+
+and-right : (a b : Bool) → a && b ≡ true → b ≡ true
+and-right true b e = e
+and-right false b e = absurd (true≢false (sym e))
 
 -- Walks.
 
@@ -246,30 +254,67 @@ last-walk f own z (suc k) l =
 abbrev pub distOf : ℕ → ℕ → ℕ
 distOf a b = (b + 126 - a) % 126
 
--- what lies between a and b is nearer to a, going up, than b
-pub between-on : (a x b : ℕ) → a < 126 → x < 126 → b < 126 → betweenOf a x b ≡ true → (0 < distOf a x) × (distOf a x < distOf a b)
-unfolding betweenOf
-between-on a x b la lx lb e = go (ltb a b) refl (eqb a b) refl (ltb a x) refl (ltb x b) refl
+-- x is nearer to a, going up, than b, and is not a
+abbrev pub nearer : ℕ → ℕ → ℕ → Bool
+nearer a x b = ltb 0 (distOf a x) && ltb (distOf a x) (distOf a b)
+
+nearer-on : (a x b : ℕ) → 0 < distOf a x → distOf a x < distOf a b → nearer a x b ≡ true
+nearer-on a x b l m = rw (lt-ltb 0 (distOf a x) l, lt-ltb (distOf a x) (distOf a b) m)
+
+nearer-off : (a x b : ℕ) → distOf a b ≤ distOf a x → nearer a x b ≡ false
+nearer-off a x b l = rw (le-ltb (distOf a x) (distOf a b) l) (and-false (ltb 0 (distOf a x)))
+
+-- x at or below a, and not below b where that is below a
+nearer-back : (a x b : ℕ) → a < 126 → x ≤ a → b < 126 → (b ≤ x) ⊎ (a < b) → nearer a x b ≡ false
+nearer-back a x b la l lb h = go (eqb x a) refl
   where
-    go : (p : Bool) → ltb a b ≡ p → (q : Bool) → eqb a b ≡ q → (u : Bool) → ltb a x ≡ u → (v : Bool) → ltb x b ≡ v → (0 < distOf a x) × (distOf a x < distOf a b)
+    go : (c : Bool) → eqb x a ≡ c → nearer a x b ≡ false
+    go true q =
+        let e = eqb-true x a q in
+        rw (le-ltb 0 (distOf a x) (omega arith))
+    go false q =
+        let n : x ≡ a → ⊥ = eqb-false x a q in
+        ⊎-elim (λ m. nearer-off a x b (omega arith)) (λ m. nearer-off a x b (omega arith)) h
+
+-- what lies strictly between a and b going up is what is nearer to a than b
+pub between-is : (a x b : ℕ) → a < 126 → x < 126 → b < 126 → betweenOf a x b ≡ nearer a x b
+unfolding betweenOf
+between-is a x b la lx lb = go (ltb a b) refl (eqb a b) refl (ltb a x) refl (ltb x b) refl
+  where
+    go : (p : Bool) → ltb a b ≡ p → (q : Bool) → eqb a b ≡ q → (u : Bool) → ltb a x ≡ u → (v : Bool) → ltb x b ≡ v
+        → pick (ltb a b) (pick (ltb a x) (ltb x b) false) (pick (eqb a b) false (pick (ltb a x) true (ltb x b))) ≡ nearer a x b
     go true p q′ q true u true v =
         let h = ltb-true a x u in
         let k = ltb-true x b v in
-        (omega arith, omega arith)
-    go true p q′ q true u false v = absurd (true≢false (sym (rw (p, u, v) at e)))
-    go true p q′ q false u v′ v = absurd (true≢false (sym (rw (p, u) at e)))
-    go false p true q u′ u v′ v = absurd (true≢false (sym (rw (p, q) at e)))
+        rw (p, u, v) (sym (nearer-on a x b (omega arith) (omega arith)))
+    go true p q′ q true u false v =
+        let h = ltb-true a x u in
+        let k = ltb-false x b v in
+        let m = ltb-true a b p in
+        rw (p, u, v) (sym (nearer-off a x b (omega arith)))
+    go true p q′ q false u v′ v = rw (p, u) (sym (nearer-back a x b la (ltb-false a x u) lb (inr (ltb-true a b p))))
+    go false p true q u′ u v′ v =
+        let e = eqb-true a b q in
+        rw (p, q) (sym (nearer-off a x b (omega arith)))
     go false p false q true u v′ v =
         let h = ltb-true a x u in
         let k = ltb-false a b p in
         let n : a ≡ b → ⊥ = eqb-false a b q in
-        (omega arith, omega arith)
+        rw (p, q, u) (sym (nearer-on a x b (omega arith) (omega arith)))
     go false p false q false u true v =
         let h = ltb-true x b v in
         let k = ltb-false a b p in
         let n : a ≡ b → ⊥ = eqb-false a b q in
-        (omega arith, omega arith)
-    go false p false q false u false v = absurd (true≢false (sym (rw (p, q, u, v) at e)))
+        rw (p, q, u, v) (sym (nearer-on a x b (omega arith) (omega arith)))
+    go false p false q false u false v = rw (p, q, u, v) (sym (nearer-back a x b la (ltb-false a x u) lb (inl (ltb-false x b v))))
+
+-- so its distance lies between
+pub between-on : (a x b : ℕ) → a < 126 → x < 126 → b < 126 → betweenOf a x b ≡ true → (0 < distOf a x) × (distOf a x < distOf a b)
+between-on a x b la lx lb e =
+    let h : nearer a x b ≡ true = sym (between-is a x b la lx lb) ∙ e in (
+      ltb-true 0 (distOf a x) (and-left (ltb 0 (distOf a x)) (ltb (distOf a x) (distOf a b)) h),
+      ltb-true (distOf a x) (distOf a b) (and-right (ltb 0 (distOf a x)) (ltb (distOf a x) (distOf a b)) h),
+    )
 
 -- the start is not between
 pub between-start : (a b : ℕ) → betweenOf a a b ≡ false
@@ -348,14 +393,6 @@ eqB-true : (a b : Bool) → eqB a b ≡ true → a ≡ b
 eqB-true true b e = sym e
 eqB-true false true e = e
 eqB-true false false e = refl
-
-and-left : (a b : Bool) → a && b ≡ true → a ≡ true
-and-left true b e = refl
-and-left false b e = e
-
-and-right : (a b : Bool) → a && b ≡ true → b ≡ true
-and-right true b e = e
-and-right false b e = absurd (true≢false (sym e))
 
 -- sets that agree below n are the same there
 pub same-if : (f g : ℕ → Bool) (n : ℕ) → ((x : ℕ) → x < n → f x ≡ g x) → sameSet f g n ≡ true
