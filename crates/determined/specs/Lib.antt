@@ -2,3 +2,4 @@
 pub mod Claim
 pub mod BitTimes
 pub mod Settings
+pub mod Ring

@@ -1,14 +1,14 @@
 -- Laws of the ring, which upper crates cite in place of the definitions' text. Their premises are `Sound` and bounds of addresses.
 use Prim.Native.Nat.{ℕ, _+_, _<_, _≤_}
 use mathlib.Core.Path.{_≡_, refl, sym, ap, subst, _∙_}
-use mathlib.Core.Bool.{Bool, true, false, not, _&&_, _||_, and-false, or-true}
+use mathlib.Core.Bool.{Bool, true, false, cond, not, _&&_, _||_, and-false, or-true}
 use mathlib.Core.List.{List, [], _∷_}
 use mathlib.Core.Logic.{_⊎_, inl, inr}
 use native.Mathlib.Omega.{arith}
 use lib.ListN.{length}
 use lib.Dec.{ltb, leb, eqb}
 use borrow.Author.Tests.{lt-ltb, le-ltb, eq-eqb, ne-eqb, ltb-true, ltb-false, eqb-true, eqb-false}
-use Rattle.ring.specs.Set.{pick, up, walk, headOr, lastOr, nearest, betweenOf, only, addTo, takeOut, keeps, keepsAll, sameSet, roundOf, lapsOf, candidateOf}
+use Rattle.ring.specs.Set.{up, walk, headOr, lastOr, nearest, betweenOf, only, addTo, takeOut, keeps, keepsAll, sameSet, roundOf, lapsOf, candidateOf}
 use Rattle.ring.specs.SetLaws.{true≢false, walk-ext, walk-length, first, nobody, walk-nobody, All, Distinct, walk-all, walk-distinct, without, walk-without, without-head, last-walk, distOf, between-on, between-start, keeps-start, keeps-end, keeps-between, keeps-else, keeps-me, same-if, laps-low}
 use Rattle.ring.specs.WordLaws.{has-words}
 use Rattle.ring.specs.WordLaws.{has-out as words-out}
@@ -79,7 +79,7 @@ pub add-made : (r : Ring) (a : ℕ) → Made (addOf r a) (r .own) (r .laps) (r .
 unfolding addOf
 add-made r a = go (ltb a 126)
   where
-    go : (b : Bool) → Made (pick b (make (r .own) (addTo a (has r)) (r .laps) (r .ready)) r) (r .own) (r .laps) (r .ready)
+    go : (b : Bool) → Made (cond b (make (r .own) (addTo a (has r)) (r .laps) (r .ready)) r) (r .own) (r .laps) (r .ready)
     go true = made (r .own) (addTo a (has r)) (r .laps) (r .ready)
     go false = record { own-is = refl; laps-is = refl; ready-is = refl }
 
@@ -88,7 +88,7 @@ pub remove-made : (r : Ring) (a : ℕ) → Made (removeOf r a) (r .own) (r .laps
 unfolding removeOf
 remove-made r a = go (eqb a (r .own)) (ltb a 126)
   where
-    go : (b c : Bool) → Made (pick b r (pick c (make (r .own) (takeOut a (has r)) (r .laps) (r .ready)) r)) (r .own) (r .laps) (r .ready)
+    go : (b c : Bool) → Made (cond b r (cond c (make (r .own) (takeOut a (has r)) (r .laps) (r .ready)) r)) (r .own) (r .laps) (r .ready)
     go true c = record { own-is = refl; laps-is = refl; ready-is = refl }
     go false true = made (r .own) (takeOut a (has r)) (r .laps) (r .ready)
     go false false = record { own-is = refl; laps-is = refl; ready-is = refl }
@@ -179,7 +179,7 @@ pub add-other : (r : Ring) (a x : ℕ) → x < 126 → (x ≡ a → ⊥) → has
 unfolding addOf addTo
 add-other r a x l n = go (ltb a 126)
   where
-    go : (b : Bool) → has (pick b (make (r .own) (addTo a (has r)) (r .laps) (r .ready)) r) x ≡ has r x
+    go : (b : Bool) → has (cond b (make (r .own) (addTo a (has r)) (r .laps) (r .ready)) r) x ≡ has r x
     go true = has-make (r .own) (addTo a (has r)) (r .laps) (r .ready) x l ∙ rw (ne-eqb x a n)
     go false = refl
 
@@ -188,7 +188,7 @@ pub remove-has : (r : Ring) (a x : ℕ) → x < 126 → (a ≡ r .own → ⊥) �
 unfolding removeOf takeOut
 remove-has r a x l n = rw (ne-eqb a (r .own) n) (go (ltb a 126) refl)
   where
-    go : (b : Bool) → ltb a 126 ≡ b → has (pick (ltb a 126) (make (r .own) (takeOut a (has r)) (r .laps) (r .ready)) r) x ≡ (not (eqb x a) && has r x)
+    go : (b : Bool) → ltb a 126 ≡ b → has (cond (ltb a 126) (make (r .own) (takeOut a (has r)) (r .laps) (r .ready)) r) x ≡ (not (eqb x a) && has r x)
     go true q = rw q (has-make (r .own) (takeOut a (has r)) (r .laps) (r .ready) x l)
     go false q =
         let far : x ≡ a → ⊥ = (λ e. let h = ltb-false a 126 q in omega arith) in
@@ -255,7 +255,7 @@ pub sound-add : (r : Ring) (a : ℕ) → Sound r → Sound (addOf r a)
 unfolding addOf addTo
 sound-add r a s = go (ltb a 126)
   where
-    go : (b : Bool) → Sound (pick b (make (r .own) (addTo a (has r)) (r .laps) (r .ready)) r)
+    go : (b : Bool) → Sound (cond b (make (r .own) (addTo a (has r)) (r .laps) (r .ready)) r)
     go true = make-sound (r .own) (addTo a (has r)) (r .laps) (r .ready) (s .own-low) (rw (s .own-in) (or-true (eqb (r .own) a))) (s .laps-two)
     go false = s
 
@@ -264,7 +264,7 @@ pub sound-remove : (r : Ring) (a : ℕ) → Sound r → Sound (removeOf r a)
 unfolding removeOf takeOut
 sound-remove r a s = go (eqb a (r .own)) refl (ltb a 126)
   where
-    go : (b : Bool) → eqb a (r .own) ≡ b → (c : Bool) → Sound (pick b r (pick c (make (r .own) (takeOut a (has r)) (r .laps) (r .ready)) r))
+    go : (b : Bool) → eqb a (r .own) ≡ b → (c : Bool) → Sound (cond b r (cond c (make (r .own) (takeOut a (has r)) (r .laps) (r .ready)) r))
     go true q c = s
     go false q true =
         make-sound (r .own) (takeOut a (has r)) (r .laps) (r .ready) (s .own-low) (rw (ne-eqb (r .own) a (λ e. eqb-false a (r .own) q (sym e))) (s .own-in)) (s .laps-two)
@@ -553,7 +553,7 @@ candidate-below : (a hsa : ℕ) → (candidateOf a hsa < hsa) ⊎ (candidateOf a
 unfolding candidateOf
 candidate-below a hsa = go (ltb (a + 1) hsa) refl
   where
-    go : (b : Bool) → ltb (a + 1) hsa ≡ b → (pick b (a + 1) 0 < hsa) ⊎ (pick b (a + 1) 0 ≡ 0)
+    go : (b : Bool) → ltb (a + 1) hsa ≡ b → (cond b (a + 1) 0 < hsa) ⊎ (cond b (a + 1) 0 ≡ 0)
     go true q = inl (ltb-true (a + 1) hsa q)
     go false q = inr refl
 

@@ -1,12 +1,12 @@
 -- The ring. A set is read from it by `has` and put into it by `make`; what the calls do is said on the set.
 use Prim.Native.Nat.{ℕ}
-use mathlib.Core.Bool.{Bool, true, false, not, _&&_, _||_}
+use mathlib.Core.Bool.{Bool, true, false, cond, not, _&&_, _||_}
 use mathlib.Core.List.{List}
 use lib.Dec.{ltb, leb, eqb}
 use Rattle.ring.specs.declared.Ring.{Ring}
 use Rattle.ring.specs.declared.GapState.{GapState}
 use Rattle.ring.specs.declared.GapState.the-variants.{Waiting, DoPoll}
-use Rattle.ring.specs.Set.{pick, up, walk, nearest, betweenOf, only, addTo, takeOut, keepsAll, sameSet, lapsOf, candidateOf}
+use Rattle.ring.specs.Set.{up, walk, nearest, betweenOf, only, addTo, takeOut, keepsAll, sameSet, lapsOf, candidateOf}
 use Rattle.ring.specs.Words.{wordOf, hasIn}
 
 -- How a ring is kept: `has`, `make` and `claimOf` are all that know of it.
@@ -45,12 +45,12 @@ freshOf own = make own (only own) 0 false
 
 -- `set_next_station`: adds an address, nothing above 125
 unfoldable pub addOf : Ring → ℕ → Ring
-addOf r a = pick (ltb a 126) (make (r .own) (addTo a (has r)) (r .laps) (r .ready)) r
+addOf r a = cond (ltb a 126) (make (r .own) (addTo a (has r)) (r .laps) (r .ready)) r
 
 -- `remove_station`: takes out any but own
 unfoldable pub removeOf : Ring → ℕ → Ring
 removeOf r a =
-    pick (eqb a (r .own)) r (pick (ltb a 126) (make (r .own) (takeOut a (has r)) (r .laps) (r .ready)) r)
+    cond (eqb a (r .own)) r (cond (ltb a 126) (make (r .own) (takeOut a (has r)) (r .laps) (r .ready)) r)
 
 -- the ring after the token was seen to go from s to d: if the set changed laps are 0, then one more if it came round; at
 -- 2 ready is set, and it stays
@@ -62,15 +62,15 @@ passed r s d =
 
 -- `witness_token_pass`: nothing if either is above 125
 unfoldable pub witnessOf : Ring → ℕ → ℕ → Ring
-witnessOf r s d = pick (ltb s 126 && ltb d 126) (passed r s d) r
+witnessOf r s d = cond (ltb s 126 && ltb d 126) (passed r s d) r
 
 -- The gap walk.
 
 -- is the candidate x polled: it lies strictly between own and next going up; if alone, any address but own
 unfoldable pub polls : Ring → ℕ → Bool
 polls r x =
-    pick (ltb x 126) (pick (eqb (nextOf r) (r .own)) (not (eqb x (r .own))) (betweenOf (r .own) x (nextOf r))) false
+    cond (ltb x 126) (cond (eqb (nextOf r) (r .own)) (not (eqb x (r .own))) (betweenOf (r .own) x (nextOf r))) false
 
 -- `next_gap_poll`: the walk from a; else waiting, count 0
 unfoldable pub gapOf : Ring → ℕ → ℕ → GapState
-gapOf r a hsa = let x = candidateOf a hsa in pick (polls r x) (DoPoll x) (Waiting 0)
+gapOf r a hsa = let x = candidateOf a hsa in cond (polls r x) (DoPoll x) (Waiting 0)

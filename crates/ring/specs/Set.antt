@@ -1,14 +1,10 @@
 -- Sets of addresses 0..125: who comes next, what lies between, what a token pass leaves. Says nothing of how a ring is kept.
 use Prim.Native.Nat.{ℕ, zero, suc, _+_, _-_, _%_, min}
-use mathlib.Core.Bool.{Bool, true, false, not, _&&_, _||_}
+use mathlib.Core.Bool.{Bool, true, false, cond, not, _&&_, _||_}
 use mathlib.Core.List.{List, [], _∷_}
 use lib.Dec.{ltb, leb, eqb}
 
 -- the first if the test holds, else the second
-abbrev pub pick {ℓ} : {A : Type ℓ} → Bool → A → A → A
-pick true a b = a
-pick false a b = b
-
 -- the address at distance d going up from own, 125 followed by 0
 abbrev pub up : ℕ → ℕ → ℕ
 up own d = (own + d) % 126
@@ -25,7 +21,7 @@ placeOf false = down
 -- the members of a set among the k places from distance d on, in the order in which they are passed
 unfoldable pub walk : (ℕ → Bool) → (ℕ → ℕ) → ℕ → ℕ → List ℕ
 walk f p zero d = []
-walk f p (suc k) d = let rest = walk f p k (suc d) in pick (f (p d)) (p d ∷ rest) rest
+walk f p (suc k) d = let rest = walk f p k (suc d) in cond (f (p d)) (p d ∷ rest) rest
 
 -- the first of a list, z if it is empty
 abbrev pub headOr : ℕ → List ℕ → ℕ
@@ -44,7 +40,7 @@ nearest way f own = headOr own (walk f (placeOf way own) 125 1)
 -- x lies strictly between a and b going up, 125 followed by 0 (nothing does if a and b are the same)
 unfoldable pub betweenOf : ℕ → ℕ → ℕ → Bool
 betweenOf a x b =
-    pick (ltb a b) (pick (ltb a x) (ltb x b) false) (pick (eqb a b) false (pick (ltb a x) true (ltb x b)))
+    cond (ltb a b) (cond (ltb a x) (ltb x b) false) (cond (eqb a b) false (cond (ltb a x) true (ltb x b)))
 
 -- the addresses strictly between s and d going up
 abbrev pub arcOf : ℕ → ℕ → ℕ → Bool
@@ -87,12 +83,12 @@ sameSet f g (suc n) = sameSet f g n && eqB (f n) (g n)
 
 -- one lap more if the token came round (d is at most s), at most 2
 unfoldable pub roundOf : ℕ → ℕ → ℕ → ℕ
-roundOf laps s d = pick (leb d s) (min 2 (laps + 1)) laps
+roundOf laps s d = cond (leb d s) (min 2 (laps + 1)) laps
 
 -- laps after a pass: from 0 if the set changed
 unfoldable pub lapsOf : Bool → ℕ → ℕ → ℕ → ℕ
-lapsOf same laps s d = roundOf (pick same laps 0) s d
+lapsOf same laps s d = roundOf (cond same laps 0) s d
 
 -- the gap walk's candidate after a: a + 1, or 0 if that is not below the highest station address
 unfoldable pub candidateOf : ℕ → ℕ → ℕ
-candidateOf a hsa = pick (ltb (a + 1) hsa) (a + 1) 0
+candidateOf a hsa = cond (ltb (a + 1) hsa) (a + 1) 0

@@ -1,7 +1,7 @@
 -- Laws of sets of addresses: they say nothing of how a ring is kept.
 use Prim.Native.Nat.{ℕ, zero, suc, _+_, _-_, _%_, _<_, _≤_, min}
 use mathlib.Core.Path.{_≡_, refl, sym, ap, subst, _∙_}
-use mathlib.Core.Bool.{Bool, true, false, not, _&&_, _||_, and-false, or-true}
+use mathlib.Core.Bool.{Bool, true, false, cond, not, _&&_, _||_, and-false, or-true}
 use mathlib.Core.List.{List, [], _∷_, _++_}
 use mathlib.Core.Logic.{_⊎_, ⊎-elim, inl, inr}
 use native.Mathlib.Nat.{eq-or-lt-of-le, add-zero}
@@ -10,7 +10,7 @@ use native.Mathlib.Numerals.{add-one}
 use lib.ListN.{length}
 use lib.Dec.{ltb, leb, eqb}
 use borrow.Author.Tests.{lt-ltb, le-ltb, eq-eqb, ne-eqb, ltb-true, ltb-false, eqb-true, eqb-false}
-use Rattle.ring.specs.Set.{pick, up, down, walk, headOr, lastOr, betweenOf, keeps, eqB, sameSet, roundOf, lapsOf}
+use Rattle.ring.specs.Set.{up, down, walk, headOr, lastOr, betweenOf, keeps, eqB, sameSet, roundOf, lapsOf}
 
 -- the two truth values differ
 pub true≢false : true ≡ false → ⊥
@@ -62,7 +62,7 @@ unfolding walk
 walk-length f p zero d = omega arith
 walk-length f p (suc k) d = go (f (p d)) (walk-length f p k (suc d))
   where
-    go : (b : Bool) → length (walk f p k (suc d)) ≤ k → length (pick b (p d ∷ walk f p k (suc d)) (walk f p k (suc d))) ≤ suc k
+    go : (b : Bool) → length (walk f p k (suc d)) ≤ k → length (cond b (p d ∷ walk f p k (suc d)) (walk f p k (suc d))) ≤ suc k
     go true h = omega arith
     go false h = omega arith
 
@@ -146,7 +146,7 @@ unfolding walk
 walk-all P f p zero d h = tt
 walk-all P f p (suc k) d h = go (f (p d)) refl (walk-all P f p k (suc d) (λ e l u. h e (omega arith) (omega arith)))
   where
-    go : (b : Bool) → f (p d) ≡ b → All P (walk f p k (suc d)) → All P (pick b (p d ∷ walk f p k (suc d)) (walk f p k (suc d)))
+    go : (b : Bool) → f (p d) ≡ b → All P (walk f p k (suc d)) → All P (cond b (p d ∷ walk f p k (suc d)) (walk f p k (suc d)))
     go true q ih = (h d (omega arith) (omega arith) q, ih)
     go false q ih = ih
 
@@ -168,14 +168,14 @@ unfolding walk
 walk-distinct f own zero d m = tt
 walk-distinct f own (suc k) d m = go (f (up own d)) (walk-distinct f own k (suc d) (omega arith))
   where
-    go : (b : Bool) → Distinct (walk f (up own) k (suc d)) → Distinct (pick b (up own d ∷ walk f (up own) k (suc d)) (walk f (up own) k (suc d)))
+    go : (b : Bool) → Distinct (walk f (up own) k (suc d)) → Distinct (cond b (up own d ∷ walk f (up own) k (suc d)) (walk f (up own) k (suc d)))
     go true ih = (walk-all (λ y. up own d ≡ y → ⊥) f (up own) k (suc d) (λ e l u i. apart own d e (omega arith) (omega arith)), ih)
     go false ih = ih
 
 -- the list without an address
 abbrev pub without : ℕ → List ℕ → List ℕ
 without a [] = []
-without a (x ∷ xs) = pick (eqb x a) (without a xs) (x ∷ without a xs)
+without a (x ∷ xs) = cond (eqb x a) (without a xs) (x ∷ without a xs)
 
 -- a set without an address walks the list without it
 pub walk-without : (f g : ℕ → Bool) (p : ℕ → ℕ) (a k d : ℕ) → ((e : ℕ) → d ≤ e → e < d + k → g (p e) ≡ (not (eqb (p e) a) && f (p e))) → walk g p k d ≡ without a (walk f p k d)
@@ -187,7 +187,7 @@ walk-without f g p a (suc k) d h = rw (h d (omega arith) (omega arith), walk-wit
     rest = walk f p k (suc d)
 
     go : (b c : Bool) → eqb (p d) a ≡ c
-        → pick (not (eqb (p d) a) && b) (p d ∷ without a rest) (without a rest) ≡ without a (pick b (p d ∷ rest) rest)
+        → cond (not (eqb (p d) a) && b) (p d ∷ without a rest) (without a rest) ≡ without a (cond b (p d ∷ rest) rest)
     go true true q = rw q
     go true false q = rw q
     go false true q = rw q
@@ -203,29 +203,29 @@ without-head x xs h = rw (eq-eqb x x refl) (without-none x xs (h .0))
 
 -- The last place of a walk going up is the first one going down.
 
-push : (b : Bool) (x : ℕ) (l m : List ℕ) → pick b (x ∷ (l ++ m)) (l ++ m) ≡ pick b (x ∷ l) l ++ m
+push : (b : Bool) (x : ℕ) (l m : List ℕ) → cond b (x ∷ (l ++ m)) (l ++ m) ≡ cond b (x ∷ l) l ++ m
 push true x l m = refl
 push false x l m = refl
 
 abbrev one : (ℕ → Bool) → ℕ → List ℕ
-one f x = pick (f x) (x ∷ []) []
+one f x = cond (f x) (x ∷ []) []
 
 snoc : (f : ℕ → Bool) (p : ℕ → ℕ) (k d : ℕ) → walk f p (suc k) d ≡ walk f p k d ++ one f (p (d + k))
 unfolding walk
 snoc f p zero d = simp add-zero
 snoc f p (suc k) d =
-    ap (λ (l : List ℕ). pick (f (p d)) (p d ∷ l) l) (snoc f p k (suc d))
+    ap (λ (l : List ℕ). cond (f (p d)) (p d ∷ l) l) (snoc f p k (suc d))
     ∙ push (f (p d)) (p d) (walk f p k (suc d)) (one f (p (suc d + k)))
     ∙ ap (λ (e : ℕ). walk f p (suc k) d ++ one f (p e)) (omega arith)
 
-last-more : (b : Bool) (z x : ℕ) (l : List ℕ) → lastOr z (l ++ pick b (x ∷ []) []) ≡ pick b x (lastOr z l)
+last-more : (b : Bool) (z x : ℕ) (l : List ℕ) → lastOr z (l ++ cond b (x ∷ []) []) ≡ cond b x (lastOr z l)
 last-more true z x [] = refl
 last-more false z x [] = refl
 last-more b z x (y ∷ l) = last-more b y x l
 
-head-pick : (b : Bool) (z x : ℕ) (l : List ℕ) → headOr z (pick b (x ∷ l) l) ≡ pick b x (headOr z l)
-head-pick true z x l = refl
-head-pick false z x l = refl
+head-cond : (b : Bool) (z x : ℕ) (l : List ℕ) → headOr z (cond b (x ∷ l) l) ≡ cond b x (headOr z l)
+head-cond true z x l = refl
+head-cond false z x l = refl
 
 turned : (own k : ℕ) → k < 126 → down own (125 - k) ≡ up own (suc k)
 turned own k l = omega arith
@@ -239,10 +239,10 @@ last-walk f own z (suc k) l =
     let next : suc (125 - k) ≡ 126 - k = omega arith in
     let end : 1 + k ≡ suc k = omega arith in
     ap (λ (d : ℕ). headOr z (walk f (down own) (suc k) d)) here
-    ∙ head-pick (f (down own (125 - k))) z (down own (125 - k)) (walk f (down own) k (suc (125 - k)))
-    ∙ ap (λ (a : ℕ). pick (f a) a (headOr z (walk f (down own) k (suc (125 - k))))) (turned own k (omega arith))
-    ∙ ap (λ (d : ℕ). pick (f (up own (suc k))) (up own (suc k)) (headOr z (walk f (down own) k d))) next
-    ∙ ap (pick (f (up own (suc k))) (up own (suc k))) (last-walk f own z k (omega arith))
+    ∙ head-cond (f (down own (125 - k))) z (down own (125 - k)) (walk f (down own) k (suc (125 - k)))
+    ∙ ap (λ (a : ℕ). cond (f a) a (headOr z (walk f (down own) k (suc (125 - k))))) (turned own k (omega arith))
+    ∙ ap (λ (d : ℕ). cond (f (up own (suc k))) (up own (suc k)) (headOr z (walk f (down own) k d))) next
+    ∙ ap (cond (f (up own (suc k))) (up own (suc k))) (last-walk f own z k (omega arith))
     ∙ sym
     (ap (lastOr z) (snoc f (up own) k 1)
     ∙ ap (λ (d : ℕ). lastOr z (walk f (up own) k 1 ++ one f (up own d))) end
@@ -282,7 +282,7 @@ unfolding betweenOf
 between-is a x b la lx lb = go (ltb a b) refl (eqb a b) refl (ltb a x) refl (ltb x b) refl
   where
     go : (p : Bool) → ltb a b ≡ p → (q : Bool) → eqb a b ≡ q → (u : Bool) → ltb a x ≡ u → (v : Bool) → ltb x b ≡ v
-        → pick (ltb a b) (pick (ltb a x) (ltb x b) false) (pick (eqb a b) false (pick (ltb a x) true (ltb x b))) ≡ nearer a x b
+        → cond (ltb a b) (cond (ltb a x) (ltb x b) false) (cond (eqb a b) false (cond (ltb a x) true (ltb x b))) ≡ nearer a x b
     go true p q′ q true u true v =
         let h = ltb-true a x u in
         let k = ltb-true x b v in
@@ -321,7 +321,7 @@ pub between-start : (a b : ℕ) → betweenOf a a b ≡ false
 unfolding betweenOf
 between-start a b = rw (le-ltb a a (omega arith)) (go (ltb a b) refl (eqb a b))
   where
-    go : (p : Bool) → ltb a b ≡ p → (q : Bool) → pick (ltb a b) false (pick q false (ltb a b)) ≡ false
+    go : (p : Bool) → ltb a b ≡ p → (q : Bool) → cond (ltb a b) false (cond q false (ltb a b)) ≡ false
     go true p q = rw p
     go false p true = rw p
     go false p false = rw p
@@ -331,7 +331,7 @@ pub between-end : (a b : ℕ) → betweenOf a b b ≡ false
 unfolding betweenOf
 between-end a b = rw (le-ltb b b (omega arith)) (go (ltb a b) refl (eqb a b))
   where
-    go : (p : Bool) → ltb a b ≡ p → (q : Bool) → pick (ltb a b) (pick (ltb a b) false false) (pick q false (pick (ltb a b) true false)) ≡ false
+    go : (p : Bool) → ltb a b ≡ p → (q : Bool) → cond (ltb a b) (cond (ltb a b) false false) (cond q false (cond (ltb a b) true false)) ≡ false
     go true p q = rw p
     go false p true = rw p
     go false p false = rw p
@@ -419,7 +419,7 @@ pub round-low : (laps s d : ℕ) → laps ≤ 2 → roundOf laps s d ≤ 2
 unfolding roundOf
 round-low laps s d l = go (leb d s)
   where
-    go : (b : Bool) → pick b (min 2 (laps + 1)) laps ≤ 2
+    go : (b : Bool) → cond b (min 2 (laps + 1)) laps ≤ 2
     go true = omega arith
     go false = l
 

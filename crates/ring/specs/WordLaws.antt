@@ -1,14 +1,14 @@
 -- Laws of numbers as sets of bits.
 use Prim.Native.Nat.{ℕ, zero, suc, _+_, _-_, _*_, _/_, _%_, _^_, _<_, _≤_}
 use mathlib.Core.Path.{_≡_, refl, sym, ap, subst, _∙_}
-use mathlib.Core.Bool.{Bool, true, false, not, _&&_, _||_}
+use mathlib.Core.Bool.{Bool, true, false, cond, not, _&&_, _||_}
 use native.Mathlib.Nat.{div-one, pow-suc, mod-lt, zero-add, one-mul, not-le-of-lt}
 use native.Mathlib.Omega.{arith}
 use lib.Dec.{ltb, eqb, eqb·suc-suc, eqb·zero-suc, eqb·suc-zero, lit<}
 use lib.Bits.{bitAnd, bitOr, bitXor, and-shr, and-mod, and-lt, or-shr, or-mod, or-lt, xor-shr, xor-mod, xor-lt}
 use lib.Pow.{shr-shr, shl-exact, pow-pos, pow-lt, field, mod-mod-pow}
 use borrow.Author.Tests.{eqb-true, eqb-false, eq-eqb, ne-eqb, ltb-true, ltb-false, lt-ltb, le-ltb}
-use Rattle.ring.specs.Set.{pick, betweenOf, arcOf, only, lower, keeps, keepsAll, sameSet}
+use Rattle.ring.specs.Set.{betweenOf, arcOf, only, lower, keeps, keepsAll, sameSet}
 use Rattle.ring.specs.SetLaws.{true≢false, between-start, between-end, same-if, same-then}
 use Rattle.ring.specs.Words.{bitOf, wordOf, wordSet, hasIn}
 
@@ -35,11 +35,11 @@ half w b l = omega arith
 odd : (w b : ℕ) → b < 2 → (w * 2 + b) % 2 ≡ b
 odd w b l = omega arith
 
-digit-lt : (b : Bool) → pick b 1 0 < 2
+digit-lt : (b : Bool) → cond b 1 0 < 2
 digit-lt true = omega arith
 digit-lt false = omega arith
 
-digit-is : (b : Bool) → eqb (pick b 1 0) 1 ≡ b
+digit-is : (b : Bool) → eqb (cond b 1 0) 1 ≡ b
 digit-is true = refl
 digit-is false = refl
 
@@ -48,13 +48,13 @@ pub word-bit : (f : ℕ → Bool) (from n k : ℕ) → k < n → bitOf (wordOf f
 unfolding wordOf
 word-bit f from zero k l = absurd (omega arith)
 word-bit f from (suc n) zero l =
-    bit-zero (wordOf f (suc from) n * 2 + pick (f from) 1 0)
-    ∙ ap (λ (x : ℕ). eqb x 1) (odd (wordOf f (suc from) n) (pick (f from) 1 0) (digit-lt (f from)))
+    bit-zero (wordOf f (suc from) n * 2 + cond (f from) 1 0)
+    ∙ ap (λ (x : ℕ). eqb x 1) (odd (wordOf f (suc from) n) (cond (f from) 1 0) (digit-lt (f from)))
     ∙ digit-is (f from)
     ∙ ap f (omega arith)
 word-bit f from (suc n) (suc k) l =
-    bit-suc (wordOf f (suc from) n * 2 + pick (f from) 1 0) k
-    ∙ ap (λ (x : ℕ). bitOf x k) (half (wordOf f (suc from) n) (pick (f from) 1 0) (digit-lt (f from)))
+    bit-suc (wordOf f (suc from) n * 2 + cond (f from) 1 0) k
+    ∙ ap (λ (x : ℕ). bitOf x k) (half (wordOf f (suc from) n) (cond (f from) 1 0) (digit-lt (f from)))
     ∙ word-bit f (suc from) n k (omega arith)
     ∙ ap f (omega arith)
 
@@ -64,7 +64,7 @@ unfolding wordOf
 word-lt f from zero = omega arith
 word-lt f from (suc n) =
     let ih : wordOf f (suc from) n < 2 ^ n = word-lt f (suc from) n in
-    let d : pick (f from) 1 0 < 2 = digit-lt (f from) in
+    let d : cond (f from) 1 0 < 2 = digit-lt (f from) in
     let p : 2 ^ suc n ≡ 2 ^ n * 2 = pow-suc 2 n in
     omega arith
 
@@ -245,7 +245,7 @@ has-words f =
 
 -- two pairs of words keep the same set exactly if the low words are the same and the 62 lowest bits of the high ones
 pub same-words : (l h l′ h′ : ℕ) → l < 2 ^ 64 → l′ < 2 ^ 64
-    → sameSet (hasIn l h) (hasIn l′ h′) 126 ≡ pick (eqb l l′) (eqb (h % 2 ^ 62) (h′ % 2 ^ 62)) false
+    → sameSet (hasIn l h) (hasIn l′ h′) 126 ≡ cond (eqb l l′) (eqb (h % 2 ^ 62) (h′ % 2 ^ 62)) false
 same-words l h l′ h′ b b′ = go (sameSet (hasIn l h) (hasIn l′ h′) 126) refl
   where
     lows : sameSet (hasIn l h) (hasIn l′ h′) 126 ≡ true → l ≡ l′
@@ -264,12 +264,12 @@ same-words l h l′ h′ b b′ = go (sameSet (hasIn l h) (hasIn l′ h′) 126)
         (λ k m. has-high l h k m ∙ sym (bit-short h 62 k m) ∙ ap (λ (w : ℕ). bitOf w k) q ∙ bit-short h′ 62 k m ∙ sym (has-high l′ h′ k m)))
 
     differ : sameSet (hasIn l h) (hasIn l′ h′) 126 ≡ false → (c d : Bool) → eqb l l′ ≡ c → eqb (h % 2 ^ 62) (h′ % 2 ^ 62) ≡ d
-        → pick (eqb l l′) (eqb (h % 2 ^ 62) (h′ % 2 ^ 62)) false ≡ false
+        → cond (eqb l l′) (eqb (h % 2 ^ 62) (h′ % 2 ^ 62)) false ≡ false
     differ e true true p q = absurd (true≢false (sym (back (eqb-true l l′ p) (eqb-true (h % 2 ^ 62) (h′ % 2 ^ 62) q)) ∙ e))
     differ e true false p q = rw (p, q)
     differ e false d p q = rw p
 
-    go : (c : Bool) → sameSet (hasIn l h) (hasIn l′ h′) 126 ≡ c → sameSet (hasIn l h) (hasIn l′ h′) 126 ≡ pick (eqb l l′) (eqb (h % 2 ^ 62) (h′ % 2 ^ 62)) false
+    go : (c : Bool) → sameSet (hasIn l h) (hasIn l′ h′) 126 ≡ c → sameSet (hasIn l h) (hasIn l′ h′) 126 ≡ cond (eqb l l′) (eqb (h % 2 ^ 62) (h′ % 2 ^ 62)) false
     go true e = e ∙ sym (rw (eq-eqb l l′ (lows e)) (eq-eqb (h % 2 ^ 62) (h′ % 2 ^ 62) (highs e)))
     go false e = e ∙ sym (differ e (eqb l l′) (eqb (h % 2 ^ 62) (h′ % 2 ^ 62)) refl refl)
 
@@ -353,7 +353,7 @@ arc-up from s d l = word-is (arcOf s d) from 64 (turnedOf from s d) (turned-lt f
     inside : (x : ℕ) → either (ltb x (s + 1)) (ltb x d) ≡ arcOf s d x
     inside x = rw (above x s, lt-ltb s d l) (go (ltb s x) refl)
       where
-        go : (b : Bool) → ltb s x ≡ b → either (not (ltb s x)) (ltb x d) ≡ pick (ltb s x) (ltb x d) false
+        go : (b : Bool) → ltb s x ≡ b → either (not (ltb s x)) (ltb x d) ≡ cond (ltb s x) (ltb x d) false
         go true q = rw q
         go false q = let h = ltb-false s x q in rw (q, lt-ltb x d (omega arith))
 
@@ -383,7 +383,7 @@ arc-round from s d l n =
     outside : (x : ℕ) → either (either (ltb x (s + 1)) (ltb x d)) true ≡ arcOf s d x
     outside x = rw (above x s, le-ltb s d l, ne-eqb s d n) (turn (ltb s x) (ltb x d) ∙ go (ltb s x) refl)
       where
-        go : (b : Bool) → ltb s x ≡ b → either (ltb s x) (ltb x d) ≡ pick (ltb s x) true (ltb x d)
+        go : (b : Bool) → ltb s x ≡ b → either (ltb s x) (ltb x d) ≡ cond (ltb s x) true (ltb x d)
         go true q = let h = ltb-true s x q in rw (q, le-ltb x d (omega arith))
         go false q = rw q
 
