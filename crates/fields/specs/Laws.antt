@@ -1,14 +1,16 @@
 -- Fields put below one another and read again undo each other, for every list of widths. Assumes nothing.
-use Prim.Native.Nat.{ℕ, _+_, _*_, _/_, _%_, _^_, _<_, _≤_}
+use Prim.Native.Nat.{ℕ, _+_, _*_, _/_, _^_, _<_, _≤_}
 use mathlib.Core.Path.{_≡_, refl, sym, ap, _∙_}
 use mathlib.Core.List.{List, [], _∷_, _++_}
-use native.Mathlib.Nat.{add-zero, div-one, div-eq-of-lt, lt-of-lt-of-le}
+use native.Mathlib.Nat.{add-zero, div-one, div-eq-of-lt}
+use mathlib.Core.Bool.{Bool, true, false}
 use native.Mathlib.Omega.{arith}
-use borrow.Author.Tests.{le-ltb}
+use borrow.Author.Tests.{le-ltb, eqb-true, eqb-false}
+use borrow.Table.Steps.{cases}
 use lib.ListN.{length, drop}
 use lib.Pow.{high, low, split, shr-shr}
-use lib.Dec.{lit<, lit≤}
-use Rattle.fields.specs.Fields.{fieldOf, putOf, putAll, total, unpack, Within, be, beFrom, bytesOf, storedOf}
+use lib.Dec.{eqb, lit<}
+use Rattle.fields.specs.Fields.{fieldOf, bitAt, bitOf, putAll, total, unpack, Within, be, beFrom, bytesOf, storedOf}
 use Rattle.fields.specs.Widths.{field-below, grown, put-plain}
 
 -- the sum that fields make where nothing falls away
@@ -82,3 +84,17 @@ be-bytes word h = ap (λ (n : ℕ). packFrom n (8 ∷ 8 ∷ 8 ∷ 8 ∷ 8 ∷ 8 
 pub stored-room : (word : ℕ) (s : List ℕ) → 8 ≤ length s → storedOf word s ≡ bytesOf word ++ drop 8 s
 unfolding storedOf
 stored-room word s h = rw (le-ltb _ _ h)
+
+-- a bit is below 2, and reads back from its number
+pub bit-below : (b : Bool) → bitOf b < 2 ^ 1
+bit-below true = lit< tt
+bit-below false = lit< tt
+
+pub bit-read : (b : Bool) → eqb (bitOf b) 1 ≡ b
+bit-read true = refl
+bit-read false = refl
+
+-- a bit of a word is the number that it says
+pub bit-written : (w at : ℕ) → bitOf (bitAt w at) ≡ fieldOf w at 1
+bit-written w at =
+    cases (bitAt w at) (λ a. rw a (sym (eqb-true _ 1 a))) (λ a. rw a (omega (arith, field-below w at 1, eqb-false (fieldOf w at 1) 1 a)))
