@@ -24,7 +24,7 @@ use Rattle.answers.specs.declared.Answer.{Answer}
 use Rattle.answers.specs.declared.Unpacked.the-variants.{NoAnswer, Is}
 use Rattle.answers.specs.Answers.{lastState, outcomeNumber, outcomeOf, sending, sentFields, sentFrom, telling, noticeFields, noticeFrom, refusedOf, answerWidths, answerValues, answerWord, fullOf, answerOf, refusalKnown, sentMeant, meant, unpackOf, SentFits, NoticeFits, Fits}
 
--- each case reads back from its numbers
+-- an outcome reads back from its number
 outcome-read : (o : Outcome) → outcomeOf (outcomeNumber o) ≡ o
 unfolding outcomeOf
 outcome-read None = refl
@@ -33,9 +33,11 @@ outcome-read Transmission = refl
 outcome-read Bus = refl
 outcome-read Delay = refl
 
+-- the fields of what was sent as they are read from a word: the bit from its number
 abbrev asRead : SentFields → SentFields
 asRead f = sending (f .kind) (f .destination) (f .state) (f .application) (eqb (bitOf (f .high)) 1) (f .bytes)
 
+-- what was sent reads back from its fields
 sent-read : (s : Sent) → sentFrom (asRead (sentFields s)) ≡ s
 unfolding sentFields sentFrom
 sent-read Nothing = refl
@@ -44,13 +46,14 @@ sent-read (StatusRequest d) = refl
 sent-read (StatusResponse d t) = ap (StatusResponse d) (state-read t)
 sent-read (Application d a h b) = ap (λ x. Application d a x b) (bit-read h)
 
+-- a notice reads back from its fields
 notice-read : (n : Notice) → noticeFrom (noticeFields n) ≡ n
 unfolding noticeFields noticeFrom
 notice-read NoNotice = refl
 notice-read (Reply a d) = refl
 notice-read (Timeout a d) = refl
 
--- the numbers of each case are within their widths
+-- an outcome's number is within its width
 outcome-below : (o : Outcome) → outcomeNumber o < 2 ^ 3
 outcome-below None = lit< tt
 outcome-below Offline = lit< tt
@@ -58,6 +61,7 @@ outcome-below Transmission = lit< tt
 outcome-below Bus = lit< tt
 outcome-below Delay = lit< tt
 
+-- the fields of what was sent, each within its width
 record SentWithin (f : SentFields) : Type 0 where
   kind : f .kind < 2 ^ 3
   destination : f .destination < 2 ^ 7
@@ -65,6 +69,7 @@ record SentWithin (f : SentFields) : Type 0 where
   application : f .application < 2 ^ 3
   bytes : f .bytes < 2 ^ 8
 
+-- what was sent with numbers that fit has fields within their widths
 sent-within : (s : Sent) → SentFits s → SentWithin (sentFields s)
 unfolding sentFields
 sent-within Nothing f = record { kind = lit< tt; destination = lit< tt; state = lit< tt; application = lit< tt; bytes = lit< tt }
@@ -73,23 +78,27 @@ sent-within (StatusRequest d) f = record { kind = lit< tt; destination = f; stat
 sent-within (StatusResponse d t) f = record { kind = lit< tt; destination = f; state = state-below t; application = lit< tt; bytes = lit< tt }
 sent-within (Application d a h b) f = record { kind = lit< tt; destination = f .0; state = lit< tt; application = f .1; bytes = f .3 }
 
+-- the fields of a notice, each within its width
 record NoticeWithin (f : NoticeFields) : Type 0 where
   kind : f .kind < 2 ^ 2
   application : f .application < 2 ^ 3
   address : f .address < 2 ^ 7
 
+-- a notice with numbers that fit has fields within their widths
 notice-within : (n : Notice) → NoticeFits n → NoticeWithin (noticeFields n)
 unfolding noticeFields
 notice-within NoNotice f = record { kind = lit< tt; application = lit< tt; address = lit< tt }
 notice-within (Reply a d) f = record { kind = lit< tt; application = f .0; address = f .1 }
 notice-within (Timeout a d) f = record { kind = lit< tt; application = f .0; address = f .1 }
 
+-- a known refusal is within its width
 known-below : (n : ℕ) → refusalKnown n ≡ true → n < 2 ^ 5
 unfolding refusalKnown
 known-below n h =
     cases (eqb n 0) (λ a. omega (arith, eqb-true n 0 a)) (λ a.
     cases (ltb n 12) (λ b. omega (arith, ltb-true n 12 b)) (λ b. omega (arith, leb-true n 16 (rw (a, b) at h))))
 
+-- the values of an answer that fits are within their widths
 values-within : (a : Answer) → Fits a → Within answerWidths (answerValues a)
 values-within a f =
     let s = sent-within (a .sent) (f .sent) in
@@ -101,10 +110,11 @@ word-fields : (a : Answer) → Fits a → unpack answerWidths (answerWord a) ≡
 unfolding answerWord
 word-fields a f = unpack-put answerWidths (lit≤ tt) (answerValues a) (values-within a f)
 
--- a word that has an answer's values is read as the answer
+-- an answer from its fields
 abbrev made : ℕ → Outcome → ℕ → Sent → ℕ → Notice → ℕ → ℕ → Answer
 made r o st s c n na ns = record { refusal = r; outcome = o; state = st; sent = s; consumed = c; notice = n; «next_application» = na; «next_station» = ns }
 
+-- an answer without refusal from a list of values
 abbrev madeOf : List ℕ → Answer
 madeOf l =
     made 0 (outcomeOf (getD l 1 0)) (getD l 2 0)
@@ -114,6 +124,7 @@ madeOf l =
     (getD l 13 0)
     (getD l 14 0)
 
+-- a word with the values of an answer without refusal is read as that answer
 full-read : (w : ℕ) (a : Answer) → a .refusal ≡ 0 → unpack answerWidths w ≡ answerValues a → fullOf w ≡ a
 unfolding fullOf
 full-read w a z e =
@@ -123,6 +134,7 @@ full-read w a z e =
     ∙ ap (λ n. made 0 (a .outcome) (a .state) (a .sent) (a .consumed) n (a .«next_application») (a .«next_station»)) (notice-read (a .notice))
     ∙ ap (λ r. made r (a .outcome) (a .state) (a .sent) (a .consumed) (a .notice) (a .«next_application») (a .«next_station»)) (sym z)
 
+-- a word with the values of an answer that fits is read as that answer
 answer-read : (w : ℕ) (a : Answer) → Fits a → unpack answerWidths w ≡ answerValues a → answerOf w ≡ a
 unfolding answerOf
 answer-read w a f e =
@@ -134,7 +146,7 @@ answer-read w a f e =
     (λ z. rw z (full-read w a (sym r ∙ eqb-true _ 0 z) e))
     (λ z. rw (z, r, s, na, ns) (sym (f .plain (λ q. eqb-false _ 0 z (r ∙ q)))))
 
--- what is meant, by its parts
+-- what was sent with numbers that fit is meant
 sent-meant : (s : Sent) → SentFits s → sentMeant s ≡ true
 unfolding sentMeant
 sent-meant Nothing f = refl
@@ -143,19 +155,23 @@ sent-meant (StatusRequest d) f = refl
 sent-meant (StatusResponse d t) f = refl
 sent-meant (Application d a h b) f = ap not (ne-eqb b 0 (λ z. omega arith))
 
+-- an answer that fits is meant
 fits-meant : (a : Answer) → Fits a → meant a ≡ true
 unfolding meant
 fits-meant a f = rw (le-ltb lastState (a .state) (f .state), le-ltb 8 (a .consumed) (f .consumed), sent-meant (a .sent) (f .sent), f .refusal)
 
+-- what is known of an answer that is meant
 record Parts (a : Answer) : Type 0 where
   refusal : refusalKnown (a .refusal) ≡ true
   state : a .state ≤ lastState
   sent : sentMeant (a .sent) ≡ true
   consumed : a .consumed ≤ 8
 
+-- false is not true
 never : {A : Type 0} → false ≡ true → A
 never e = let z : _≡_ {A = ℕ} 0 1 = cc in absurd (omega arith)
 
+-- an answer that is meant has these parts
 meant-parts : (a : Answer) → meant a ≡ true → Parts a
 unfolding meant
 meant-parts a m =
@@ -169,6 +185,7 @@ unfolding refusedOf
 refused-fits n state application station k s a t =
     record { refusal = k; plain = λ z. refl; state = s; sent = tt; consumed = lit≤ tt; notice = tt; application = a; station = t }
 
+-- what is read as sent from fields within their widths fits
 sent-fits : (f : SentFields) → f .destination < 2 ^ 7 → f .application < 2 ^ 3 → f .bytes < 2 ^ 8 → sentMeant (sentFrom f) ≡ true → SentFits (sentFrom f)
 unfolding sentFrom sentMeant
 sent-fits f d a b m =
@@ -180,10 +197,12 @@ sent-fits f d a b m =
     some : not (eqb (f .bytes) 0) ≡ true → 0 < f .bytes
     some e = cases (eqb (f .bytes) 0) (λ z. never (rw z at e)) (λ z. omega (arith, eqb-false (f .bytes) 0 z))
 
+-- a notice read from fields within their widths fits
 notice-fits : (f : NoticeFields) → f .application < 2 ^ 3 → f .address < 2 ^ 7 → NoticeFits (noticeFrom f)
 unfolding noticeFrom
 notice-fits f a d = cases (eqb (f .kind) 1) (λ k. rw k (a, d)) (λ k. cases (eqb (f .kind) 2) (λ l. rw (k, l) (a, d)) (λ l. rw (k, l) tt))
 
+-- an answer read from a word, its refusal left out, fits if it is meant
 full-fits : (w : ℕ) → meant (fullOf w) ≡ true → Fits (fullOf w)
 unfolding fullOf
 full-fits w m =
@@ -199,6 +218,7 @@ full-fits w m =
       station = field-below w 2 7;
     }
 
+-- an answer read from a word fits if it is meant
 answer-fits : (w : ℕ) → meant (answerOf w) ≡ true → Fits (answerOf w)
 unfolding answerOf refusedOf
 answer-fits w m =

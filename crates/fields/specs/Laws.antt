@@ -19,18 +19,21 @@ packFrom acc (w ∷ ws) (v ∷ vs) = packFrom (acc * 2 ^ w + v) ws vs
 packFrom acc [] vs = acc
 packFrom acc (w ∷ ws) [] = acc
 
+-- values within their widths make the plain sum, where the widths have room
 plain : (k acc : ℕ) (ws vs : List ℕ) → acc < 2 ^ k → k + total ws ≤ 64 → Within ws vs → putAll acc ws vs ≡ packFrom acc ws vs
 plain k acc [] [] a l h = refl
 plain k acc (w ∷ ws) (v ∷ vs) a l h =
     ap (λ (n : ℕ). putAll n ws vs) (put-plain k w acc v a (h .0) (omega arith))
     ∙ plain (k + w) (acc * 2 ^ w + v) ws vs (grown k w acc v a (h .0)) (omega arith) (h .1)
 
+-- and that sum is below 2 to the bits that it takes
 below : (k acc : ℕ) (ws vs : List ℕ) → acc < 2 ^ k → Within ws vs → packFrom acc ws vs < 2 ^ (k + total ws)
 below k acc [] [] a h = rw add-zero a
 below k acc (w ∷ ws) (v ∷ vs) a h =
     let e : k + w + total ws ≡ k + (total ws + w) = omega arith in
     rw e at (below (k + w) (acc * 2 ^ w + v) ws vs (grown k w acc v a (h .0)) (h .1))
 
+-- what stands above the fields is what was there before
 above : (acc : ℕ) (ws vs : List ℕ) → Within ws vs → packFrom acc ws vs / 2 ^ total ws ≡ acc
 above acc [] [] h = div-one acc
 above acc (w ∷ ws) (v ∷ vs) h =
@@ -38,12 +41,14 @@ above acc (w ∷ ws) (v ∷ vs) h =
     ∙ ap (λ (n : ℕ). n / 2 ^ w) (above (acc * 2 ^ w + v) ws vs (h .1))
     ∙ high acc w (h .0)
 
+-- values within their widths are read back from the sum
 unpack-pack : (acc : ℕ) (ws vs : List ℕ) → Within ws vs → unpack ws (packFrom acc ws vs) ≡ vs
 unfolding fieldOf
 unpack-pack acc [] [] h = refl
 unpack-pack acc (w ∷ ws) (v ∷ vs) h =
     rw (above (acc * 2 ^ w + v) ws vs (h .1), low acc w (h .0), unpack-pack (acc * 2 ^ w + v) ws vs (h .1))
 
+-- a number is the sum of its fields and of what stands above them
 pack-unpack : (ws : List ℕ) (word : ℕ) → packFrom (word / 2 ^ total ws) ws (unpack ws word) ≡ word
 unfolding fieldOf
 pack-unpack [] word = div-one word
@@ -85,11 +90,12 @@ pub stored-room : (word : ℕ) (s : List ℕ) → 8 ≤ length s → storedOf wo
 unfolding storedOf
 stored-room word s h = rw (le-ltb _ _ h)
 
--- a bit is below 2, and reads back from its number
+-- a bit's number is below 2
 pub bit-below : (b : Bool) → bitOf b < 2 ^ 1
 bit-below true = lit< tt
 bit-below false = lit< tt
 
+-- a bit reads back from its number
 pub bit-read : (b : Bool) → eqb (bitOf b) 1 ≡ b
 bit-read true = refl
 bit-read false = refl

@@ -21,6 +21,7 @@ asked high = 195 ∷ 132 ∷ 128 ∷ [] ++ high
 abbrev token : ℕ → List ℕ
 token last = 4 ∷ 133 ∷ 0 ∷ last ∷ []
 
+-- a decision that declines
 abbrev none : List ℕ
 none = 0 ∷ 0 ∷ 0 ∷ []
 

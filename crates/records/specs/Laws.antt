@@ -15,7 +15,7 @@ use Rattle.fields.specs.Fields.{bitOf, loadOf}
 use Rattle.fields.specs.Widths.{field-below}
 use Rattle.fields.specs.Laws.{bit-below}
 use Rattle.telegrams.specs.Words.{telegramWord, decisionWord, TelegramFits, DecisionFits}
-use Rattle.telegrams.specs.Laws.{telegram-fits, telegram-written, decision-written}
+use Rattle.telegrams.specs.Laws.{never, telegram-fits, telegram-written, decision-written}
 use Rattle.records.specs.Records.{headOf, countOf, decisionWordAt, telegramWordAt, decisionAt, telegramAt, entryRefusal, firstRefusal, recordRefusal}
 
 -- none of the first k, and that of k not either: none of the first k + 1
@@ -46,11 +46,12 @@ none-at g (suc k) i p h =
     (eq-or-lt-of-le {n = i} {m = k} (omega arith)))
     (λ a. absurd (eqb-false _ 0 a (rw a at p)))
 
--- the clock of any record is below 2 to the 48, its pending bytes below 2 to the 11
+-- the clock of any record is below 2 to the 48
 pub clock-below : (s : List ℕ) → headOf s .clock < 2 ^ 48
 unfolding headOf
 clock-below s = field-below (loadOf s 0 8) 16 48
 
+-- the pending bytes of any record are below 2 to the 11
 pub pending-below : (s : List ℕ) → headOf s .pending < 2 ^ 11
 unfolding headOf
 pending-below s = field-below (loadOf s 0 8) 0 11
@@ -61,6 +62,7 @@ pub record Good (s : List ℕ) (n : ℕ) : Type 0 where
   pub long : length s ≡ 8 + 6 * n + 4 * headOf s .telegrams
   pub entries : (i : ℕ) → i < 2 * n + headOf s .telegrams → entryRefusal s n i ≡ 0
 
+-- a record without refusal is good
 pub good : (s : List ℕ) (n : ℕ) → recordRefusal s n ≡ 0 → Good s n
 unfolding recordRefusal headOf
 good s n h =
@@ -74,9 +76,6 @@ good s n h =
       entries = λ i l. none-at (entryRefusal s n) (2 * n + countOf s) i (rw (a, b, e) at h) l;
     })
     (λ e. never 11 (rw (a, b, e) at h))))
-  where
-    never : {A : Type 0} (k : ℕ) → suc k ≡ 0 → A
-    never k e = absurd (omega arith)
 
 module _ {s : List ℕ} {n : ℕ} (g : Good s n) where
   -- a decision of an accepted record is what its word was written from

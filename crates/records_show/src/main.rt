@@ -617,6 +617,7 @@ fn show_all(buffer: &mut [u8]) {
     }
 }
 
+// Shows what standard input has, by one buffer of 65,536 bytes.
 fn main() {
     let mut buffer = io::large_buffer();
     show_all(&mut buffer);

@@ -43,7 +43,7 @@ state-written n h =
     cases (eqb n 2) (λ d. rw (a, b, d) (sym (eqb-true n 2 d))) (λ d. rw (a, b, d) (omega (arith, eqb-false n 0 a, eqb-false n 1 b, eqb-false n 2 d)))))
 
 -- a refusal is not 0
-never : {A : Type 0} (n : ℕ) → suc n ≡ 0 → A
+pub never : {A : Type 0} (n : ℕ) → suc n ≡ 0 → A
 never n e = absurd (omega arith)
 
 -- no refusal: the bits are zero
@@ -51,7 +51,7 @@ zero-bits : (n : ℕ) → zeroOr14 n ≡ 0 → n ≡ 0
 unfolding zeroOr14
 zero-bits n h = cases (eqb n 0) (λ a. eqb-true n 0 a) (λ a. never 13 (rw a at h))
 
--- a word whose fields are those of a telegram says it, and is accepted
+-- a word whose fields are those of a token says it, and is accepted
 token-word : (w d s : ℕ) → w < 2 ^ 32 → unpack tokenWidths w ≡ 0 ∷ d ∷ s ∷ 0 ∷ [] → (telegramOf w ≡ Token d s) × (telegramRefusal w ≡ 0)
 unfolding telegramOf telegramRefusal zeroOr14
 token-word w d s h e =
@@ -59,6 +59,7 @@ token-word w d s h e =
     let zero : fieldOf w 0 16 ≡ 0 = ap (λ l. getD l 3 0) e in
     (rw (kind, ap (λ l. getD l 1 0) e, ap (λ l. getD l 2 0) e), rw (lt-leb _ _ h, kind, zero))
 
+-- the same for a short confirmation
 short-word : (w : ℕ) → w < 2 ^ 32 → unpack shortWidths w ≡ 1 ∷ 0 ∷ [] → (telegramOf w ≡ ShortConfirmation) × (telegramRefusal w ≡ 0)
 unfolding telegramOf telegramRefusal zeroOr14
 short-word w h e =
@@ -66,6 +67,7 @@ short-word w h e =
     let zero : fieldOf w 0 30 ≡ 0 = ap (λ l. getD l 1 0) e in
     (rw kind, rw (lt-leb _ _ h, kind, zero))
 
+-- the same for a request
 request-word :
     (w d s : ℕ) (q : Bool)
     → w < 2 ^ 32
@@ -78,6 +80,7 @@ request-word w d s q h e =
     let zero : fieldOf w 0 15 ≡ 0 = ap (λ l. getD l 4 0) e in
     (rw (kind, ap (λ l. getD l 1 0) e, ap (λ l. getD l 2 0) e, asked, bit-read q), rw (lt-leb _ _ h, kind, zero))
 
+-- the same for a response
 response-word :
     (w d s : ℕ) (t : ResponseState) (n : ℕ)
     → w < 2 ^ 32
@@ -152,7 +155,7 @@ telegram-written w h =
     let asked : fieldOf w 15 1 ≡ 0 = sym (bit-written w 15) ∙ ap bitOf q in
     rw (a, b, k, state-written (fieldOf w 13 2) (field-below w 13 2)) (rw (kind, asked, zero) at (put-unpack responseWidths (lit≤ tt) w small)))))))
 
--- a word whose fields are those of a decision says it, and is accepted
+-- a word whose fields are those of a decision that declines says it, and is accepted
 decline-word : (w : ℕ) → w < 2 ^ 24 → unpack declineWidths w ≡ 0 ∷ 0 ∷ [] → (decisionOf w ≡ Decline) × (decisionRefusal w ≡ 0)
 unfolding decisionOf decisionRefusal zeroOr14
 decline-word w h e =
@@ -160,6 +163,7 @@ decline-word w h e =
     let zero : fieldOf w 0 23 ≡ 0 = ap (λ l. getD l 1 0) e in
     (rw sends, rw (lt-leb _ _ h, sends, zero))
 
+-- the same for a send
 send-word : (w n : ℕ) → w < 2 ^ 24 → 0 < n → unpack sendWidths w ≡ 1 ∷ 0 ∷ 0 ∷ n ∷ 0 ∷ [] → (decisionOf w ≡ Send n) × (decisionRefusal w ≡ 0)
 unfolding decisionOf decisionRefusal lengthRefusal
 send-word w n h p e =
@@ -170,6 +174,7 @@ send-word w n h p e =
     let zero : fieldOf w 0 7 ≡ 0 = ap (λ l. getD l 4 0) e in
     (rw (sends, expects, length), rw (lt-leb _ _ h, sends, zero, expects, address, length, ne-eqb n 0 (λ z. omega arith)))
 
+-- the same for a send that expects a reply
 expect-word :
     (w a n : ℕ)
     → w < 2 ^ 24
@@ -212,6 +217,7 @@ data Accepted (w : ℕ) : Type 0 where
   sends : bitAt w 23 ≡ true → bitAt w 22 ≡ false → fieldOf w 15 7 ≡ 0 → 0 < fieldOf w 7 8 → fieldOf w 0 7 ≡ 0 → Accepted w
   expects : bitAt w 23 ≡ true → bitAt w 22 ≡ true → 0 < fieldOf w 7 8 → fieldOf w 0 7 ≡ 0 → Accepted w
 
+-- a word without refusal is of one of these
 accepted : (w : ℕ) → decisionRefusal w ≡ 0 → (w < 2 ^ 24) × Accepted w
 unfolding decisionRefusal
 accepted w h =
