@@ -3,3 +3,7 @@ pub mod Claim
 pub mod BitTimes
 pub mod Settings
 pub mod Ring
+pub mod Fields
+pub mod Telegrams
+pub mod Records
+pub mod Answers

@@ -1,2 +1,0 @@
--- What is said of the contracts themselves.
-mod Determined
