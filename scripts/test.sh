@@ -23,4 +23,6 @@ verdict=$(tail -n 1 "$log")
 [ "$status" -eq 0 ] || { echo "$verdict"; fail "rt ci ended with status $status"; }
 [[ "$verdict" =~ ^[1-9][0-9]*\ passed,\ 0\ failed$ ]] || fail "rt ci's last line is not a verdict: $verdict"
 
+bash scripts/compare.sh || fail "the comparison with Rust did not hold"
+
 echo "$verdict"
