@@ -18,7 +18,8 @@ use Rattle.answers.specs.declared.Answer.{Answer}
 use Rattle.answers.specs.declared.Unpacked.{Unpacked}
 use Rattle.answers.specs.declared.Unpacked.the-variants.{NoAnswer, Is}
 
--- the largest state
+-- the largest state: 0 Offline, 1 ListenToken, 2 ActiveIdle, 3 UseToken, 4 ClaimToken, 5 AwaitDataResponse, 6 PassToken,
+-- 7 CheckTokenPass, 8 AwaitStatusResponse
 abbrev pub lastState : ℕ
 lastState = 8
 
@@ -30,7 +31,7 @@ outcomeNumber Transmission = 2
 outcomeNumber Bus = 3
 outcomeNumber Delay = 4
 
--- the outcome of a number
+-- the outcome of a number; none where there is no such outcome
 unfoldable pub outcomeOf : ℕ → Outcome
 outcomeOf n = cond (eqb n 1) Offline (cond (eqb n 2) Transmission (cond (eqb n 3) Bus (cond (eqb n 4) Delay None)))
 
@@ -47,7 +48,7 @@ sentFields (StatusRequest destination) = sending 2 destination 0 0 false 6
 sentFields (StatusResponse destination state) = sending 3 destination (stateNumber state) 0 false 6
 sentFields (Application destination application high bytes) = sending 4 destination 0 application high bytes
 
--- what was sent, by its fields
+-- what was sent, by its fields; nothing where there is no such kind
 unfoldable pub sentFrom : SentFields → Sent
 sentFrom f =
     cond (eqb (f .kind) 1) (Token (f .destination))
@@ -65,7 +66,7 @@ noticeFields NoNotice = telling 0 0 0
 noticeFields (Reply application address) = telling 1 application address
 noticeFields (Timeout application address) = telling 2 application address
 
--- a notice by its fields
+-- a notice by its fields; none where there is no such kind
 unfoldable pub noticeFrom : NoticeFields → Notice
 noticeFrom f = cond (eqb (f .kind) 1) (Reply (f .application) (f .address)) (cond (eqb (f .kind) 2) (Timeout (f .application) (f .address)) NoNotice)
 
@@ -129,7 +130,7 @@ sentMeant (StatusRequest destination) = true
 sentMeant (StatusResponse destination state) = true
 sentMeant (Application destination application high bytes) = not (eqb bytes 0)
 
--- an answer whose numbers are such as document 01 has
+-- an answer whose numbers lie in document 01's ranges; whether they go together is the station's matter
 unfoldable pub meant : Answer → Bool
 meant a = cond (ltb lastState (a .state)) false (cond (ltb 8 (a .consumed)) false (cond (sentMeant (a .sent)) (refusalKnown (a .refusal)) false))
 
@@ -151,7 +152,7 @@ NoticeFits NoNotice = Unit {0}
 NoticeFits (Reply application address) = (application < 2 ^ 3) × (address < 2 ^ 7)
 NoticeFits (Timeout application address) = (application < 2 ^ 3) × (address < 2 ^ 7)
 
--- an answer as document 01 has it: numbers that fit, a known refusal, and with a refusal nothing but what a refused entry has
+-- an answer within document 01's ranges: numbers that fit, a known refusal, and with a refusal nothing but what a refused entry has
 pub record Fits (a : Answer) : Type 0 where
   pub refusal : refusalKnown (a .refusal) ≡ true
   pub plain : (a .refusal ≡ 0 → ⊥) → a ≡ refusedOf (a .refusal) (a .state) (a .«next_application») (a .«next_station»)

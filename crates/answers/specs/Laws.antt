@@ -226,14 +226,14 @@ answer-fits w m =
     let p = meant-parts (refusedOf (fieldOf w 59 5) (fieldOf w 52 4) (fieldOf w 9 3) (fieldOf w 2 7)) (rw z at m) in
     rw z (refused-fits (fieldOf w 59 5) (fieldOf w 52 4) (fieldOf w 9 3) (fieldOf w 2 7) (p .refusal) (p .state) (field-below w 9 3) (field-below w 2 7)))
 
--- an answer that document 01 has is what its word says
+-- an answer within document 01's ranges is what its word says
 pub unpack-pack : (a : Answer) → Fits a → unpackOf (answerWord a) ≡ Is a
 unfolding unpackOf
 unpack-pack a f =
     let r = answer-read (answerWord a) a f (word-fields a f) in
     rw (r, eq-eqb (answerWord a) (answerWord a) refl, fits-meant a f)
 
--- what a word says is an answer that document 01 has, and packs to that word
+-- what a word says is an answer within document 01's ranges, and packs to that word
 pub pack-unpack : (w : ℕ) (a : Answer) → unpackOf w ≡ Is a → (answerWord a ≡ w) × Fits a
 unfolding unpackOf
 pack-unpack w a h =

@@ -9,7 +9,7 @@ use Rattle.telegrams.specs.declared.Telegram.the-variants.{Token}
 use Rattle.telegrams.specs.declared.Decision.the-variants.{Decline, SendExpectReply}
 use Rattle.records.specs.Records.{headOf, decisionAt, telegramAt, entryRefusal, firstRefusal, recordRefusal}
 
--- clock 1000 and a number of telegrams, as eight times that
+-- clock 1000, 5 pending bytes; the argument is 8 × the telegram count
 abbrev start : ℕ → List ℕ
 start eights = 0 ∷ 0 ∷ 0 ∷ 0 ∷ 3 ∷ 232 ∷ eights ∷ 5 ∷ []
 

@@ -12,7 +12,7 @@ use Rattle.telegrams.specs.declared.Decision.{Decision}
 use Rattle.telegrams.specs.declared.Decision.the-variants.{Decline}
 use Rattle.records.specs.declared.Head.{Head}
 
--- the first 64 bits: clock 48, transmitting 1, telegram count 4, pending bytes 11
+-- the first 64 bits: clock 48, transmitting 1, telegram count 4, pending bytes 11; zeros where there are fewer
 unfoldable pub headOf : List ℕ → Head
 headOf s =
     record {

@@ -39,7 +39,7 @@ prevOf r = nearest false (has r) (r .own)
 
 -- What the calls make of a ring.
 
--- `fresh`: own only, 0 laps, not ready
+-- `fresh`: own only, 0 laps, not ready (nobody, where own is above 125)
 unfoldable pub freshOf : ℕ → Ring
 freshOf own = make own (only own) 0 false
 

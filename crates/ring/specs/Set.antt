@@ -4,7 +4,6 @@ use mathlib.Core.Bool.{Bool, true, false, cond, not, _&&_, _||_}
 use mathlib.Core.List.{List, [], _∷_}
 use lib.Dec.{ltb, leb, eqb}
 
--- the first if the test holds, else the second
 -- the address at distance d going up from own, 125 followed by 0
 abbrev pub up : ℕ → ℕ → ℕ
 up own d = (own + d) % 126
@@ -37,7 +36,7 @@ lastOr z (x ∷ xs) = lastOr x xs
 unfoldable pub nearest : Bool → (ℕ → Bool) → ℕ → ℕ
 nearest way f own = headOr own (walk f (placeOf way own) 125 1)
 
--- x lies strictly between a and b going up, 125 followed by 0 (nothing does if a and b are the same)
+-- for addresses 0..125: x lies strictly between a and b going up, 125 followed by 0 (nothing does if a and b are the same)
 unfoldable pub betweenOf : ℕ → ℕ → ℕ → Bool
 betweenOf a x b =
     cond (ltb a b) (cond (ltb a x) (ltb x b) false) (cond (eqb a b) false (cond (ltb a x) true (ltb x b)))

@@ -1,7 +1,8 @@
 // The token ring and the gap walk (document 01, "Ring (ours)"): a set of addresses 0..125 with own always in it, laps,
 // and ready. It leans on no other crate. The set is 126 bits in two words, since a ring travels by value through every
 // poll; contracts and laws speak of the set and not of the words. No call needs a `requires`: an address above 125 is no
-// member, and adding, removing or witnessing it changes nothing.
+// member, and adding, removing or witnessing it changes nothing; with an own address above 125, which settings never
+// give, the ring is empty.
 ghost use mathlib.Core.Path.{_≡_};
 ghost use Prim.Native.Nat.{_%_, _^_, _<_, _≤_};
 ghost use mathlib.Core.Bool.{_||_};
@@ -211,7 +212,7 @@ fn ready_after(ready: bool, laps: u8) -> bool
     2 <= laps
 }
 
-// The gap walk's candidate after `a`.
+// The gap walk's candidate after `a`: the next address, or 0 if that is not below the highest station address.
 fn candidate(a: u8, hsa: u8) -> u8
     ensures { λ r. ⌜ r ≡ candidateOf a hsa ⌝ }
 {
@@ -329,7 +330,7 @@ impl Ring {
     }
 
     // The gap walk from `a`: the candidate is polled if it lies strictly between own and next going up, if alone any but
-    // own; else waiting, count 0.
+    // own; else waiting, count 0. An address above 125 is never polled.
     pub fn next_gap_poll(self, a: u8, hsa: u8) -> GapState
         ensures { λ r. ⌜ r ≡ gapOf self a hsa ⌝ }
     {

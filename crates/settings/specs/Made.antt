@@ -25,7 +25,7 @@ use Rattle.settings.specs.declared.Factored.the-variants as factored
 use Rattle.settings.specs.Settings.{belowOf, outsideOf, ceilOf, factorsOf, defaultOf, newAt, newOf, unless, slotBitsOf, hsaOf, rotationOf, gapWaitOf, retryOf, minTsdrOf, withWatchdog, watchdogAt, watchdogOf, factorsRefusal, first, restRefusal, codedRefusal, firstRefusal, pairOf, builtAt, buildOf, factorsPair, fieldsOf}
 use Rattle.settings.specs.Laws.{factors-least, factors-given}
 
--- settings made by `new` and by accepted setters
+-- settings made by `new` and by accepted setters (what `build` gives has passed the check itself)
 pub data Made : Parameters → Type 0 where
   by-new : {p : Parameters} (address code : ℕ) → newOf address code ≡ created.Accepted p → Made p
   by-slot-bits : {p q : Parameters} (v : ℕ) → Made p → slotBitsOf p v ≡ changed.Accepted q → Made q
@@ -41,7 +41,7 @@ pub Watched : WatchdogFactors → Type 0
 Watched wf.None = Unit {0}
 Watched (wf.Some f1 f2) = (1 ≤ f1) × (1 ≤ f2)
 
--- every field lies in document 01's range
+-- every field passes document 01's rule for a header; of the factors only: none, or both not zero
 pub record Sound (p : Parameters) : Type 0 where
   pub address : p .address ≤ 125
   pub slot-bits : leastSlotBits (p .baudrate) ≤ p .«slot_bits»

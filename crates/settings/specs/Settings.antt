@@ -46,7 +46,7 @@ factorsOf ms = cond (eqb ms 0) factored.None (trial (ms / 10) 255 1)
 abbrev pub defaultOf : ℕ → Baud → Parameters
 defaultOf address baud = record { «token_rotation_bits» = 32436; «slot_bits» = leastSlotBits baud; address = address; baudrate = baud; «gap_wait_rotations» = 10; «highest_station_address» = 126; «max_retry_limit» = 1; «min_tsdr_bits» = 11; «watchdog_factors» = wf.None }
 
--- 10 where the code has no rate
+-- new settings of a known rate; 10 where the code has no rate
 unfoldable pub newAt : ℕ → Coded → Created
 newAt address (Rate baud) = created.Accepted (defaultOf address baud)
 newAt address Unknown = created.Refused 10
@@ -59,27 +59,27 @@ newOf address code = cond (leb address 125) (newAt address (baudOf code)) (creat
 unfoldable pub unless : ℕ → Parameters → Changed → Changed
 unless n p answer = cond (eqb n 0) answer (changed.Refused n p)
 
--- ParametersBuilder::slot_bits
+-- ParametersBuilder::slot_bits: sets «slot_bits» alone, or refuses with 2
 unfoldable pub slotBitsOf : Parameters → ℕ → Changed
 slotBitsOf p v = unless (belowOf (leastSlotBits (p .baudrate)) v 2) p (changed.Accepted (record { «token_rotation_bits» = p .«token_rotation_bits»; «slot_bits» = v; address = p .address; baudrate = p .baudrate; «gap_wait_rotations» = p .«gap_wait_rotations»; «highest_station_address» = p .«highest_station_address»; «max_retry_limit» = p .«max_retry_limit»; «min_tsdr_bits» = p .«min_tsdr_bits»; «watchdog_factors» = p .«watchdog_factors» }))
 
--- ParametersBuilder::highest_station_address: above the address, at most 126; it also sets the rotation to HSA × 5000
+-- ParametersBuilder::highest_station_address: above the address, at most 126; it also sets the rotation to HSA × 5000; 3
 unfoldable pub hsaOf : Parameters → ℕ → Changed
 hsaOf p v = unless (outsideOf (p .address + 1) v 126 3) p (changed.Accepted (record { «token_rotation_bits» = v * 5000; «slot_bits» = p .«slot_bits»; address = p .address; baudrate = p .baudrate; «gap_wait_rotations» = p .«gap_wait_rotations»; «highest_station_address» = v; «max_retry_limit» = p .«max_retry_limit»; «min_tsdr_bits» = p .«min_tsdr_bits»; «watchdog_factors» = p .«watchdog_factors» }))
 
--- ParametersBuilder::token_rotation_bits
+-- ParametersBuilder::token_rotation_bits: sets «token_rotation_bits» alone, or refuses with 4
 unfoldable pub rotationOf : Parameters → ℕ → Changed
 rotationOf p v = unless (outsideOf 256 v 16777960 4) p (changed.Accepted (record { «token_rotation_bits» = v; «slot_bits» = p .«slot_bits»; address = p .address; baudrate = p .baudrate; «gap_wait_rotations» = p .«gap_wait_rotations»; «highest_station_address» = p .«highest_station_address»; «max_retry_limit» = p .«max_retry_limit»; «min_tsdr_bits» = p .«min_tsdr_bits»; «watchdog_factors» = p .«watchdog_factors» }))
 
--- ParametersBuilder::gap_wait_rotations
+-- ParametersBuilder::gap_wait_rotations: sets «gap_wait_rotations» alone, or refuses with 5
 unfoldable pub gapWaitOf : Parameters → ℕ → Changed
 gapWaitOf p v = unless (outsideOf 1 v 100 5) p (changed.Accepted (record { «token_rotation_bits» = p .«token_rotation_bits»; «slot_bits» = p .«slot_bits»; address = p .address; baudrate = p .baudrate; «gap_wait_rotations» = v; «highest_station_address» = p .«highest_station_address»; «max_retry_limit» = p .«max_retry_limit»; «min_tsdr_bits» = p .«min_tsdr_bits»; «watchdog_factors» = p .«watchdog_factors» }))
 
--- ParametersBuilder::max_retry_limit
+-- ParametersBuilder::max_retry_limit: sets «max_retry_limit» alone, or refuses with 6
 unfoldable pub retryOf : Parameters → ℕ → Changed
 retryOf p v = unless (outsideOf 1 v 15 6) p (changed.Accepted (record { «token_rotation_bits» = p .«token_rotation_bits»; «slot_bits» = p .«slot_bits»; address = p .address; baudrate = p .baudrate; «gap_wait_rotations» = p .«gap_wait_rotations»; «highest_station_address» = p .«highest_station_address»; «max_retry_limit» = v; «min_tsdr_bits» = p .«min_tsdr_bits»; «watchdog_factors» = p .«watchdog_factors» }))
 
--- ParametersBuilder::min_tsdr
+-- ParametersBuilder::min_tsdr: sets «min_tsdr_bits» alone, or refuses with 7
 unfoldable pub minTsdrOf : Parameters → ℕ → Changed
 minTsdrOf p v = unless (belowOf 11 v 7) p (changed.Accepted (record { «token_rotation_bits» = p .«token_rotation_bits»; «slot_bits» = p .«slot_bits»; address = p .address; baudrate = p .baudrate; «gap_wait_rotations» = p .«gap_wait_rotations»; «highest_station_address» = p .«highest_station_address»; «max_retry_limit» = p .«max_retry_limit»; «min_tsdr_bits» = v; «watchdog_factors» = p .«watchdog_factors» }))
 

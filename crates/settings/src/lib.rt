@@ -28,7 +28,8 @@ pub struct Parameters {
     pub watchdog_factors: WatchdogFactors,
 }
 
-// Nine fields as plain numbers, unchecked: what a trace header carries. Both factors zero says that there are none.
+// The nine settings as ten plain numbers, unchecked: what a trace header carries. Both factors zero says that there
+// are none.
 pub struct Fields {
     pub token_rotation_bits: u32,
     pub slot_bits: u16,
@@ -333,7 +334,7 @@ impl Parameters {
 
 // The check of a whole record.
 impl Fields {
-    // The first refusal after 1 in document 01's header order, for a known baud rate; 0 for none.
+    // The first refusal after 1 and 10 in document 01's header order, for a known baud rate; 0 for none.
     fn rest_refusal(self, baud: Baud) -> u8
         ensures { λ r. ⌜ r ≡ restRefusal self baud ⌝ }
     {

@@ -19,7 +19,7 @@ stateNumber MasterNotReady = 1
 stateNumber MasterWithoutToken = 2
 stateNumber MasterInRing = 3
 
--- the station type of a number of two bits
+-- the station type of a number of two bits (of any other number in ring)
 unfoldable pub stateOf : ℕ → ResponseState
 stateOf n = cond (eqb n 0) Slave (cond (eqb n 1) MasterNotReady (cond (eqb n 2) MasterWithoutToken MasterInRing))
 
