@@ -17,7 +17,7 @@ log=$(mktemp) || fail "no temporary file could be made"
 trap 'rm -f "$log"' EXIT
 
 # All that rt ci prints goes on at once but for its last line, which is kept back.
-rt ci 2>&1 | tee "$log" | head -n -1
+rt ci 2>&1 | tee "$log" | awk 'NR > 1 { print line; fflush() } { line = $0 }'
 status=${PIPESTATUS[0]}
 verdict=$(tail -n 1 "$log")
 [ "$status" -eq 0 ] || { echo "$verdict"; fail "rt ci ended with status $status"; }
