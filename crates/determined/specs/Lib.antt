@@ -7,3 +7,8 @@ pub mod Fields
 pub mod Telegrams
 pub mod Records
 pub mod Answers
+pub mod Station
+pub mod Holding
+pub mod Listening
+pub mod Passing
+pub mod Polling

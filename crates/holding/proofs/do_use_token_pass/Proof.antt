@@ -1,0 +1,13 @@
+use borrow.Author.Needs.{needs}
+use Rattle.holding.specs.Holding.{usePassOf}
+use Rattle.holding.proofs.do_use_token_pass.Statement.{statement}
+use Rattle.holding.proofs.do_use_token_pass.Tie as tie
+
+pub do-use-token-pass-spec : {M : Type 1} → statement M
+unfolding usePassOf
+do-use-token-pass-spec =
+    tie.close
+    (tie.spec
+    (λ c κs. search needs)
+    (λ c κs. search needs)
+    (λ c. simp (← c .before .transition-pass-token .ensures, ← c .done .ensures)))

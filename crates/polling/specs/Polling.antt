@@ -1,0 +1,122 @@
+-- The public calls, in the order of active.rs. `bytes` is the poll record, n the number of applications, count that of telegrams.
+use Prim.Native.Nat.{ℕ}
+use mathlib.Core.Bool.{Bool, true, false, cond}
+use mathlib.Core.List.{List}
+use lib.Dec.{eqb}
+use Rattle.bit_times.specs.declared.Micros.{Micros}
+use Rattle.settings.specs.declared.Parameters.{Parameters}
+use Rattle.ring.specs.declared.Ring.{Ring}
+use Rattle.ring.specs.Ring.{nextOf, freshOf}
+use Rattle.records.specs.declared.Head.{Head}
+use Rattle.records.specs.Records.{headOf, recordRefusal}
+use Rattle.answers.specs.declared.Outcome.the-variants as outcome
+use Rattle.answers.specs.declared.Answer.{Answer}
+use Rattle.answers.specs.Answers.{refusedOf}
+use Rattle.station.specs.declared.State.{State}
+use Rattle.station.specs.declared.State.the-variants.{Offline, ListenToken, ActiveIdle, UseToken, ClaimToken, AwaitDataResponse, PassToken, CheckTokenPass, AwaitStatusResponse}
+use Rattle.station.specs.declared.Core.{Core}
+use Rattle.station.specs.declared.Station.{Station}
+use Rattle.station.specs.declared.RingStep.{RingStep}
+use Rattle.station.specs.Parts.{withActivity, withOnline, stateNumber, freshCore}
+use Rattle.station.specs.Steps.{toListenToken, markedAt, ongoingOf, busActivityOf, doneOf, claimTokenOf}
+use Rattle.holding.specs.Holding.{useTokenOf, awaitDataOf}
+use Rattle.listening.specs.Listening.{listenTokenOf, activeIdleOf}
+use Rattle.passing.specs.Passing.{passTokenOf, awaitStatusOf, checkTokenPassOf}
+use Rattle.polling.specs.declared.Polled.{Polled}
+
+-- poll_inner, online: from Offline the station goes to ListenToken
+unfoldable pub connectedOn : State → Core → Core
+connectedOn Offline c = toListenToken c
+connectedOn (ListenToken request collisions) c = c
+connectedOn (ActiveIdle request previous collisions) c = c
+connectedOn (UseToken held cycled) c = c
+connectedOn (ClaimToken first) c = c
+connectedOn (AwaitDataResponse address held) c = c
+connectedOn (PassToken gap attempt) c = c
+connectedOn (CheckTokenPass attempt) c = c
+connectedOn (AwaitStatusResponse address) c = c
+
+unfoldable pub connectedOf : Core → Core
+connectedOf c = connectedOn (c .state) c
+
+-- poll_inner: what the state asks for (Offline cannot be: connectedOf comes first)
+unfoldable pub dispatchOn : State → Parameters → Core → Ring → Micros → List ℕ → ℕ → ℕ → RingStep
+dispatchOn Offline p c ring now bytes n count = record { step = doneOf c outcome.Offline; ring = ring }
+dispatchOn (ListenToken request collisions) p c ring now bytes n count = listenTokenOf p c ring now request collisions bytes n count
+dispatchOn (ActiveIdle request previous collisions) p c ring now bytes n count =
+    activeIdleOf p c ring now request previous collisions bytes n count
+dispatchOn (UseToken held cycled) p c ring now bytes n count = record { step = useTokenOf p c now held cycled bytes n; ring = ring }
+dispatchOn (ClaimToken first) p c ring now bytes n count = claimTokenOf p c ring now first
+dispatchOn (AwaitDataResponse address held) p c ring now bytes n count =
+    record { step = awaitDataOf p c now address held bytes n count; ring = ring }
+dispatchOn (PassToken gap attempt) p c ring now bytes n count = passTokenOf p c ring now gap attempt
+dispatchOn (CheckTokenPass attempt) p c ring now bytes n count = checkTokenPassOf p c ring now attempt bytes n count
+dispatchOn (AwaitStatusResponse address) p c ring now bytes n count = awaitStatusOf p c ring now address bytes n count
+
+unfoldable pub dispatchOf : Parameters → Core → Ring → Micros → List ℕ → ℕ → ℕ → RingStep
+dispatchOf p c ring now bytes n count = dispatchOn (c .state) p c ring now bytes n count
+
+-- poll_inner, online: while a transmission goes on nothing is sent or consumed; else bus activity, then the state
+unfoldable pub pollOnline : Parameters → Core → Ring → Micros → Bool → ℕ → List ℕ → ℕ → ℕ → RingStep
+pollOnline p c ring now transmitting pending bytes n count =
+    cond (ongoingOf (c .«last_bus_activity») now transmitting)
+    (record { step = doneOf (withActivity c (markedAt (c .«last_bus_activity») now)) outcome.Transmission; ring = ring })
+    (dispatchOf p (busActivityOf c now pending) ring now bytes n count)
+
+-- poll_inner: a station that is not online does nothing
+unfoldable pub pollInner : Parameters → Core → Ring → Micros → Bool → ℕ → List ℕ → ℕ → ℕ → RingStep
+pollInner p c ring now transmitting pending bytes n count =
+    cond (c .online) (pollOnline p (connectedOf c) ring now transmitting pending bytes n count)
+    (record { step = doneOf c outcome.Offline; ring = ring })
+
+-- document 01: the answer of an entry that is not refused, with the state, next application and next station after it
+unfoldable pub answerOf : RingStep → Answer
+answerOf s =
+    record {
+      refusal = 0;
+      outcome = s .step .outcome;
+      state = stateNumber (s .step .core .state);
+      sent = s .step .sent;
+      consumed = s .step .consumed;
+      notice = s .step .notice;
+      «next_application» = s .step .core .«next_application»;
+      «next_station» = nextOf (s .ring);
+    }
+
+-- the station after a step, and the answer
+unfoldable pub polledOf : Parameters → ℕ → RingStep → Polled
+polledOf p n s =
+    record { station = record { core = s .step .core; «token_ring» = s .ring; p = p; applications = n }; answer = answerOf s }
+
+-- a refused entry: the station is unchanged
+unfoldable pub refusedPoll : Station → ℕ → Polled
+refusedPoll s refusal =
+    record { station = s; answer = refusedOf refusal (stateNumber (s .core .state)) (s .core .«next_application») (nextOf (s .«token_ring»)) }
+
+-- a poll whose record is not refused, by the record's first 64 bits
+unfoldable pub acceptedAfter : Station → List ℕ → Head → Polled
+acceptedAfter s bytes head =
+    polledOf (s .p) (s .applications)
+    (pollInner (s .p) (s .core) (s .«token_ring») (record { 0 = head .clock }) (head .transmitting) (head .pending) bytes (s .applications) (head .telegrams))
+
+unfoldable pub acceptedPoll : Station → List ℕ → Polled
+acceptedPoll s bytes = acceptedAfter s bytes (headOf bytes)
+
+-- poll, poll_multi
+unfoldable pub pollOf : Station → List ℕ → Polled
+pollOf s bytes =
+    cond (eqb (recordRefusal bytes (s .applications)) 0) (acceptedPoll s bytes) (refusedPoll s (recordRefusal bytes (s .applications)))
+
+-- set_online: all else stays
+unfoldable pub onlineOf : Station → Polled
+onlineOf s =
+    polledOf (s .p) (s .applications) (record { step = doneOf (withOnline (s .core) true) outcome.None; ring = s .«token_ring» })
+
+-- set_offline: a fresh station
+unfoldable pub offlineOf : Station → Polled
+offlineOf s =
+    polledOf (s .p) (s .applications) (record { step = doneOf freshCore outcome.None; ring = freshOf (s .p .address) })
+
+-- set_passive: refused with 16
+unfoldable pub passiveOf : Station → Polled
+passiveOf s = refusedPoll s 16

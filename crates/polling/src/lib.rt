@@ -1,0 +1,321 @@
+// The station's public calls besides Station::new: a poll, online, offline and passive, each with its answer. From
+// profirust's active.rs: poll_inner, set_online, set_offline, set_passive; the answer is document 01's. It leans on all of
+// the station's crates.
+ghost use mathlib.Core.Path.{_≡_};
+ghost use Prim.Native.Nat.{_<_, _^_};
+ghost use denote.Ref.{now as contents};
+ghost use Rattle.polling.specs.Polling.{connectedOf, dispatchOf, pollOnline, pollInner, answerOf, polledOf, refusedPoll, acceptedPoll, pollOf, onlineOf, offlineOf, passiveOf};
+use answers::Answer;
+use answers::Outcome;
+use bit_times::Micros;
+use ring::Ring;
+use settings::Parameters;
+use station::Core;
+use station::RingStep;
+use station::State;
+use station::Station;
+
+// What a call hands back: the station after it, and the answer.
+pub struct Polled {
+    pub station: Station,
+    pub answer: Answer,
+}
+
+// poll_inner: a station that was put online starts listening.
+fn poll_inner_connected(core: Core) -> Core
+    ensures { λ r. ⌜ r ≡ connectedOf core ⌝ }
+{
+    let state = core.state;
+    match state {
+        State::Offline => station::transition_listen_token(core),
+        State::ListenToken { .. } => core,
+        State::ActiveIdle { .. } => core,
+        State::UseToken { .. } => core,
+        State::ClaimToken { .. } => core,
+        State::AwaitDataResponse { .. } => core,
+        State::PassToken { .. } => core,
+        State::CheckTokenPass { .. } => core,
+        State::AwaitStatusResponse { .. } => core,
+    }
+}
+
+// poll_inner: what the state asks for. A station that is online is in no poll still in Offline.
+fn poll_inner_dispatch(
+    p: Parameters,
+    core: Core,
+    ring: Ring,
+    now: Micros,
+    bytes: &[u8],
+    applications: u8,
+    telegrams: u8,
+) -> RingStep
+    requires { ⌜ now .0 < 2 ^ 48 ⌝ }
+    ensures { λ r. ⌜ r ≡ dispatchOf p core ring now (contents (bytes .entry)) applications telegrams ⌝ }
+{
+    let state = core.state;
+    match state {
+        State::Offline => RingStep {
+            step: station::done(core, Outcome::Offline),
+            ring,
+        },
+        State::ListenToken {
+            status_request,
+            collision_count,
+        } => listening::do_listen_token(
+            p,
+            core,
+            ring,
+            now,
+            status_request,
+            collision_count,
+            bytes,
+            applications,
+            telegrams,
+        ),
+        State::ActiveIdle {
+            status_request,
+            new_previous_station,
+            collision_count,
+        } => listening::do_active_idle(
+            p,
+            core,
+            ring,
+            now,
+            status_request,
+            new_previous_station,
+            collision_count,
+            bytes,
+            applications,
+            telegrams,
+        ),
+        State::UseToken {
+            data,
+            first_cycle_done,
+        } => RingStep {
+            step: holding::do_use_token(p, core, now, data, first_cycle_done, bytes, applications),
+            ring,
+        },
+        State::ClaimToken { first } => station::do_claim_token(p, core, ring, now, first),
+        State::AwaitDataResponse { address, data } => RingStep {
+            step: holding::do_await_data_response(
+                p,
+                core,
+                now,
+                address,
+                data,
+                bytes,
+                applications,
+                telegrams,
+            ),
+            ring,
+        },
+        State::PassToken { do_gap, attempt } => {
+            passing::do_pass_token(p, core, ring, now, do_gap, attempt)
+        }
+        State::CheckTokenPass { attempt } => passing::do_check_token_pass(
+            p,
+            core,
+            ring,
+            now,
+            attempt,
+            bytes,
+            applications,
+            telegrams,
+        ),
+        State::AwaitStatusResponse { address } => passing::do_await_status_response(
+            p,
+            core,
+            ring,
+            now,
+            address,
+            bytes,
+            applications,
+            telegrams,
+        ),
+    }
+}
+
+// poll_inner: while a transmission goes on nothing else is done; then the bus is looked at, then the state.
+fn poll_inner_online(
+    p: Parameters,
+    core: Core,
+    ring: Ring,
+    now: Micros,
+    transmitting: bool,
+    pending: u16,
+    bytes: &[u8],
+    applications: u8,
+    telegrams: u8,
+) -> RingStep
+    requires { ⌜ now .0 < 2 ^ 48 ⌝ }
+    ensures { λ r. ⌜ r ≡ pollOnline p core ring now transmitting pending (contents (bytes .entry)) applications telegrams ⌝ }
+{
+    let activity = core.last_bus_activity;
+    if station::check_for_ongoing_transmission(activity, now, transmitting) {
+        let marked = station::mark_bus_activity(activity, now);
+        return RingStep {
+            step: station::done(station::with_activity(core, marked), Outcome::Transmission),
+            ring,
+        };
+    }
+    let checked = station::check_for_bus_activity(core, now, pending);
+    poll_inner_dispatch(p, checked, ring, now, bytes, applications, telegrams)
+}
+
+// poll_inner: a station that is not online does nothing.
+fn poll_inner(
+    p: Parameters,
+    core: Core,
+    ring: Ring,
+    now: Micros,
+    transmitting: bool,
+    pending: u16,
+    bytes: &[u8],
+    applications: u8,
+    telegrams: u8,
+) -> RingStep
+    requires { ⌜ now .0 < 2 ^ 48 ⌝ }
+    ensures { λ r. ⌜ r ≡ pollInner p core ring now transmitting pending (contents (bytes .entry)) applications telegrams ⌝ }
+{
+    if core.online {
+        return poll_inner_online(
+            p,
+            poll_inner_connected(core),
+            ring,
+            now,
+            transmitting,
+            pending,
+            bytes,
+            applications,
+            telegrams,
+        );
+    }
+    RingStep {
+        step: station::done(core, Outcome::Offline),
+        ring,
+    }
+}
+
+// The answer of an entry that is not refused.
+fn answer_of(stepped: RingStep) -> Answer
+    ensures { λ r. ⌜ r ≡ answerOf stepped ⌝ }
+{
+    let ring = stepped.ring;
+    let step = stepped.step;
+    let core = step.core;
+    let state = core.state;
+    let outcome = step.outcome;
+    let sent = step.sent;
+    let notice = step.notice;
+    Answer {
+        refusal: 0,
+        outcome,
+        state: station::state_number(state),
+        sent,
+        consumed: step.consumed,
+        notice,
+        next_application: core.next_application,
+        next_station: ring.next_station(),
+    }
+}
+
+// The station after a step, with the step's answer.
+fn poll_done(p: Parameters, applications: u8, stepped: RingStep) -> Polled
+    ensures { λ r. ⌜ r ≡ polledOf p applications stepped ⌝ }
+{
+    let step = stepped.step;
+    let core = step.core;
+    let token_ring = stepped.ring;
+    Polled {
+        station: Station {
+            core,
+            token_ring,
+            p,
+            applications,
+        },
+        answer: answer_of(stepped),
+    }
+}
+
+// A refused entry leaves the station as it was.
+fn refused(station: Station, refusal: u8) -> Polled
+    ensures { λ r. ⌜ r ≡ refusedPoll station refusal ⌝ }
+{
+    let core = station.core;
+    let state = core.state;
+    let ring = station.token_ring;
+    let answer = answers::refused(
+        refusal,
+        station::state_number(state),
+        core.next_application,
+        ring.next_station(),
+    );
+    Polled { station, answer }
+}
+
+// A poll whose record is not refused.
+fn poll_accepted(station: Station, bytes: &[u8]) -> Polled
+    ensures { λ r. ⌜ r ≡ acceptedPoll station (contents (bytes .entry)) ⌝ }
+{
+    let head = records::read_head(bytes);
+    let applications = station.applications;
+    let p = station.p;
+    let core = station.core;
+    let ring = station.token_ring;
+    let stepped = poll_inner(
+        p,
+        core,
+        ring,
+        Micros(head.clock),
+        head.transmitting,
+        head.pending,
+        bytes,
+        applications,
+        head.telegrams,
+    );
+    poll_done(p, applications, stepped)
+}
+
+// poll_multi, on a poll record. Refusals 12 to 15.
+pub fn poll(station: Station, bytes: &[u8]) -> Polled
+    ensures { λ r. ⌜ r ≡ pollOf station (contents (bytes .entry)) ⌝ }
+{
+    let refusal = records::refusal(bytes, station.applications);
+    if refusal == 0 {
+        return poll_accepted(station, bytes);
+    }
+    refused(station, refusal)
+}
+
+// set_online.
+pub fn set_online(station: Station) -> Polled
+    ensures { λ r. ⌜ r ≡ onlineOf station ⌝ }
+{
+    let core = station.core;
+    let ring = station.token_ring;
+    let p = station.p;
+    let stepped = RingStep {
+        step: station::done(station::with_online(core, true), Outcome::None),
+        ring,
+    };
+    poll_done(p, station.applications, stepped)
+}
+
+// set_offline: a fresh station with the same settings and applications.
+pub fn set_offline(station: Station) -> Polled
+    ensures { λ r. ⌜ r ≡ offlineOf station ⌝ }
+{
+    let p = station.p;
+    let stepped = RingStep {
+        step: station::done(station::fresh_core(), Outcome::None),
+        ring: Ring::fresh(p.address),
+    };
+    poll_done(p, station.applications, stepped)
+}
+
+// set_passive. Refusal 16, always.
+pub fn set_passive(station: Station) -> Polled
+    ensures { λ r. ⌜ r ≡ passiveOf station ⌝ }
+{
+    refused(station, 16)
+}

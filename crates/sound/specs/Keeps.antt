@@ -1,0 +1,153 @@
+-- What every step keeps: a sound ring with the station's own address, and a next application below the number of applications.
+use Prim.Native.Nat.{ℕ, _<_}
+use mathlib.Core.Bool.{Bool, true, false, cond}
+use mathlib.Core.Path.{_≡_, _∙_}
+use native.Mathlib.Omega.{arith}
+use lib.Dec.{ltb}
+use Rattle.bit_times.specs.declared.Micros.{Micros}
+use Rattle.settings.specs.declared.Parameters.{Parameters}
+use Rattle.ring.specs.declared.Ring.{Ring}
+use Rattle.ring.specs.Ring.{freshOf, claimOf, addOf, removeOf, witnessOf}
+use Rattle.ring.specs.Laws.{Sound, sound-fresh, sound-claim, sound-add, sound-remove, sound-witness, fresh-made, claim-own, add-own, remove-own, witness-own}
+use Rattle.answers.specs.declared.Outcome.{Outcome}
+use Rattle.answers.specs.declared.Sent.{Sent}
+use Rattle.ring.specs.declared.GapState.{GapState}
+use Rattle.station.specs.declared.Activity.{Activity}
+use Rattle.station.specs.declared.State.{State}
+use Rattle.station.specs.declared.UseTokenData.{UseTokenData}
+use Rattle.station.specs.declared.PassTokenAttempt.{PassTokenAttempt}
+use Rattle.station.specs.declared.Core.{Core}
+use Rattle.station.specs.declared.Step.{Step}
+use Rattle.station.specs.declared.RingStep.{RingStep}
+use Rattle.station.specs.Parts.{withState, withActivity, withPending, withGap, withOnline, freshCore}
+use Rattle.station.specs.Steps.{toListenToken, toActiveIdle, toUseToken, toClaimToken, toAwaitDataResponse, toPassToken, toCheckTokenPass, toAwaitStatusResponse, rxOf, busActivityOf, doneOf, transmitOf, claimNext, claimAfter, claimTokenOf, pauseOf}
+
+-- a sound ring whose own address is that of the settings
+pub record RingGood (p : Parameters) (r : Ring) : Type 0 where
+  pub sound : Sound r
+  pub own : r .own ≡ p .address
+
+-- a part whose next application is one of n
+pub record Below (n : ℕ) (c : Core) : Type 0 where
+  pub below : c .«next_application» < n
+
+-- what a step that leaves the ring alone keeps
+pub record StepGood (n : ℕ) (s : Step) : Type 0 where
+  pub step-core : Below n (s .core)
+
+-- what a step keeps
+pub record Good (p : Parameters) (n : ℕ) (s : RingStep) : Type 0 where
+  pub good-step : StepGood n (s .step)
+  pub good-ring : RingGood p (s .ring)
+
+-- a choice keeps what both of its ways keep
+pub either : {A : Type 0} (P : A → Type 0) (b : Bool) (x y : A) → P x → P y → P (cond b x y)
+either P true x y px py = px
+either P false x y px py = py
+
+-- a station's ring, by the calls of ring
+pub fresh-good : (p : Parameters) → p .address < 126 → RingGood p (freshOf (p .address))
+fresh-good p l = record { sound = sound-fresh (p .address) l; own = fresh-made (p .address) .own-is }
+
+pub again-good : (p : Parameters) (r : Ring) → RingGood p r → RingGood p (freshOf (p .address))
+again-good p r g = fresh-good p (rw (g .own) at (g .sound .own-low))
+
+pub claim-good : (p : Parameters) (r : Ring) → RingGood p r → RingGood p (claimOf r)
+claim-good p r g = record { sound = sound-claim r (g .sound); own = claim-own r ∙ g .own }
+
+pub add-good : (p : Parameters) (r : Ring) (a : ℕ) → RingGood p r → RingGood p (addOf r a)
+add-good p r a g = record { sound = sound-add r a (g .sound); own = add-own r a ∙ g .own }
+
+pub remove-good : (p : Parameters) (r : Ring) (a : ℕ) → RingGood p r → RingGood p (removeOf r a)
+remove-good p r a g = record { sound = sound-remove r a (g .sound); own = remove-own r a ∙ g .own }
+
+pub witness-good : (p : Parameters) (r : Ring) (s d : ℕ) → RingGood p r → RingGood p (witnessOf r s d)
+witness-good p r s d g = record { sound = sound-witness r s d (g .sound); own = witness-own r s d ∙ g .own }
+
+-- parts of the station that are not the next application
+pub waited-good : (n : ℕ) (c : Core) (a : Activity) → Below n c → Below n (withActivity c a)
+unfolding withActivity
+waited-good n c a b = record { below = b .below }
+
+pub state-good : (n : ℕ) (c : Core) (s : State) → Below n c → Below n (withState c s)
+unfolding withState
+state-good n c s b = record { below = b .below }
+
+pub gap-good : (n : ℕ) (c : Core) (s : GapState) → Below n c → Below n (withGap c s)
+unfolding withGap
+gap-good n c s b = record { below = b .below }
+
+pub online-good : (n : ℕ) (c : Core) (on : Bool) → Below n c → Below n (withOnline c on)
+unfolding withOnline
+online-good n c on b = record { below = b .below }
+
+pub rx-good : (n : ℕ) (c : Core) (now : Micros) → Below n c → Below n (rxOf c now)
+unfolding rxOf withActivity withPending
+rx-good n c now b = record { below = b .below }
+
+-- transitions
+pub listen-good : (n : ℕ) (c : Core) → Below n c → Below n (toListenToken c)
+unfolding toListenToken
+listen-good n c b = state-good n c _ b
+
+pub idle-good : (n : ℕ) (c : Core) → Below n c → Below n (toActiveIdle c)
+unfolding toActiveIdle
+idle-good n c b = state-good n c _ b
+
+pub use-good : (n : ℕ) (c : Core) (held : UseTokenData) → Below n c → Below n (toUseToken c held)
+unfolding toUseToken
+use-good n c held b = state-good n c _ b
+
+pub claiming-good : (n : ℕ) (c : Core) → Below n c → Below n (toClaimToken c)
+unfolding toClaimToken
+claiming-good n c b = state-good n c _ b
+
+pub await-data-good : (n : ℕ) (c : Core) (a : ℕ) (held : UseTokenData) → Below n c → Below n (toAwaitDataResponse c a held)
+unfolding toAwaitDataResponse
+await-data-good n c a held b = state-good n c _ b
+
+pub pass-good : (n : ℕ) (c : Core) (gap : Bool) (k : PassTokenAttempt) → Below n c → Below n (toPassToken c gap k)
+unfolding toPassToken
+pass-good n c gap k b = state-good n c _ b
+
+pub check-good : (n : ℕ) (c : Core) (k : PassTokenAttempt) → Below n c → Below n (toCheckTokenPass c k)
+unfolding toCheckTokenPass
+check-good n c k b = state-good n c _ b
+
+pub await-status-good : (n : ℕ) (c : Core) (a : ℕ) → Below n c → Below n (toAwaitStatusResponse c a)
+unfolding toAwaitStatusResponse
+await-status-good n c a b = state-good n c _ b
+
+-- a fresh station asks its first application next
+pub fresh-core-good : (n : ℕ) → 0 < n → Below n freshCore
+unfolding freshCore
+fresh-core-good n l = record { below = l }
+
+pub again-core-good : (n : ℕ) (c : Core) → Below n c → Below n freshCore
+again-core-good n c b = fresh-core-good n (omega (arith, b .below))
+
+-- a step that sends, and one that does not
+pub done-good : (n : ℕ) (c : Core) (o : Outcome) → Below n c → StepGood n (doneOf c o)
+unfolding doneOf
+done-good n c o b = record { step-core = b }
+
+pub transmit-good : (p : Parameters) (n : ℕ) (c : Core) (now : Micros) (bytes : ℕ) (x : Sent) → Below n c → StepGood n (transmitOf p c now bytes x)
+unfolding transmitOf withActivity
+transmit-good p n c now bytes x b = record { step-core = record { below = b .below } }
+
+-- bus activity
+pub bus-good : (n : ℕ) (c : Core) (now : Micros) (pending : ℕ) → Below n c → Below n (busActivityOf c now pending)
+unfolding busActivityOf withActivity withPending
+bus-good n c now pending b = either (Below n) (ltb (c .«pending_bytes») pending) _ _ (record { below = b .below }) b
+
+-- do_claim_token
+claim-next-good : (n : ℕ) (c : Core) (now : Micros) (first : Bool) → Below n c → Below n (claimNext c now first)
+unfolding claimNext toUseToken withState
+claim-next-good n c now first b = either (Below n) (first) _ _ (record { below = b .below }) (record { below = b .below })
+
+pub claim-token-good : (p : Parameters) (n : ℕ) (c : Core) (r : Ring) (now : Micros) (first : Bool) → Below n c → RingGood p r → Good p n (claimTokenOf p c r now first)
+unfolding claimTokenOf claimAfter
+claim-token-good p n c r now first b g =
+    either (Good p n) (pauseOf p (c .«last_bus_activity») now .over) _ _
+    (record { good-step = transmit-good p n _ now 3 _ (claim-next-good n _ now first (waited-good n c _ b)); good-ring = claim-good p r g })
+    (record { good-step = done-good n _ _ (waited-good n c _ b); good-ring = g })

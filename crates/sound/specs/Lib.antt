@@ -1,0 +1,6 @@
+-- What a sound station is and what keeps it so, a file for each crate; the theorem is in Sound.
+pub mod Keeps
+pub mod Holding
+pub mod Listening
+pub mod Passing
+pub mod Sound

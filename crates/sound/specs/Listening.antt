@@ -1,0 +1,211 @@
+-- What the steps of listening keep.
+use Prim.Native.Nat.{ℕ, zero, suc}
+use mathlib.Core.Bool.{Bool, true, false}
+use mathlib.Core.List.{List}
+use lib.Dec.{eqb}
+use Rattle.bit_times.specs.declared.Micros.{Micros}
+use Rattle.settings.specs.declared.Parameters.{Parameters}
+use Rattle.ring.specs.declared.Ring.{Ring}
+use Rattle.ring.specs.Ring.{prevOf}
+use Rattle.telegrams.specs.declared.Telegram.{Telegram}
+use Rattle.telegrams.specs.declared.Telegram.the-variants as telegram
+use Rattle.answers.specs.declared.Outcome.{Outcome}
+use Rattle.station.specs.declared.OptionAddress.{OptionAddress}
+use Rattle.station.specs.declared.OptionAddress.the-variants as address
+use Rattle.station.specs.declared.State.{State}
+use Rattle.station.specs.declared.State.the-variants.{Offline, ListenToken, ActiveIdle, UseToken, ClaimToken, AwaitDataResponse, PassToken, CheckTokenPass, AwaitStatusResponse}
+use Rattle.station.specs.declared.Core.{Core}
+use Rattle.station.specs.declared.Waited.{Waited}
+use Rattle.listening.specs.declared.Heard.{Heard}
+use Rattle.listening.specs.Listening.{remembers, heardOf, lostTokenOf, listenAnswered, listenResponseAfter, listenResponse, collided, listened, listenHeard, listenTelegramOn, listenTelegram, activeCollided, acceptedOf, tokenToUs, tokenWitnessed, tokenHeard, activeRequested, activeHeard, handleTelegramOn, handleTelegram, heardTelegram, heardAll, receivedAll, consumedAll, listenTokenOn, listenTokenAfter, listenTokenOf, activeResponseAfter, activeResponse, activeIdleOn, activeIdleAfter, activeIdleOf}
+use Rattle.sound.specs.Keeps.{RingGood, Below, Good, either, again-good, witness-good, waited-good, state-good, rx-good, listen-good, idle-good, use-good, claiming-good, again-core-good, done-good, transmit-good, claim-token-good}
+
+-- what the telegrams of a poll keep
+pub record HeardGood (p : Parameters) (n : ℕ) (h : Heard) : Type 0 where
+  pub heard-core : Below n (h .core)
+  pub heard-ring : RingGood p (h .ring)
+
+heard-good : (p : Parameters) (n : ℕ) (c : Core) (r : Ring) (o : Outcome) → Below n c → RingGood p r → HeardGood p n (heardOf c r o)
+unfolding heardOf
+heard-good p n c r o b g = record { heard-core = b; heard-ring = g }
+
+lost-good : (p : Parameters) (n : ℕ) (c : Core) (r : Ring) (now : Micros) → Below n c → RingGood p r → Good p n (lostTokenOf p c r now)
+unfolding lostTokenOf
+lost-good p n c r now b g = claim-token-good p n _ r now true (claiming-good n c b) g
+
+-- do_listen_token
+answered-good : (n : ℕ) (c : Core) (r : Ring) (k : ℕ) → Below n c → Below n (listenAnswered c r k)
+unfolding listenAnswered
+answered-good n c r k b = either (Below n) (r .ready) _ _ (idle-good n c b) (state-good n c _ b)
+
+response-after-good : (p : Parameters) (n : ℕ) (c : Core) (r : Ring) (now : Micros) (source k : ℕ) (w : Waited) → Below n c → RingGood p r → Good p n (listenResponseAfter p c r now source k w)
+unfolding listenResponseAfter
+response-after-good p n c r now source k w b g =
+    let q = waited-good n c _ b in
+    either (Good p n) (w .over) _ _
+    (record { good-step = transmit-good p n _ now 6 _ (answered-good n _ r k q); good-ring = g })
+    (record { good-step = done-good n _ _ q; good-ring = g })
+
+response-good : (p : Parameters) (n : ℕ) (c : Core) (r : Ring) (now : Micros) (source k : ℕ) → Below n c → RingGood p r → Good p n (listenResponse p c r now source k)
+unfolding listenResponse
+response-good p n c r now source k b g = response-after-good p n c r now source k _ b g
+
+collided-good : (p : Parameters) (n : ℕ) (c : Core) (r : Ring) (q : OptionAddress) (k : ℕ) → Below n c → RingGood p r → HeardGood p n (collided p c r q k)
+unfolding collided
+collided-good p n c r q k b g =
+    either (HeardGood p n) (eqb k 0) _ _ (heard-good p n _ r _ (state-good n c _ b) g) (heard-good p n _ _ _ (again-core-good n c b) (again-good p r g))
+
+listened-good : (p : Parameters) (n : ℕ) (c : Core) (r : Ring) (source k : ℕ) (noted : Bool) → Below n c → RingGood p r → HeardGood p n (listened c r source k noted)
+unfolding listened
+listened-good p n c r source k noted b g =
+    either (HeardGood p n) noted _ _ (heard-good p n _ r _ (state-good n c _ b) g) (heard-good p n c r _ b g)
+
+listen-heard-good : (p : Parameters) (n : ℕ) (c : Core) (r : Ring) (q : OptionAddress) (k : ℕ) (t : Telegram) (last : Bool) → Below n c → RingGood p r → HeardGood p n (listenHeard p c r q k t last)
+unfolding listenHeard
+listen-heard-good p n c r q k (telegram.Token destination source) last b g =
+    either (HeardGood p n) (eqb source (p .address)) _ _ (collided-good p n c r q k b g) (heard-good p n c _ _ b (witness-good p r source destination g))
+listen-heard-good p n c r q k telegram.ShortConfirmation last b g = heard-good p n c r _ b g
+listen-heard-good p n c r q k (telegram.Request destination source asks) last b g =
+    either (HeardGood p n) (eqb source (p .address)) _ _ (collided-good p n c r q k b g) (listened-good p n c r source k _ b g)
+listen-heard-good p n c r q k (telegram.Response destination source state status) last b g =
+    either (HeardGood p n) (eqb source (p .address)) _ _ (collided-good p n c r q k b g) (heard-good p n c r _ b g)
+
+listen-on-good : (s : State) (p : Parameters) (n : ℕ) (c : Core) (r : Ring) (t : Telegram) (last : Bool) → Below n c → RingGood p r → HeardGood p n (listenTelegramOn s p c r t last)
+unfolding listenTelegramOn
+listen-on-good Offline p n c r t last b g = heard-good p n c r _ b g
+listen-on-good (ListenToken q k) p n c r t last b g = listen-heard-good p n c r q k t last b g
+listen-on-good (ActiveIdle q m k) p n c r t last b g = heard-good p n c r _ b g
+listen-on-good (UseToken d k) p n c r t last b g = heard-good p n c r _ b g
+listen-on-good (ClaimToken f) p n c r t last b g = heard-good p n c r _ b g
+listen-on-good (AwaitDataResponse a d) p n c r t last b g = heard-good p n c r _ b g
+listen-on-good (PassToken x a) p n c r t last b g = heard-good p n c r _ b g
+listen-on-good (CheckTokenPass a) p n c r t last b g = heard-good p n c r _ b g
+listen-on-good (AwaitStatusResponse a) p n c r t last b g = heard-good p n c r _ b g
+
+listen-telegram-good : (p : Parameters) (n : ℕ) (c : Core) (r : Ring) (t : Telegram) (last : Bool) → Below n c → RingGood p r → HeardGood p n (listenTelegram p c r t last)
+unfolding listenTelegram
+listen-telegram-good p n c r t last b g = listen-on-good (c .state) p n c r t last b g
+
+-- handle_telegram
+active-collided-good : (p : Parameters) (n : ℕ) (c : Core) (r : Ring) (q m : OptionAddress) (k : ℕ) → Below n c → RingGood p r → HeardGood p n (activeCollided c r q m k)
+unfolding activeCollided
+active-collided-good p n c r q m k b g =
+    either (HeardGood p n) (eqb k 0) _ _ (heard-good p n _ r _ (state-good n c _ b) g) (heard-good p n _ r _ (listen-good n c b) g)
+
+accepted-good : (p : Parameters) (n : ℕ) (c : Core) (r : Ring) (now : Micros) → Below n c → RingGood p r → HeardGood p n (acceptedOf c r now)
+unfolding acceptedOf
+accepted-good p n c r now b g = heard-good p n _ r _ (use-good n c _ b) g
+
+to-us-good : (p : Parameters) (n : ℕ) (c : Core) (r : Ring) (now : Micros) (q m : OptionAddress) (d s : ℕ) → Below n c → RingGood p r → HeardGood p n (tokenToUs c r now q m d s)
+unfolding tokenToUs
+to-us-good p n c r now q m d s b g =
+    either (HeardGood p n) (eqb s (prevOf r)) _ _ (accepted-good p n c r now b g)
+    (either (HeardGood p n) (remembers m s) _ _ (accepted-good p n c _ now b (witness-good p r s d g)) (heard-good p n _ r _ (state-good n c _ b) g))
+
+witnessed-good : (p : Parameters) (n : ℕ) (c : Core) (r : Ring) (q m : OptionAddress) (d s : ℕ) → Below n c → RingGood p r → HeardGood p n (tokenWitnessed c r q m d s)
+unfolding tokenWitnessed
+witnessed-good p n c r q m d s b g = heard-good p n _ _ _ (state-good n c _ b) (witness-good p r s d g)
+
+token-good : (p : Parameters) (n : ℕ) (c : Core) (r : Ring) (now : Micros) (q m : OptionAddress) (k d s : ℕ) (last : Bool) → Below n c → RingGood p r → HeardGood p n (tokenHeard p c r now q m k d s last)
+unfolding tokenHeard
+token-good p n c r now q m k d s last b g =
+    either (HeardGood p n) (eqb s (p .address)) _ _ (active-collided-good p n c r q m k b g)
+    (either (HeardGood p n) (eqb d (p .address)) _ _
+    (either (HeardGood p n) last _ _ (to-us-good p n c r now q m d s b g) (witnessed-good p n c r q m d s b g))
+    (witnessed-good p n c r q m d s b g))
+
+requested-good : (p : Parameters) (n : ℕ) (c : Core) (r : Ring) (m : OptionAddress) (k s : ℕ) (noted : Bool) → Below n c → RingGood p r → HeardGood p n (activeRequested c r m k s noted)
+unfolding activeRequested
+requested-good p n c r m k s noted b g =
+    either (HeardGood p n) noted _ _ (heard-good p n _ r _ (state-good n c _ b) g) (heard-good p n c r _ b g)
+
+active-heard-good : (p : Parameters) (n : ℕ) (c : Core) (r : Ring) (now : Micros) (q m : OptionAddress) (k : ℕ) (t : Telegram) (last : Bool) → Below n c → RingGood p r → HeardGood p n (activeHeard p c r now q m k t last)
+unfolding activeHeard
+active-heard-good p n c r now q m k (telegram.Token destination source) last b g = token-good p n c r now q m k destination source last b g
+active-heard-good p n c r now q m k telegram.ShortConfirmation last b g = heard-good p n c r _ b g
+active-heard-good p n c r now q m k (telegram.Request destination source asks) last b g = requested-good p n c r m k source _ b g
+active-heard-good p n c r now q m k (telegram.Response destination source state status) last b g = heard-good p n c r _ b g
+
+handle-on-good : (s : State) (p : Parameters) (n : ℕ) (c : Core) (r : Ring) (now : Micros) (t : Telegram) (last : Bool) → Below n c → RingGood p r → HeardGood p n (handleTelegramOn s p c r now t last)
+unfolding handleTelegramOn
+handle-on-good Offline p n c r now t last b g = heard-good p n c r _ b g
+handle-on-good (ListenToken q k) p n c r now t last b g = heard-good p n c r _ b g
+handle-on-good (ActiveIdle q m k) p n c r now t last b g = active-heard-good p n c r now q m k t last b g
+handle-on-good (UseToken d k) p n c r now t last b g = heard-good p n c r _ b g
+handle-on-good (ClaimToken f) p n c r now t last b g = heard-good p n c r _ b g
+handle-on-good (AwaitDataResponse a d) p n c r now t last b g = heard-good p n c r _ b g
+handle-on-good (PassToken x a) p n c r now t last b g = heard-good p n c r _ b g
+handle-on-good (CheckTokenPass a) p n c r now t last b g = heard-good p n c r _ b g
+handle-on-good (AwaitStatusResponse a) p n c r now t last b g = heard-good p n c r _ b g
+
+handle-good : (p : Parameters) (n : ℕ) (c : Core) (r : Ring) (now : Micros) (t : Telegram) (last : Bool) → Below n c → RingGood p r → HeardGood p n (handleTelegram p c r now t last)
+unfolding handleTelegram
+handle-good p n c r now t last b g = handle-on-good (c .state) p n c r now t last b g
+
+-- receive_all_telegrams
+heard-telegram-good : (p : Parameters) (n : ℕ) (h : Heard) (now : Micros) (listening : Bool) (t : Telegram) (last : Bool) → HeardGood p n h → HeardGood p n (heardTelegram p h now listening t last)
+unfolding heardTelegram
+heard-telegram-good p n h now listening t last g =
+    let b = rx-good n (h .core) now (g .heard-core) in
+    either (HeardGood p n) listening _ _ (listen-telegram-good p n _ _ t last b (g .heard-ring)) (handle-good p n _ _ now t last b (g .heard-ring))
+
+heard-all-good : (p : Parameters) (n : ℕ) (h : Heard) (now : Micros) (listening : Bool) (bytes : List ℕ) (m count i : ℕ) → HeardGood p n h → HeardGood p n (heardAll p h now listening bytes m count i)
+unfolding heardAll
+heard-all-good p n h now listening bytes m count zero g = g
+heard-all-good p n h now listening bytes m count (suc i) g =
+    heard-telegram-good p n _ now listening _ _ (heard-all-good p n h now listening bytes m count i g)
+
+pub received-all-good : (p : Parameters) (n : ℕ) (c : Core) (r : Ring) (now : Micros) (listening : Bool) (bytes : List ℕ) (m count : ℕ) → Below n c → RingGood p r → HeardGood p n (receivedAll p c r now listening bytes m count)
+unfolding receivedAll
+received-all-good p n c r now listening bytes m count b g =
+    heard-all-good p n _ now listening bytes m count count (heard-good p n c r _ b g)
+
+pub consumed-good : (p : Parameters) (n : ℕ) (h : Heard) (count : ℕ) → HeardGood p n h → Good p n (consumedAll h count)
+unfolding consumedAll
+consumed-good p n h count g = record { good-step = record { step-core = g .heard-core }; good-ring = g .heard-ring }
+
+-- do_listen_token
+listen-token-on-good : (q : OptionAddress) (p : Parameters) (n : ℕ) (c : Core) (r : Ring) (now : Micros) (k : ℕ) (bytes : List ℕ) (m count : ℕ) → Below n c → RingGood p r → Good p n (listenTokenOn q p c r now k bytes m count)
+unfolding listenTokenOn
+listen-token-on-good address.None p n c r now k bytes m count b g =
+    consumed-good p n _ count (received-all-good p n c r now true bytes m count b g)
+listen-token-on-good (address.Some source) p n c r now k bytes m count b g = response-good p n c r now source k b g
+
+listen-after-good : (p : Parameters) (n : ℕ) (c : Core) (r : Ring) (now : Micros) (q : OptionAddress) (k : ℕ) (bytes : List ℕ) (m count : ℕ) (w : Waited) → Below n c → RingGood p r → Good p n (listenTokenAfter p c r now q k bytes m count w)
+unfolding listenTokenAfter
+listen-after-good p n c r now q k bytes m count w b g =
+    let x = waited-good n c _ b in
+    either (Good p n) (w .over) _ _ (lost-good p n _ r now x g) (listen-token-on-good q p n _ r now k bytes m count x g)
+
+pub listen-token-good : (p : Parameters) (n : ℕ) (c : Core) (r : Ring) (now : Micros) (q : OptionAddress) (k : ℕ) (bytes : List ℕ) (m count : ℕ) → Below n c → RingGood p r → Good p n (listenTokenOf p c r now q k bytes m count)
+unfolding listenTokenOf
+listen-token-good p n c r now q k bytes m count b g = listen-after-good p n c r now q k bytes m count _ b g
+
+-- do_active_idle
+active-after-good : (p : Parameters) (n : ℕ) (c : Core) (r : Ring) (now : Micros) (source : ℕ) (m : OptionAddress) (k : ℕ) (w : Waited) → Below n c → RingGood p r → Good p n (activeResponseAfter p c r now source m k w)
+unfolding activeResponseAfter
+active-after-good p n c r now source m k w b g =
+    let q = waited-good n c _ b in
+    either (Good p n) (w .over) _ _
+    (record { good-step = transmit-good p n _ now 6 _ (state-good n _ _ q); good-ring = g })
+    (record { good-step = done-good n _ _ q; good-ring = g })
+
+active-response-good : (p : Parameters) (n : ℕ) (c : Core) (r : Ring) (now : Micros) (source : ℕ) (m : OptionAddress) (k : ℕ) → Below n c → RingGood p r → Good p n (activeResponse p c r now source m k)
+unfolding activeResponse
+active-response-good p n c r now source m k b g = active-after-good p n c r now source m k _ b g
+
+active-on-good : (q : OptionAddress) (p : Parameters) (n : ℕ) (c : Core) (r : Ring) (now : Micros) (m : OptionAddress) (k : ℕ) (bytes : List ℕ) (a count : ℕ) → Below n c → RingGood p r → Good p n (activeIdleOn q p c r now m k bytes a count)
+unfolding activeIdleOn
+active-on-good address.None p n c r now m k bytes a count b g =
+    consumed-good p n _ count (received-all-good p n c r now false bytes a count b g)
+active-on-good (address.Some source) p n c r now m k bytes a count b g = active-response-good p n c r now source m k b g
+
+idle-after-good : (p : Parameters) (n : ℕ) (c : Core) (r : Ring) (now : Micros) (q m : OptionAddress) (k : ℕ) (bytes : List ℕ) (a count : ℕ) (w : Waited) → Below n c → RingGood p r → Good p n (activeIdleAfter p c r now q m k bytes a count w)
+unfolding activeIdleAfter
+idle-after-good p n c r now q m k bytes a count w b g =
+    let x = waited-good n c _ b in
+    either (Good p n) (w .over) _ _ (lost-good p n _ r now x g) (active-on-good q p n _ r now m k bytes a count x g)
+
+pub active-idle-good : (p : Parameters) (n : ℕ) (c : Core) (r : Ring) (now : Micros) (q m : OptionAddress) (k : ℕ) (bytes : List ℕ) (a count : ℕ) → Below n c → RingGood p r → Good p n (activeIdleOf p c r now q m k bytes a count)
+unfolding activeIdleOf
+active-idle-good p n c r now q m k bytes a count b g = idle-after-good p n c r now q m k bytes a count _ b g

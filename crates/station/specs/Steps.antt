@@ -1,0 +1,139 @@
+-- What every state leans on, in the order of active.rs: transitions, bus activity, the pause, the slot, sending, claiming.
+use Prim.Native.Nat.{ℕ, _+_, _*_}
+use mathlib.Core.Bool.{Bool, true, false, cond, _||_}
+use lib.Dec.{ltb, leb}
+use Rattle.bit_times.specs.declared.Micros.{Micros}
+use Rattle.bit_times.specs.Times.{timeOf}
+use Rattle.settings.specs.declared.Parameters.{Parameters}
+use Rattle.settings.specs.Settings.{slotTimeOf, tokenLostOf}
+use Rattle.ring.specs.declared.Ring.{Ring}
+use Rattle.ring.specs.Ring.{claimOf}
+use Rattle.answers.specs.declared.Outcome.{Outcome}
+use Rattle.answers.specs.declared.Outcome.the-variants as outcome
+use Rattle.answers.specs.declared.Sent.{Sent}
+use Rattle.answers.specs.declared.Sent.the-variants as sent
+use Rattle.answers.specs.declared.Notice.the-variants as notice
+use Rattle.station.specs.declared.OptionAddress.the-variants as address
+use Rattle.station.specs.declared.OptionApplication.the-variants as application
+use Rattle.station.specs.declared.Activity.{Activity}
+use Rattle.station.specs.declared.Activity.the-variants as activity
+use Rattle.station.specs.declared.PassTokenAttempt.{PassTokenAttempt}
+use Rattle.station.specs.declared.UseTokenData.{UseTokenData}
+use Rattle.station.specs.declared.State.{State}
+use Rattle.station.specs.declared.State.the-variants.{ListenToken, ActiveIdle, UseToken, ClaimToken, AwaitDataResponse, PassToken, CheckTokenPass, AwaitStatusResponse}
+use Rattle.station.specs.declared.Core.{Core}
+use Rattle.station.specs.declared.Waited.{Waited}
+use Rattle.station.specs.declared.Step.{Step}
+use Rattle.station.specs.declared.RingStep.{RingStep}
+use Rattle.station.specs.Parts.{withState, withActivity, withPending}
+
+-- UseTokenData::with_token_time: a new token has no first application
+unfoldable pub withTokenTime : Micros → UseTokenData
+withTokenTime now = record { «token_time» = now; «first_app» = application.None }
+
+-- State::transition_listen_token
+unfoldable pub toListenToken : Core → Core
+toListenToken c = withState c (ListenToken address.None 0)
+
+-- State::transition_active_idle: it clears request, predecessor and collisions
+unfoldable pub toActiveIdle : Core → Core
+toActiveIdle c = withState c (ActiveIdle address.None address.None 0)
+
+-- State::transition_use_token
+unfoldable pub toUseToken : Core → UseTokenData → Core
+toUseToken c held = withState c (UseToken held false)
+
+-- State::transition_claim_token
+unfoldable pub toClaimToken : Core → Core
+toClaimToken c = withState c (ClaimToken true)
+
+-- State::transition_await_data_response
+unfoldable pub toAwaitDataResponse : Core → ℕ → UseTokenData → Core
+toAwaitDataResponse c a held = withState c (AwaitDataResponse a held)
+
+-- State::transition_pass_token
+unfoldable pub toPassToken : Core → Bool → PassTokenAttempt → Core
+toPassToken c gap attempt = withState c (PassToken gap attempt)
+
+-- State::transition_check_token_pass
+unfoldable pub toCheckTokenPass : Core → PassTokenAttempt → Core
+toCheckTokenPass c attempt = withState c (CheckTokenPass attempt)
+
+-- State::transition_await_status_response
+unfoldable pub toAwaitStatusResponse : Core → ℕ → Core
+toAwaitStatusResponse c a = withState c (AwaitStatusResponse a)
+
+-- last_bus_activity.get_or_insert(now): either asked with activity unknown sets it to now first
+unfoldable pub knownAt : Activity → Micros → Micros
+knownAt activity.Unknown now = now
+knownAt (activity.At last) now = last
+
+-- document 01: now − last activity ≥ time
+unfoldable pub elapsedOf : Micros → Micros → Micros → Bool
+elapsedOf now last time = leb (last .0 + time .0) (now .0)
+
+-- mark_bus_activity: the later of the known activity and now
+unfoldable pub markedAt : Activity → Micros → Activity
+markedAt a now = cond (ltb (knownAt a now .0) (now .0)) (activity.At now) (activity.At (knownAt a now))
+
+-- check_for_ongoing_transmision: by what we know
+unfoldable pub busyOf : Activity → Micros → Bool
+busyOf activity.Unknown now = false
+busyOf (activity.At last) now = leb (now .0) (last .0)
+
+-- check_for_ongoing_transmision: by the port, or by what we know
+unfoldable pub ongoingOf : Activity → Micros → Bool → Bool
+ongoingOf a now transmitting = cond transmitting true (busyOf a now)
+
+-- the last activity, and whether a time has passed since
+abbrev pub waitedOf : Activity → Micros → Micros → Waited
+waitedOf a now time = record { last = knownAt a now; over = elapsedOf now (knownAt a now) time }
+
+-- wait_synchronization_pause: 33 bits
+unfoldable pub pauseOf : Parameters → Activity → Micros → Waited
+pauseOf p a now = waitedOf a now (timeOf (record { 0 = 33 }) (p .baudrate))
+
+-- mark_tx: sending n bytes sets last activity to now + time of 11n bits
+unfoldable pub sentAt : Parameters → Micros → ℕ → Activity
+sentAt p now bytes = activity.At (record { 0 = now .0 + timeOf (record { 0 = 11 * bytes }) (p .baudrate) .0 })
+
+-- check_for_bus_activity
+unfoldable pub busActivityOf : Core → Micros → ℕ → Core
+busActivityOf c now pending =
+    cond (ltb (c .«pending_bytes») pending) (withPending (withActivity c (markedAt (c .«last_bus_activity») now)) pending) c
+
+-- mark_rx
+unfoldable pub rxOf : Core → Micros → Core
+rxOf c now = withActivity (withPending c 0) (markedAt (c .«last_bus_activity») now)
+
+-- check_slot_expired: the slot time
+unfoldable pub slotExpiredOf : Parameters → Activity → Micros → Waited
+slotExpiredOf p a now = waitedOf a now (slotTimeOf p)
+
+-- the test of handle_lost_token: the time of slot bits × (6 + 2 × address)
+unfoldable pub tokenLostWaitOf : Parameters → Activity → Micros → Waited
+tokenLostWaitOf p a now = waitedOf a now (tokenLostOf p)
+
+-- PollDone: a step that sends, tells and consumes nothing
+unfoldable pub doneOf : Core → Outcome → Step
+doneOf c o = record { core = c; sent = sent.Nothing; notice = notice.NoNotice; outcome = o; consumed = 0 }
+
+-- a step that sends, and mark_tx
+unfoldable pub transmitOf : Parameters → Core → Micros → ℕ → Sent → Step
+transmitOf p c now bytes x =
+    record { core = withActivity c (sentAt p now bytes); sent = x; notice = notice.NoNotice; outcome = outcome.Transmission; consumed = 0 }
+
+-- do_claim_token: the token is sent once more, or is ours
+unfoldable pub claimNext : Core → Micros → Bool → Core
+claimNext c now first = cond first (withState c (ClaimToken false)) (toUseToken c (withTokenTime now))
+
+-- do_claim_token, once the pause is known
+unfoldable pub claimAfter : Parameters → Core → Ring → Micros → Bool → Waited → RingStep
+claimAfter p c ring now first pause =
+    cond (pause .over)
+    (record { step = transmitOf p (claimNext (withActivity c (activity.At (pause .last))) now first) now 3 (sent.Token (p .address)); ring = claimOf ring })
+    (record { step = doneOf (withActivity c (activity.At (pause .last))) outcome.Delay; ring = ring })
+
+-- do_claim_token
+unfoldable pub claimTokenOf : Parameters → Core → Ring → Micros → Bool → RingStep
+claimTokenOf p c ring now first = claimAfter p c ring now first (pauseOf p (c .«last_bus_activity») now)
