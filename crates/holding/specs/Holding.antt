@@ -1,6 +1,7 @@
--- The token in hand, in the order of active.rs. `bytes` is the poll record.
+-- The token in hand, in the order of active.rs. `bytes` is the poll record, n the number of applications, count that of telegrams.
+-- held (data), cycled (first_cycle_done) and address are the fields of c's state, taken out by the dispatch.
 use Prim.Native.Nat.{ℕ, zero, suc, _+_}
-use mathlib.Core.Bool.{Bool, true, false, cond, _&&_}
+use mathlib.Core.Bool.{Bool, true, false, cond}
 use mathlib.Core.List.{List}
 use lib.Dec.{ltb, eqb}
 use Rattle.bit_times.specs.declared.Micros.{Micros}
@@ -42,11 +43,12 @@ declinesOn (decision.SendExpectReply address length) = false
 unfoldable pub declinesAt : List ℕ → ℕ → ℕ → Bool → Bool
 declinesAt bytes n a high = declinesOn (decisionAt bytes n a high)
 
--- do_use_token: the token is passed on, a gap question first if one is due
+-- do_use_token: to PassToken, with the gap question and the first attempt; the pass itself is the next poll's
 unfoldable pub usePassOf : Core → Step
 usePassOf c = doneOf (toPassToken c true First) outcome.Delay
 
--- app_transmit_telegram: a telegram is sent, and a reply awaited where one is expected (one that declines is not asked to)
+-- app_transmit_telegram: a telegram is sent, and a reply awaited where one is expected. Decline cannot be here: askedOf found
+-- that this one sends; the case is filled
 unfoldable pub appTransmitOf : Parameters → Core → Micros → UseTokenData → Decision → Bool → Step
 appTransmitOf p c now held decision.Decline high = usePassOf c
 appTransmitOf p c now held (decision.Send length) high = transmitOf p c now length (sent.Application 0 (c .«next_application») high length)
@@ -58,11 +60,12 @@ unfoldable pub firstOr : OptionApplication → ℕ → ℕ
 firstOr application.None a = a
 firstOr (application.Some first) a = first
 
--- schedule_next_application: (next_application + 1) % num_apps, of one below their number
+-- schedule_next_application: for a < n this is (a + 1) % n
 unfoldable pub turnOf : ℕ → ℕ → ℕ
 turnOf a n = cond (ltb (a + 1) n) (a + 1) 0
 
--- apps_transmit_telegram: asking goes on for k turns at most; it ends where one sends, or where the cycle is completed
+-- apps_transmit_telegram: who is asked and who sends (the send itself is useAppsAfter). Asking goes on for k turns at most; it
+-- ends where one sends, or where the cycle is completed
 unfoldable pub askedFrom : ℕ → List ℕ → ℕ → ℕ → OptionApplication → Bool → Asked
 askedFrom zero bytes n a first high = record { application = a; «first_app» = first; sends = false }
 askedFrom (suc k) bytes n a first high =
@@ -92,7 +95,7 @@ holdEndOf p c token =
 unfoldable pub holdsOf : Micros → HoldEnd → Bool
 holdsOf now end = ltb (now .0 + end .less .0) (end .from .0 + end .span .0)
 
--- do_use_token: once the applications were asked, one sends or the token is passed on
+-- do_use_token with apps_transmit_telegram: once the applications were asked, one sends or the state is PassToken
 unfoldable pub useAppsAfter : Parameters → Core → Micros → UseTokenData → List ℕ → ℕ → Bool → Asked → Step
 useAppsAfter p c now held bytes n high asked =
     let kept : UseTokenData = record { «token_time» = held .«token_time»; «first_app» = asked .«first_app» } in
@@ -104,7 +107,8 @@ unfoldable pub useAppsOf : Parameters → Core → Micros → UseTokenData → L
 useAppsOf p c now held bytes n high =
     useAppsAfter p c now held bytes n high (askedOf bytes n (c .«next_application») (held .«first_app») high)
 
--- do_use_token, once the pause is known: within the hold time normal, after it high priority, once
+-- do_use_token, once the pause is known: within the hold time normal; after it one high-priority cycle, only if no cycle was
+-- begun with this token
 unfoldable pub useTokenAfter : Parameters → Core → Micros → UseTokenData → Bool → List ℕ → ℕ → Waited → Step
 useTokenAfter p c now held cycled bytes n pause =
     let waited = withActivity c (activity.At (pause .last)) in

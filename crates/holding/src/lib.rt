@@ -23,7 +23,7 @@ use station::UseTokenData;
 use telegrams::Decision;
 use telegrams::Telegram;
 
-// What asking the applications came to: the one that is asked next, the first that was asked since the token came, and
+// What asking the applications came to: the one that is asked next, the first that declined since the token came, and
 // whether the one that is asked next sends.
 pub struct Asked {
     pub application: u8,
@@ -43,7 +43,7 @@ fn declines(bytes: &[u8], applications: u8, application: u8, high: bool) -> bool
     }
 }
 
-// app_transmit_telegram, of an application that sends.
+// app_transmit_telegram, of an application that was found to send; Decline cannot be here, and its arm is filled.
 fn app_transmit_telegram(
     p: Parameters,
     core: Core,
@@ -199,7 +199,7 @@ fn holds(now: Micros, end: HoldEnd) -> bool
     false
 }
 
-// do_use_token: the token is passed on, a gap question first if one is due.
+// do_use_token: to PassToken, with the gap question and the first attempt; the pass itself is the next poll's.
 fn do_use_token_pass(core: Core) -> Step
     ensures { λ r. ⌜ r ≡ usePassOf core ⌝ }
 {
@@ -209,7 +209,7 @@ fn do_use_token_pass(core: Core) -> Step
     )
 }
 
-// do_use_token: one cycle of the applications; if none sends, the token is passed on.
+// do_use_token: one cycle of the applications; if none sends, to PassToken.
 fn do_use_token_apps(
     p: Parameters,
     core: Core,
@@ -245,7 +245,8 @@ fn do_use_token_apps(
     do_use_token_pass(used)
 }
 
-// do_use_token: within the hold time normal telegrams, after it one cycle of high priority.
+// do_use_token: within the hold time normal telegrams; after it one cycle of high priority, only if no cycle was begun
+// with this token.
 pub fn do_use_token(
     p: Parameters,
     core: Core,

@@ -1,6 +1,7 @@
 -- Listening, in the order of active.rs. `bytes` is the poll record, n the number of applications, count that of telegrams.
+-- request (status_request), previous (new_previous_station) and collisions are the fields of c's state, taken out by the dispatch.
 use Prim.Native.Nat.{ℕ, zero, suc}
-use mathlib.Core.Bool.{Bool, true, false, cond, _&&_}
+use mathlib.Core.Bool.{Bool, true, false, cond}
 use mathlib.Core.List.{List}
 use lib.Dec.{eqb}
 use Rattle.bit_times.specs.declared.Micros.{Micros}
@@ -52,6 +53,7 @@ listenResponseAfter p c ring now source collisions pause =
     (record { step = transmitOf p (listenAnswered waited ring collisions) now 6 (sent.StatusResponse source (responseState ring source)); ring = ring })
     (record { step = doneOf waited outcome.Delay; ring = ring })
 
+-- do_listen_token: the answer to a status request
 unfoldable pub listenResponse : Parameters → Core → Ring → Micros → ℕ → ℕ → RingStep
 listenResponse p c ring now source collisions =
     listenResponseAfter p c ring now source collisions (pauseOf p (c .«last_bus_activity») now)
@@ -62,7 +64,7 @@ collided p c ring request collisions =
     cond (eqb collisions 0) (heardOf (withState c (ListenToken request 1)) ring outcome.Bus)
     (heardOf freshCore (freshOf (p .address)) outcome.Bus)
 
--- a status request to us that is last of its poll
+-- a status request, to us, that is the last telegram of its poll
 unfoldable pub toUs : ℕ → ℕ → Bool → Bool → Bool
 toUs destination own asks last = cond asks (cond (eqb destination own) last false) false
 
@@ -82,7 +84,7 @@ listenHeard p c ring request collisions (telegram.Request destination source ask
 listenHeard p c ring request collisions (telegram.Response destination source state status) last =
     cond (eqb source (p .address)) (collided p c ring request collisions) (heardOf c ring outcome.Bus)
 
--- do_listen_token: one telegram; once offline by collision the rest of the poll is ignored
+-- do_listen_token: one telegram; once offline by collision the rest of the poll only marks activity, and is consumed
 unfoldable pub listenTelegramOn : State → Parameters → Core → Ring → Telegram → Bool → Heard
 listenTelegramOn Offline p c ring t last = heardOf c ring outcome.Bus
 listenTelegramOn (ListenToken request collisions) p c ring t last = listenHeard p c ring request collisions t last
@@ -94,6 +96,7 @@ listenTelegramOn (PassToken g a) p c ring t last = heardOf c ring outcome.Bus
 listenTelegramOn (CheckTokenPass a) p c ring t last = heardOf c ring outcome.Bus
 listenTelegramOn (AwaitStatusResponse a) p c ring t last = heardOf c ring outcome.Bus
 
+-- do_listen_token: one telegram, by the state
 unfoldable pub listenTelegram : Parameters → Core → Ring → Telegram → Bool → Heard
 listenTelegram p c ring t last = listenTelegramOn (c .state) p c ring t last
 
@@ -112,8 +115,8 @@ remembers (address.Some b) a = eqb b a
 unfoldable pub acceptedOf : Core → Ring → Micros → Heard
 acceptedOf c ring now = heardOf (toUseToken c (withTokenTime now)) ring outcome.Delay
 
--- handle_telegram: a token to us, last of its poll: accepted from the previous station or the remembered one, which is then
--- witnessed; from any other its sender is remembered
+-- handle_telegram: a token to us, last of its poll: accepted from the previous station or the remembered one (only the
+-- remembered one's pass is witnessed); from any other its sender is remembered
 unfoldable pub tokenToUs : Core → Ring → Micros → OptionAddress → OptionAddress → ℕ → ℕ → Heard
 tokenToUs c ring now request previous destination source =
     cond (eqb source (prevOf ring)) (acceptedOf c ring now)
@@ -149,7 +152,7 @@ activeHeard p c ring now request previous collisions (telegram.Request destinati
 activeHeard p c ring now request previous collisions (telegram.Response destination source state status) last =
     heardOf c ring outcome.Bus
 
--- handle_telegram: one telegram; once in ListenToken by collision the rest of the poll is ignored
+-- handle_telegram: one telegram; once in ListenToken by collision the rest of the poll only marks activity, and is consumed
 unfoldable pub handleTelegramOn : State → Parameters → Core → Ring → Micros → Telegram → Bool → Heard
 handleTelegramOn Offline p c ring now t last = heardOf c ring outcome.Bus
 handleTelegramOn (ListenToken r k) p c ring now t last = heardOf c ring outcome.Bus
@@ -162,16 +165,18 @@ handleTelegramOn (PassToken g a) p c ring now t last = heardOf c ring outcome.Bu
 handleTelegramOn (CheckTokenPass a) p c ring now t last = heardOf c ring outcome.Bus
 handleTelegramOn (AwaitStatusResponse a) p c ring now t last = heardOf c ring outcome.Bus
 
+-- handle_telegram: one telegram, by the state
 unfoldable pub handleTelegram : Parameters → Core → Ring → Micros → Telegram → Bool → Heard
 handleTelegram p c ring now t last = handleTelegramOn (c .state) p c ring now t last
 
--- receive_all_telegrams: each telegram marks a reception and is handled, while listening or in ActiveIdle
+-- receive_all_telegrams: each telegram marks a reception and is handled: if listening by the closure of do_listen_token, else
+-- by that of do_active_idle and do_check_token_pass
 unfoldable pub heardTelegram : Parameters → Heard → Micros → Bool → Telegram → Bool → Heard
 heardTelegram p h now listening t last =
     cond listening (listenTelegram p (rxOf (h .core) now) (h .ring) t last)
     (handleTelegram p (rxOf (h .core) now) (h .ring) now t last)
 
--- receive_all_telegrams: the first i of count telegrams; the last of them is the last pending one
+-- receive_all_telegrams: the first i of count telegrams; telegram count − 1 is the last pending one
 unfoldable pub heardAll : Parameters → Heard → Micros → Bool → List ℕ → ℕ → ℕ → ℕ → Heard
 heardAll p h now listening bytes n count zero = h
 heardAll p h now listening bytes n count (suc i) =
@@ -210,6 +215,7 @@ activeResponseAfter p c ring now source previous collisions pause =
     (record { step = transmitOf p (withState waited (ActiveIdle address.None previous collisions)) now 6 (sent.StatusResponse source MasterInRing); ring = ring })
     (record { step = doneOf waited outcome.Delay; ring = ring })
 
+-- do_active_idle: the answer to a status request
 unfoldable pub activeResponse : Parameters → Core → Ring → Micros → ℕ → OptionAddress → ℕ → RingStep
 activeResponse p c ring now source previous collisions =
     activeResponseAfter p c ring now source previous collisions (pauseOf p (c .«last_bus_activity») now)

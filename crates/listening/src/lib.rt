@@ -59,7 +59,7 @@ fn do_listen_token_state(ring: Ring, source: u8) -> ResponseState
     ResponseState::MasterNotReady
 }
 
-// do_listen_token: after the response a ready station enters the ring, whoever asked.
+// do_listen_token: after the response a ready station goes to ActiveIdle, whoever asked.
 fn do_listen_token_answered(core: Core, ring: Ring, collision_count: u8) -> Core
     ensures { λ r. ⌜ r ≡ listenAnswered core ring «collision_count» ⌝ }
 {
@@ -140,7 +140,7 @@ fn do_listen_token_collision(
     hearing(station::fresh_core(), Ring::fresh(p.address), Outcome::Bus)
 }
 
-// do_listen_token: a request to us that is last of its poll is noted.
+// do_listen_token: a status request to us that is last of its poll is noted.
 fn do_listen_token_request(
     core: Core,
     ring: Ring,
@@ -235,7 +235,7 @@ fn do_listen_token_heard(
     }
 }
 
-// do_listen_token: one telegram. Once a collision has led offline, the rest of the poll is ignored.
+// do_listen_token: one telegram. Once a collision has led offline, the rest of the poll only marks activity.
 fn do_listen_token_telegram(
     p: Parameters,
     core: Core,
@@ -318,8 +318,8 @@ fn handle_telegram_accept(core: Core, ring: Ring, now: Micros) -> Heard
     )
 }
 
-// handle_telegram: a token to us, last of its poll and not by us: from the previous station or from one seen before it
-// is accepted, from any other its sender is remembered.
+// handle_telegram: a token to us, last of its poll and not by us: from the previous station or from the remembered one
+// it is accepted, from any other its sender is remembered.
 fn handle_telegram_to_us(
     core: Core,
     ring: Ring,
@@ -431,7 +431,7 @@ fn handle_telegram_token(
     )
 }
 
-// handle_telegram: a request to us that is last of its poll is noted.
+// handle_telegram: a status request to us that is last of its poll is noted.
 fn handle_telegram_request(
     core: Core,
     ring: Ring,
@@ -506,7 +506,7 @@ fn handle_telegram_active(
     }
 }
 
-// handle_telegram: one telegram. Once a collision has led to ListenToken, the rest of the poll is ignored.
+// handle_telegram: one telegram. Once a collision has led to ListenToken, the rest of the poll only marks activity.
 fn handle_telegram(
     p: Parameters,
     core: Core,

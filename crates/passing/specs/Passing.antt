@@ -52,6 +52,7 @@ passPollOn (Waiting count) p c ring now attempt = passSend p c ring now attempt
 passPollOn (DoPoll current) p c ring now attempt =
     record { step = transmitOf p (toAwaitStatusResponse c current) now 6 (sent.StatusRequest current); ring = ring }
 
+-- do_pass_token: a gap question or the token
 unfoldable pub passPoll : Parameters → Core → Ring → Micros → PassTokenAttempt → RingStep
 passPoll p c ring now attempt = passPollOn (c .«gap_state») p c ring now attempt
 
@@ -78,7 +79,7 @@ statusRingOn MasterInRing ring address = addOf ring address
 unfoldable pub statusRing : Ring → ℕ → ResponseState → ℕ → Ring
 statusRing ring address state status = cond (eqb status 0) (statusRingOn state ring address) ring
 
--- do_await_status_response: the awaited answer: the token is passed on, its first attempt
+-- do_await_status_response: the awaited answer: to PassToken, without gap question; the pass itself is the next poll's
 unfoldable pub statusAnswered : Core → Ring → RingStep
 statusAnswered c ring =
     record { step = record { core = toPassToken c false First; sent = sent.Nothing; notice = notice.NoNotice; outcome = outcome.Delay; consumed = 1 }; ring = ring }
@@ -114,7 +115,7 @@ awaitStatusOf p c ring now address bytes n count =
     cond (ltb 0 count) (statusReceived p (rxOf c now) ring address (telegramAt bytes n 0))
     (awaitStatusAfter p c ring now (slotExpiredOf p (c .«last_bus_activity») now))
 
--- do_check_token_pass: sent again up to the third attempt, then the next station is taken out and its follower tried first
+-- do_check_token_pass: sent again up to the third attempt, then the next station is taken out and and the one behind it gets its first attempt
 unfoldable pub resendOf : Parameters → Core → Ring → Micros → PassTokenAttempt → RingStep
 resendOf p c ring now First = passTokenOf p (toPassToken c false Second) ring now false Second
 resendOf p c ring now Second = passTokenOf p (toPassToken c false Third) ring now false Third

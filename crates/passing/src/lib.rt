@@ -152,7 +152,7 @@ fn do_await_status_response_ring(ring: Ring, address: u8, state: ResponseState, 
     }
 }
 
-// do_await_status_response: the station that was asked has answered, and the token is passed on.
+// do_await_status_response: the station that was asked has answered: to PassToken, and the pass is the next poll's.
 fn do_await_status_response_answered(core: Core, ring: Ring) -> RingStep
     ensures { λ r. ⌜ r ≡ statusAnswered core ring ⌝ }
 {
@@ -168,7 +168,7 @@ fn do_await_status_response_answered(core: Core, ring: Ring) -> RingStep
     }
 }
 
-// do_await_status_response: anything else says that another station has the token.
+// do_await_status_response: anything else is unexpected.
 fn do_await_status_response_unexpected(core: Core, ring: Ring) -> RingStep
     ensures { λ r. ⌜ r ≡ statusUnexpected core ring ⌝ }
 {
@@ -308,7 +308,7 @@ fn do_check_token_pass_resend(
     }
 }
 
-// do_check_token_pass: telegrams say that the token was taken up. They are handled as in ActiveIdle.
+// do_check_token_pass: any telegram ends the check, whoever sent it. They are handled as in ActiveIdle.
 fn do_check_token_pass_received(
     p: Parameters,
     core: Core,

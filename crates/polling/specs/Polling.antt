@@ -1,4 +1,4 @@
--- The public calls, in the order of active.rs. `bytes` is the poll record, n the number of applications, count that of telegrams.
+-- The public calls: poll_inner and poll, then the commands. `bytes` is the poll record, n the number of applications, count that of telegrams.
 use Prim.Native.Nat.{ℕ}
 use mathlib.Core.Bool.{Bool, true, false, cond}
 use mathlib.Core.List.{List}
@@ -36,6 +36,7 @@ connectedOn (PassToken gap attempt) c = c
 connectedOn (CheckTokenPass attempt) c = c
 connectedOn (AwaitStatusResponse address) c = c
 
+-- poll_inner, online: by the state
 unfoldable pub connectedOf : Core → Core
 connectedOf c = connectedOn (c .state) c
 
@@ -53,6 +54,7 @@ dispatchOn (PassToken gap attempt) p c ring now bytes n count = passTokenOf p c 
 dispatchOn (CheckTokenPass attempt) p c ring now bytes n count = checkTokenPassOf p c ring now attempt bytes n count
 dispatchOn (AwaitStatusResponse address) p c ring now bytes n count = awaitStatusOf p c ring now address bytes n count
 
+-- poll_inner: by the state
 unfoldable pub dispatchOf : Parameters → Core → Ring → Micros → List ℕ → ℕ → ℕ → RingStep
 dispatchOf p c ring now bytes n count = dispatchOn (c .state) p c ring now bytes n count
 
@@ -99,6 +101,7 @@ acceptedAfter s bytes head =
     polledOf (s .p) (s .applications)
     (pollInner (s .p) (s .core) (s .«token_ring») (record { 0 = head .clock }) (head .transmitting) (head .pending) bytes (s .applications) (head .telegrams))
 
+-- a poll whose record is not refused
 unfoldable pub acceptedPoll : Station → List ℕ → Polled
 acceptedPoll s bytes = acceptedAfter s bytes (headOf bytes)
 

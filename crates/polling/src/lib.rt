@@ -39,7 +39,7 @@ fn poll_inner_connected(core: Core) -> Core
     }
 }
 
-// poll_inner: what the state asks for. A station that is online is in no poll still in Offline.
+// poll_inner: what the state asks for. Offline cannot be: poll_inner_connected comes first.
 fn poll_inner_dispatch(
     p: Parameters,
     core: Core,

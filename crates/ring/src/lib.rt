@@ -322,7 +322,7 @@ impl Ring {
         self
     }
 
-    // Ready to be taken into the ring: two whole laps seen, or the token claimed.
+    // Ready to be taken into the ring: the token came round twice with the set unchanged since, or it was claimed.
     pub fn ready_for_ring(self) -> bool
         ensures { λ r. ⌜ r ≡ self .ready ⌝ }
     {

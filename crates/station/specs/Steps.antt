@@ -1,6 +1,8 @@
--- What every state leans on, in the order of active.rs: transitions, bus activity, the pause, the slot, sending, claiming.
+-- What every state leans on, nearly in the order of active.rs: transitions, bus activity, the pause, sending, the slot; and
+-- do_claim_token, which handle_lost_token needs. transition_offline, which the Rust never calls, and transition_passive_idle are
+-- not taken.
 use Prim.Native.Nat.{ℕ, _+_, _*_}
-use mathlib.Core.Bool.{Bool, true, false, cond, _||_}
+use mathlib.Core.Bool.{Bool, true, false, cond}
 use lib.Dec.{ltb, leb}
 use Rattle.bit_times.specs.declared.Micros.{Micros}
 use Rattle.bit_times.specs.Times.{timeOf}
@@ -63,12 +65,12 @@ toCheckTokenPass c attempt = withState c (CheckTokenPass attempt)
 unfoldable pub toAwaitStatusResponse : Core → ℕ → Core
 toAwaitStatusResponse c a = withState c (AwaitStatusResponse a)
 
--- last_bus_activity.get_or_insert(now): either asked with activity unknown sets it to now first
+-- last_bus_activity.get_or_insert(now): the known activity, or now where none is known
 unfoldable pub knownAt : Activity → Micros → Micros
 knownAt activity.Unknown now = now
 knownAt (activity.At last) now = last
 
--- document 01: now − last activity ≥ time
+-- document 01: now − last activity ≥ time (not so where now lies before it)
 unfoldable pub elapsedOf : Micros → Micros → Micros → Bool
 elapsedOf now last time = leb (last .0 + time .0) (now .0)
 

@@ -23,7 +23,7 @@ pub enum OptionAddress {
     Some(u8),
 }
 
-// Option<usize>: the application that was asked first since the token came.
+// Option<usize>: the first application that declined since the token came, which is the one asked first; none before.
 pub enum OptionApplication {
     None,
     Some(u8),
@@ -339,7 +339,7 @@ pub fn with_token_time(now: Micros) -> UseTokenData
 
 // The station.
 
-// FdlActiveStation::new but for the settings and the ring: offline, with nothing known.
+// FdlActiveStation::new but for the settings and the ring, as document 01 has it: offline, nothing known, the gap waiting.
 pub fn fresh_core() -> Core
     ensures { λ r. ⌜ r ≡ freshCore ⌝ }
 {
