@@ -16,7 +16,7 @@ sed -n 's/^\([a-z_0-9]*\):.*/\1/p' crates.txt | while read -r crate; do
     for file in crates/"$crate"/specs/*.antt; do
         case $file in
         *'*'* | */Lib.antt) ;;
-        *Laws.antt | */Made.antt | */Examples.antt | */Widths.antt) laws+=("$file") ;;
+        *Laws.antt | */Made.antt | */Examples.antt | */Widths.antt | crates/sound/*) laws+=("$file") ;;
         crates/determined/specs/Claim.antt) definitions+=("$file") ;;
         crates/determined/*) laws+=("$file") ;;
         *) definitions+=("$file") ;;
