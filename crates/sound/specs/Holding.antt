@@ -1,4 +1,4 @@
--- What the steps of holding keep: the next application stays one of the applications.
+-- What the steps of holding keep: the next application stays one of the applications, and the awaited address is low.
 use Prim.Native.Nat.{ℕ, zero, suc, _+_, _<_}
 use mathlib.Core.Bool.{Bool, true, false}
 use mathlib.Core.List.{List}
@@ -21,7 +21,7 @@ use Rattle.station.specs.declared.Waited.{Waited}
 use Rattle.station.specs.Parts.{withActivity, withTokenTimes, withNextApplication}
 use Rattle.holding.specs.declared.Asked.{Asked}
 use Rattle.holding.specs.Holding.{declinesAt, firstOr, validResponse, holdsOf, turnOf, askedFrom, askedOf, appTransmitOf, usePassOf, holdEndOf, useAppsAfter, useAppsOf, useTokenAfter, useTokenTimed, useTokenOf, receivedOf, withNotice, timeoutOf, awaitDataAfter, awaitDataOf}
-use Rattle.sound.specs.Keeps.{Below, StepGood, either, waited-good, state-good, rx-good, idle-good, await-data-good, pass-good, done-good, transmit-good}
+use Rattle.sound.specs.Keeps.{ReplyLow, Below, StepGood, either, decision-low, waited-good, state-good, rx-good, idle-good, await-data-good, pass-good, done-good, transmit-good}
 
 -- what asking ends with is one of the n applications
 record AskedGood (n : ℕ) (a : Asked) : Type 0 where
@@ -44,30 +44,30 @@ use-pass-good : (n : ℕ) (c : Core) → Below n c → StepGood n (usePassOf c)
 unfolding usePassOf
 use-pass-good n c b = done-good n _ _ (pass-good n c _ _ b)
 
-app-good : (p : Parameters) (n : ℕ) (c : Core) (now : Micros) (held : UseTokenData) (d : Decision) (high : Bool) → Below n c → StepGood n (appTransmitOf p c now held d high)
+app-good : (p : Parameters) (n : ℕ) (c : Core) (now : Micros) (held : UseTokenData) (d : Decision) (high : Bool) → ReplyLow d → Below n c → StepGood n (appTransmitOf p c now held d high)
 unfolding appTransmitOf
-app-good p n c now held decision.Decline high b = use-pass-good n c b
-app-good p n c now held (decision.Send length) high b = transmit-good p n c now length _ b
-app-good p n c now held (decision.SendExpectReply address length) high b =
-    transmit-good p n _ now length _ (await-data-good n c address held b)
+app-good p n c now held decision.Decline high l b = use-pass-good n c b
+app-good p n c now held (decision.Send length) high l b = transmit-good p n c now length _ b
+app-good p n c now held (decision.SendExpectReply address length) high l b =
+    transmit-good p n _ now length _ (await-data-good n c address held l b)
 
-turned-good : (n : ℕ) (c : Core) (a : ℕ) → a < n → Below n (withNextApplication c a)
+turned-good : (n : ℕ) (c : Core) (a : ℕ) → a < n → Below n c → Below n (withNextApplication c a)
 unfolding withNextApplication
-turned-good n c a l = record { below = l }
+turned-good n c a l b = record { below = l; addressed = b .addressed; gap-addressed = b .gap-addressed }
 
-apps-after-good : (p : Parameters) (n : ℕ) (c : Core) (now : Micros) (held : UseTokenData) (bytes : List ℕ) (high : Bool) (a : Asked) → AskedGood n a → StepGood n (useAppsAfter p c now held bytes n high a)
+apps-after-good : (p : Parameters) (n : ℕ) (c : Core) (now : Micros) (held : UseTokenData) (bytes : List ℕ) (high : Bool) (a : Asked) → AskedGood n a → Below n c → StepGood n (useAppsAfter p c now held bytes n high a)
 unfolding useAppsAfter
-apps-after-good p n c now held bytes high a g =
-    let b = state-good n (withNextApplication c (a .application)) _ (turned-good n c (a .application) (g .asked)) in
-    either (StepGood n) (a .sends) _ _ (app-good p n _ now _ _ high b) (use-pass-good n _ b)
+apps-after-good p n c now held bytes high a g b =
+    let q = state-good n (withNextApplication c (a .application)) _ tt (turned-good n c (a .application) (g .asked) b) in
+    either (StepGood n) (a .sends) _ _ (app-good p n _ now _ _ high (decision-low bytes n _ high) q) (use-pass-good n _ q)
 
 apps-good : (p : Parameters) (n : ℕ) (c : Core) (now : Micros) (held : UseTokenData) (bytes : List ℕ) (high : Bool) → Below n c → StepGood n (useAppsOf p c now held bytes n high)
 unfolding useAppsOf askedOf
-apps-good p n c now held bytes high b = apps-after-good p n c now held bytes high _ (asked-good n bytes n _ _ high (b .below))
+apps-good p n c now held bytes high b = apps-after-good p n c now held bytes high _ (asked-good n bytes n _ _ high (b .below)) b
 
 hold-good : (p : Parameters) (n : ℕ) (c : Core) (token : Micros) → Below n c → Below n (holdEndOf p c token)
 unfolding holdEndOf withTokenTimes
-hold-good p n c token b = either (Below n) (eqb (c .«last_token_time» .0) (token .0)) _ _ b (record { below = b .below })
+hold-good p n c token b = either (Below n) (eqb (c .«last_token_time» .0) (token .0)) _ _ b (record { below = b .below; addressed = b .addressed; gap-addressed = b .gap-addressed })
 
 use-after-good : (p : Parameters) (n : ℕ) (c : Core) (now : Micros) (held : UseTokenData) (cycled : Bool) (bytes : List ℕ) (w : Waited) → Below n c → StepGood n (useTokenAfter p c now held cycled bytes n w)
 unfolding useTokenAfter
@@ -86,7 +86,7 @@ use-token-good p n c now held cycled bytes b = use-after-good p n _ now held cyc
 received-good : (p : Parameters) (n : ℕ) (c : Core) (now : Micros) (address : ℕ) (held : UseTokenData) (t : Telegram) → Below n c → StepGood n (receivedOf p c now address held t)
 unfolding receivedOf
 received-good p n c now address held t b =
-    either (StepGood n) (validResponse t address (p .address)) _ _ (record { step-core = state-good n _ _ (rx-good n c now b) }) (record { step-core = idle-good n _ (rx-good n c now b) })
+    either (StepGood n) (validResponse t address (p .address)) _ _ (record { step-core = state-good n _ _ tt (rx-good n c now b) }) (record { step-core = idle-good n _ (rx-good n c now b) })
 
 notice-good : (n : ℕ) (s : Step) (x : Notice) → StepGood n s → StepGood n (withNotice s x)
 unfolding withNotice
@@ -94,7 +94,7 @@ notice-good n s x g = record { step-core = g .step-core }
 
 timeout-good : (p : Parameters) (n : ℕ) (c : Core) (now : Micros) (address : ℕ) (held : UseTokenData) (bytes : List ℕ) → Below n c → StepGood n (timeoutOf p c now address held bytes n)
 unfolding timeoutOf
-timeout-good p n c now address held bytes b = notice-good n _ _ (use-token-good p n _ now held true bytes (state-good n c _ b))
+timeout-good p n c now address held bytes b = notice-good n _ _ (use-token-good p n _ now held true bytes (state-good n c _ tt b))
 
 await-after-good : (p : Parameters) (n : ℕ) (c : Core) (now : Micros) (address : ℕ) (held : UseTokenData) (bytes : List ℕ) (w : Waited) → Below n c → StepGood n (awaitDataAfter p c now address held bytes n w)
 unfolding awaitDataAfter

@@ -1,19 +1,33 @@
--- What every step keeps: a sound ring with the station's own address, and a next application below the number of applications.
-use Prim.Native.Nat.{ℕ, _<_}
+-- What every step keeps: a sound ring with the station's own address, a next application below the number of applications, and
+-- low addresses in the state and the gap state.
+use Prim.Native.Nat.{ℕ, _+_, _*_, _<_}
 use mathlib.Core.Bool.{Bool, true, false, cond}
-use mathlib.Core.Path.{_≡_, _∙_}
+use mathlib.Core.List.{List}
+use mathlib.Core.Path.{_≡_, refl, _∙_}
 use native.Mathlib.Omega.{arith}
+use lib.ListN.{length}
 use lib.Dec.{ltb}
+use Rattle.fields.specs.Fields.{bitAt}
+use Rattle.fields.specs.Widths.{field-below}
 use Rattle.bit_times.specs.declared.Micros.{Micros}
 use Rattle.settings.specs.declared.Parameters.{Parameters}
 use Rattle.ring.specs.declared.Ring.{Ring}
-use Rattle.ring.specs.Ring.{freshOf, claimOf, addOf, removeOf, witnessOf}
-use Rattle.ring.specs.Laws.{Sound, sound-fresh, sound-claim, sound-add, sound-remove, sound-witness, fresh-made, claim-own, add-own, remove-own, witness-own}
+use Rattle.ring.specs.Ring.{freshOf, claimOf, addOf, removeOf, witnessOf, gapOf}
+use Rattle.ring.specs.Laws.{Sound, sound-fresh, sound-claim, sound-add, sound-remove, sound-witness, fresh-made, claim-own, add-own, remove-own, witness-own, gap-polls}
+use Rattle.telegrams.specs.declared.Decision.{Decision}
+use Rattle.telegrams.specs.declared.Decision.the-variants as decision
+use Rattle.telegrams.specs.Words.{TelegramFits, decisionOf}
+use Rattle.telegrams.specs.Laws.{telegram-fits}
+use Rattle.records.specs.Records.{telegramWordAt, decisionAt, telegramAt}
 use Rattle.answers.specs.declared.Outcome.{Outcome}
 use Rattle.answers.specs.declared.Sent.{Sent}
 use Rattle.ring.specs.declared.GapState.{GapState}
+use Rattle.ring.specs.declared.GapState.the-variants.{Waiting, DoPoll}
 use Rattle.station.specs.declared.Activity.{Activity}
+use Rattle.station.specs.declared.OptionAddress.{OptionAddress}
+use Rattle.station.specs.declared.OptionAddress.the-variants as address
 use Rattle.station.specs.declared.State.{State}
+use Rattle.station.specs.declared.State.the-variants.{Offline, ListenToken, ActiveIdle, UseToken, ClaimToken, AwaitDataResponse, PassToken, CheckTokenPass, AwaitStatusResponse}
 use Rattle.station.specs.declared.UseTokenData.{UseTokenData}
 use Rattle.station.specs.declared.PassTokenAttempt.{PassTokenAttempt}
 use Rattle.station.specs.declared.Core.{Core}
@@ -27,9 +41,33 @@ pub record RingGood (p : Parameters) (r : Ring) : Type 0 where
   pub sound : Sound r
   pub own : r .own ≡ p .address
 
--- a part whose next application is one of n
+-- no address, or one below 128
+abbrev pub Low : OptionAddress → Type 0
+Low address.None = Unit {0}
+Low (address.Some a) = a < 128
+
+-- Each address that a state holds is below 128: who asked for the status, who may be the new previous station, and who is to answer.
+abbrev pub Addressed : State → Type 0
+Addressed Offline = Unit {0}
+Addressed (ListenToken request collisions) = Low request
+Addressed (ActiveIdle request previous collisions) = Low request × Low previous
+Addressed (UseToken held cycled) = Unit {0}
+Addressed (ClaimToken first) = Unit {0}
+Addressed (AwaitDataResponse a held) = a < 128
+Addressed (PassToken gap attempt) = Unit {0}
+Addressed (CheckTokenPass attempt) = Unit {0}
+Addressed (AwaitStatusResponse a) = a < 128
+
+-- The address that the gap state polls is that of a station, below 126.
+abbrev pub GapAddressed : GapState → Type 0
+GapAddressed (Waiting count) = Unit {0}
+GapAddressed (DoPoll a) = a < 126
+
+-- a part whose next application is one of n, and whose addresses are low
 pub record Below (n : ℕ) (c : Core) : Type 0 where
   pub below : c .«next_application» < n
+  pub addressed : Addressed (c .state)
+  pub gap-addressed : GapAddressed (c .«gap_state»)
 
 -- what a step that leaves the ring alone keeps
 pub record StepGood (n : ℕ) (s : Step) : Type 0 where
@@ -44,6 +82,34 @@ pub record Good (p : Parameters) (n : ℕ) (s : RingStep) : Type 0 where
 pub either : {A : Type 0} (P : A → Type 0) (b : Bool) (x y : A) → P x → P y → P (cond b x y)
 either P true x y px py = px
 either P false x y px py = py
+
+-- a telegram of a record has low addresses
+pub telegram-low : (bytes : List ℕ) (n j : ℕ) → TelegramFits (telegramAt bytes n j)
+unfolding telegramAt
+telegram-low bytes n j =
+    either TelegramFits (ltb (length bytes) (8 + 6 * n + 4 * j + 4)) _ _ tt (telegram-fits (telegramWordAt bytes n j))
+
+-- the address whose reply a decision expects is low
+abbrev pub ReplyLow : Decision → Type 0
+ReplyLow decision.Decline = Unit {0}
+ReplyLow (decision.Send length) = Unit {0}
+ReplyLow (decision.SendExpectReply a length) = a < 128
+
+reply-low : (w : ℕ) → ReplyLow (decisionOf w)
+unfolding decisionOf
+reply-low w = either ReplyLow (bitAt w 23) _ _ (either ReplyLow (bitAt w 22) _ _ (field-below w 15 7) tt) tt
+
+pub decision-low : (bytes : List ℕ) (n a : ℕ) (high : Bool) → ReplyLow (decisionAt bytes n a high)
+unfolding decisionAt
+decision-low bytes n a high = either ReplyLow (ltb a n) _ _ (reply-low _) tt
+
+-- the gap walk polls stations only
+pub gap-low : (r : Ring) (a hsa : ℕ) → Sound r → GapAddressed (gapOf r a hsa)
+gap-low r a hsa s = go (gapOf r a hsa) refl
+  where
+    go : (x : GapState) → gapOf r a hsa ≡ x → GapAddressed x
+    go (Waiting count) e = tt
+    go (DoPoll x) e = gap-polls r a hsa x s e .low
 
 -- a station's ring, by the calls of ring
 pub fresh-good : (p : Parameters) → p .address < 126 → RingGood p (freshOf (p .address))
@@ -64,64 +130,64 @@ remove-good p r a g = record { sound = sound-remove r a (g .sound); own = remove
 pub witness-good : (p : Parameters) (r : Ring) (s d : ℕ) → RingGood p r → RingGood p (witnessOf r s d)
 witness-good p r s d g = record { sound = sound-witness r s d (g .sound); own = witness-own r s d ∙ g .own }
 
--- parts of the station that are not the next application
+-- parts of the station that are not the next application, the state and the gap state, and these two with low addresses
 pub waited-good : (n : ℕ) (c : Core) (a : Activity) → Below n c → Below n (withActivity c a)
 unfolding withActivity
-waited-good n c a b = record { below = b .below }
+waited-good n c a b = record { below = b .below; addressed = b .addressed; gap-addressed = b .gap-addressed }
 
-pub state-good : (n : ℕ) (c : Core) (s : State) → Below n c → Below n (withState c s)
+pub state-good : (n : ℕ) (c : Core) (s : State) → Addressed s → Below n c → Below n (withState c s)
 unfolding withState
-state-good n c s b = record { below = b .below }
+state-good n c s l b = record { below = b .below; addressed = l; gap-addressed = b .gap-addressed }
 
-pub gap-good : (n : ℕ) (c : Core) (s : GapState) → Below n c → Below n (withGap c s)
+pub gap-good : (n : ℕ) (c : Core) (s : GapState) → GapAddressed s → Below n c → Below n (withGap c s)
 unfolding withGap
-gap-good n c s b = record { below = b .below }
+gap-good n c s l b = record { below = b .below; addressed = b .addressed; gap-addressed = l }
 
 pub online-good : (n : ℕ) (c : Core) (on : Bool) → Below n c → Below n (withOnline c on)
 unfolding withOnline
-online-good n c on b = record { below = b .below }
+online-good n c on b = record { below = b .below; addressed = b .addressed; gap-addressed = b .gap-addressed }
 
 pub rx-good : (n : ℕ) (c : Core) (now : Micros) → Below n c → Below n (rxOf c now)
 unfolding rxOf withActivity withPending
-rx-good n c now b = record { below = b .below }
+rx-good n c now b = record { below = b .below; addressed = b .addressed; gap-addressed = b .gap-addressed }
 
 -- transitions
 pub listen-good : (n : ℕ) (c : Core) → Below n c → Below n (toListenToken c)
 unfolding toListenToken
-listen-good n c b = state-good n c _ b
+listen-good n c b = state-good n c _ tt b
 
 pub idle-good : (n : ℕ) (c : Core) → Below n c → Below n (toActiveIdle c)
 unfolding toActiveIdle
-idle-good n c b = state-good n c _ b
+idle-good n c b = state-good n c _ (tt, tt) b
 
 pub use-good : (n : ℕ) (c : Core) (held : UseTokenData) → Below n c → Below n (toUseToken c held)
 unfolding toUseToken
-use-good n c held b = state-good n c _ b
+use-good n c held b = state-good n c _ tt b
 
 pub claiming-good : (n : ℕ) (c : Core) → Below n c → Below n (toClaimToken c)
 unfolding toClaimToken
-claiming-good n c b = state-good n c _ b
+claiming-good n c b = state-good n c _ tt b
 
-pub await-data-good : (n : ℕ) (c : Core) (a : ℕ) (held : UseTokenData) → Below n c → Below n (toAwaitDataResponse c a held)
+pub await-data-good : (n : ℕ) (c : Core) (a : ℕ) (held : UseTokenData) → a < 128 → Below n c → Below n (toAwaitDataResponse c a held)
 unfolding toAwaitDataResponse
-await-data-good n c a held b = state-good n c _ b
+await-data-good n c a held l b = state-good n c _ l b
 
 pub pass-good : (n : ℕ) (c : Core) (gap : Bool) (k : PassTokenAttempt) → Below n c → Below n (toPassToken c gap k)
 unfolding toPassToken
-pass-good n c gap k b = state-good n c _ b
+pass-good n c gap k b = state-good n c _ tt b
 
 pub check-good : (n : ℕ) (c : Core) (k : PassTokenAttempt) → Below n c → Below n (toCheckTokenPass c k)
 unfolding toCheckTokenPass
-check-good n c k b = state-good n c _ b
+check-good n c k b = state-good n c _ tt b
 
-pub await-status-good : (n : ℕ) (c : Core) (a : ℕ) → Below n c → Below n (toAwaitStatusResponse c a)
+pub await-status-good : (n : ℕ) (c : Core) (a : ℕ) → a < 128 → Below n c → Below n (toAwaitStatusResponse c a)
 unfolding toAwaitStatusResponse
-await-status-good n c a b = state-good n c _ b
+await-status-good n c a l b = state-good n c _ l b
 
--- a fresh station asks its first application next
+-- a fresh station asks its first application next, and holds no address
 pub fresh-core-good : (n : ℕ) → 0 < n → Below n freshCore
 unfolding freshCore
-fresh-core-good n l = record { below = l }
+fresh-core-good n l = record { below = l; addressed = tt; gap-addressed = tt }
 
 pub again-core-good : (n : ℕ) (c : Core) → Below n c → Below n freshCore
 again-core-good n c b = fresh-core-good n (omega (arith, b .below))
@@ -133,17 +199,17 @@ done-good n c o b = record { step-core = b }
 
 pub transmit-good : (p : Parameters) (n : ℕ) (c : Core) (now : Micros) (bytes : ℕ) (x : Sent) → Below n c → StepGood n (transmitOf p c now bytes x)
 unfolding transmitOf withActivity
-transmit-good p n c now bytes x b = record { step-core = record { below = b .below } }
+transmit-good p n c now bytes x b = record { step-core = record { below = b .below; addressed = b .addressed; gap-addressed = b .gap-addressed } }
 
 -- bus activity
 pub bus-good : (n : ℕ) (c : Core) (now : Micros) (pending : ℕ) → Below n c → Below n (busActivityOf c now pending)
 unfolding busActivityOf withActivity withPending
-bus-good n c now pending b = either (Below n) (ltb (c .«pending_bytes») pending) _ _ (record { below = b .below }) b
+bus-good n c now pending b = either (Below n) (ltb (c .«pending_bytes») pending) _ _ (record { below = b .below; addressed = b .addressed; gap-addressed = b .gap-addressed }) b
 
 -- do_claim_token
 claim-next-good : (n : ℕ) (c : Core) (now : Micros) (first : Bool) → Below n c → Below n (claimNext c now first)
-unfolding claimNext toUseToken withState
-claim-next-good n c now first b = either (Below n) (first) _ _ (record { below = b .below }) (record { below = b .below })
+unfolding claimNext
+claim-next-good n c now first b = either (Below n) first _ _ (state-good n c _ tt b) (use-good n c _ b)
 
 pub claim-token-good : (p : Parameters) (n : ℕ) (c : Core) (r : Ring) (now : Micros) (first : Bool) → Below n c → RingGood p r → Good p n (claimTokenOf p c r now first)
 unfolding claimTokenOf claimAfter

@@ -1,5 +1,5 @@
 -- What the steps of listening keep.
-use Prim.Native.Nat.{ℕ, zero, suc}
+use Prim.Native.Nat.{ℕ, zero, suc, _<_}
 use mathlib.Core.Bool.{Bool, true, false}
 use mathlib.Core.List.{List}
 use lib.Dec.{eqb}
@@ -9,6 +9,7 @@ use Rattle.ring.specs.declared.Ring.{Ring}
 use Rattle.ring.specs.Ring.{prevOf}
 use Rattle.telegrams.specs.declared.Telegram.{Telegram}
 use Rattle.telegrams.specs.declared.Telegram.the-variants as telegram
+use Rattle.telegrams.specs.Words.{TelegramFits}
 use Rattle.answers.specs.declared.Outcome.{Outcome}
 use Rattle.station.specs.declared.OptionAddress.{OptionAddress}
 use Rattle.station.specs.declared.OptionAddress.the-variants as address
@@ -18,7 +19,7 @@ use Rattle.station.specs.declared.Core.{Core}
 use Rattle.station.specs.declared.Waited.{Waited}
 use Rattle.listening.specs.declared.Heard.{Heard}
 use Rattle.listening.specs.Listening.{remembers, heardOf, lostTokenOf, listenAnswered, listenResponseAfter, listenResponse, collided, listened, listenHeard, listenTelegramOn, listenTelegram, activeCollided, acceptedOf, tokenToUs, tokenWitnessed, tokenHeard, activeRequested, activeHeard, handleTelegramOn, handleTelegram, heardTelegram, heardAll, receivedAll, consumedAll, listenTokenOn, listenTokenAfter, listenTokenOf, activeResponseAfter, activeResponse, activeIdleOn, activeIdleAfter, activeIdleOf}
-use Rattle.sound.specs.Keeps.{RingGood, Below, Good, either, again-good, witness-good, waited-good, state-good, rx-good, listen-good, idle-good, use-good, claiming-good, again-core-good, done-good, transmit-good, claim-token-good}
+use Rattle.sound.specs.Keeps.{Low, Addressed, RingGood, Below, Good, either, telegram-low, again-good, witness-good, waited-good, state-good, rx-good, listen-good, idle-good, use-good, claiming-good, again-core-good, done-good, transmit-good, claim-token-good}
 
 -- what the telegrams of a poll keep
 pub record HeardGood (p : Parameters) (n : ℕ) (h : Heard) : Type 0 where
@@ -36,7 +37,7 @@ lost-good p n c r now b g = claim-token-good p n _ r now true (claiming-good n c
 -- do_listen_token
 answered-good : (n : ℕ) (c : Core) (r : Ring) (k : ℕ) → Below n c → Below n (listenAnswered c r k)
 unfolding listenAnswered
-answered-good n c r k b = either (Below n) (r .ready) _ _ (idle-good n c b) (state-good n c _ b)
+answered-good n c r k b = either (Below n) (r .ready) _ _ (idle-good n c b) (state-good n c _ tt b)
 
 response-after-good : (p : Parameters) (n : ℕ) (c : Core) (r : Ring) (now : Micros) (source k : ℕ) (w : Waited) → Below n c → RingGood p r → Good p n (listenResponseAfter p c r now source k w)
 unfolding listenResponseAfter
@@ -50,110 +51,110 @@ response-good : (p : Parameters) (n : ℕ) (c : Core) (r : Ring) (now : Micros) 
 unfolding listenResponse
 response-good p n c r now source k b g = response-after-good p n c r now source k _ b g
 
-collided-good : (p : Parameters) (n : ℕ) (c : Core) (r : Ring) (q : OptionAddress) (k : ℕ) → Below n c → RingGood p r → HeardGood p n (collided p c r q k)
+collided-good : (p : Parameters) (n : ℕ) (c : Core) (r : Ring) (q : OptionAddress) (k : ℕ) → Low q → Below n c → RingGood p r → HeardGood p n (collided p c r q k)
 unfolding collided
-collided-good p n c r q k b g =
-    either (HeardGood p n) (eqb k 0) _ _ (heard-good p n _ r _ (state-good n c _ b) g) (heard-good p n _ _ _ (again-core-good n c b) (again-good p r g))
+collided-good p n c r q k l b g =
+    either (HeardGood p n) (eqb k 0) _ _ (heard-good p n _ r _ (state-good n c _ l b) g) (heard-good p n _ _ _ (again-core-good n c b) (again-good p r g))
 
-listened-good : (p : Parameters) (n : ℕ) (c : Core) (r : Ring) (source k : ℕ) (noted : Bool) → Below n c → RingGood p r → HeardGood p n (listened c r source k noted)
+listened-good : (p : Parameters) (n : ℕ) (c : Core) (r : Ring) (source k : ℕ) (noted : Bool) → source < 128 → Below n c → RingGood p r → HeardGood p n (listened c r source k noted)
 unfolding listened
-listened-good p n c r source k noted b g =
-    either (HeardGood p n) noted _ _ (heard-good p n _ r _ (state-good n c _ b) g) (heard-good p n c r _ b g)
+listened-good p n c r source k noted l b g =
+    either (HeardGood p n) noted _ _ (heard-good p n _ r _ (state-good n c _ l b) g) (heard-good p n c r _ b g)
 
-listen-heard-good : (p : Parameters) (n : ℕ) (c : Core) (r : Ring) (q : OptionAddress) (k : ℕ) (t : Telegram) (last : Bool) → Below n c → RingGood p r → HeardGood p n (listenHeard p c r q k t last)
+listen-heard-good : (p : Parameters) (n : ℕ) (c : Core) (r : Ring) (q : OptionAddress) (k : ℕ) (t : Telegram) (last : Bool) → Low q → TelegramFits t → Below n c → RingGood p r → HeardGood p n (listenHeard p c r q k t last)
 unfolding listenHeard
-listen-heard-good p n c r q k (telegram.Token destination source) last b g =
-    either (HeardGood p n) (eqb source (p .address)) _ _ (collided-good p n c r q k b g) (heard-good p n c _ _ b (witness-good p r source destination g))
-listen-heard-good p n c r q k telegram.ShortConfirmation last b g = heard-good p n c r _ b g
-listen-heard-good p n c r q k (telegram.Request destination source asks) last b g =
-    either (HeardGood p n) (eqb source (p .address)) _ _ (collided-good p n c r q k b g) (listened-good p n c r source k _ b g)
-listen-heard-good p n c r q k (telegram.Response destination source state status) last b g =
-    either (HeardGood p n) (eqb source (p .address)) _ _ (collided-good p n c r q k b g) (heard-good p n c r _ b g)
+listen-heard-good p n c r q k (telegram.Token destination source) last l f b g =
+    either (HeardGood p n) (eqb source (p .address)) _ _ (collided-good p n c r q k l b g) (heard-good p n c _ _ b (witness-good p r source destination g))
+listen-heard-good p n c r q k telegram.ShortConfirmation last l f b g = heard-good p n c r _ b g
+listen-heard-good p n c r q k (telegram.Request destination source asks) last l f b g =
+    either (HeardGood p n) (eqb source (p .address)) _ _ (collided-good p n c r q k l b g) (listened-good p n c r source k _ (f .1) b g)
+listen-heard-good p n c r q k (telegram.Response destination source state status) last l f b g =
+    either (HeardGood p n) (eqb source (p .address)) _ _ (collided-good p n c r q k l b g) (heard-good p n c r _ b g)
 
-listen-on-good : (s : State) (p : Parameters) (n : ℕ) (c : Core) (r : Ring) (t : Telegram) (last : Bool) → Below n c → RingGood p r → HeardGood p n (listenTelegramOn s p c r t last)
+listen-on-good : (s : State) (p : Parameters) (n : ℕ) (c : Core) (r : Ring) (t : Telegram) (last : Bool) → Addressed s → TelegramFits t → Below n c → RingGood p r → HeardGood p n (listenTelegramOn s p c r t last)
 unfolding listenTelegramOn
-listen-on-good Offline p n c r t last b g = heard-good p n c r _ b g
-listen-on-good (ListenToken q k) p n c r t last b g = listen-heard-good p n c r q k t last b g
-listen-on-good (ActiveIdle q m k) p n c r t last b g = heard-good p n c r _ b g
-listen-on-good (UseToken d k) p n c r t last b g = heard-good p n c r _ b g
-listen-on-good (ClaimToken f) p n c r t last b g = heard-good p n c r _ b g
-listen-on-good (AwaitDataResponse a d) p n c r t last b g = heard-good p n c r _ b g
-listen-on-good (PassToken x a) p n c r t last b g = heard-good p n c r _ b g
-listen-on-good (CheckTokenPass a) p n c r t last b g = heard-good p n c r _ b g
-listen-on-good (AwaitStatusResponse a) p n c r t last b g = heard-good p n c r _ b g
+listen-on-good Offline p n c r t last l f b g = heard-good p n c r _ b g
+listen-on-good (ListenToken q k) p n c r t last l f b g = listen-heard-good p n c r q k t last l f b g
+listen-on-good (ActiveIdle q m k) p n c r t last l f b g = heard-good p n c r _ b g
+listen-on-good (UseToken d k) p n c r t last l f b g = heard-good p n c r _ b g
+listen-on-good (ClaimToken first) p n c r t last l f b g = heard-good p n c r _ b g
+listen-on-good (AwaitDataResponse a d) p n c r t last l f b g = heard-good p n c r _ b g
+listen-on-good (PassToken x a) p n c r t last l f b g = heard-good p n c r _ b g
+listen-on-good (CheckTokenPass a) p n c r t last l f b g = heard-good p n c r _ b g
+listen-on-good (AwaitStatusResponse a) p n c r t last l f b g = heard-good p n c r _ b g
 
-listen-telegram-good : (p : Parameters) (n : ℕ) (c : Core) (r : Ring) (t : Telegram) (last : Bool) → Below n c → RingGood p r → HeardGood p n (listenTelegram p c r t last)
+listen-telegram-good : (p : Parameters) (n : ℕ) (c : Core) (r : Ring) (t : Telegram) (last : Bool) → TelegramFits t → Below n c → RingGood p r → HeardGood p n (listenTelegram p c r t last)
 unfolding listenTelegram
-listen-telegram-good p n c r t last b g = listen-on-good (c .state) p n c r t last b g
+listen-telegram-good p n c r t last f b g = listen-on-good (c .state) p n c r t last (b .addressed) f b g
 
 -- handle_telegram
-active-collided-good : (p : Parameters) (n : ℕ) (c : Core) (r : Ring) (q m : OptionAddress) (k : ℕ) → Below n c → RingGood p r → HeardGood p n (activeCollided c r q m k)
+active-collided-good : (p : Parameters) (n : ℕ) (c : Core) (r : Ring) (q m : OptionAddress) (k : ℕ) → Low q → Low m → Below n c → RingGood p r → HeardGood p n (activeCollided c r q m k)
 unfolding activeCollided
-active-collided-good p n c r q m k b g =
-    either (HeardGood p n) (eqb k 0) _ _ (heard-good p n _ r _ (state-good n c _ b) g) (heard-good p n _ r _ (listen-good n c b) g)
+active-collided-good p n c r q m k l h b g =
+    either (HeardGood p n) (eqb k 0) _ _ (heard-good p n _ r _ (state-good n c _ (l, h) b) g) (heard-good p n _ r _ (listen-good n c b) g)
 
 accepted-good : (p : Parameters) (n : ℕ) (c : Core) (r : Ring) (now : Micros) → Below n c → RingGood p r → HeardGood p n (acceptedOf c r now)
 unfolding acceptedOf
 accepted-good p n c r now b g = heard-good p n _ r _ (use-good n c _ b) g
 
-to-us-good : (p : Parameters) (n : ℕ) (c : Core) (r : Ring) (now : Micros) (q m : OptionAddress) (d s : ℕ) → Below n c → RingGood p r → HeardGood p n (tokenToUs c r now q m d s)
+to-us-good : (p : Parameters) (n : ℕ) (c : Core) (r : Ring) (now : Micros) (q m : OptionAddress) (d s : ℕ) → Low q → s < 128 → Below n c → RingGood p r → HeardGood p n (tokenToUs c r now q m d s)
 unfolding tokenToUs
-to-us-good p n c r now q m d s b g =
+to-us-good p n c r now q m d s l f b g =
     either (HeardGood p n) (eqb s (prevOf r)) _ _ (accepted-good p n c r now b g)
-    (either (HeardGood p n) (remembers m s) _ _ (accepted-good p n c _ now b (witness-good p r s d g)) (heard-good p n _ r _ (state-good n c _ b) g))
+    (either (HeardGood p n) (remembers m s) _ _ (accepted-good p n c _ now b (witness-good p r s d g)) (heard-good p n _ r _ (state-good n c _ (l, f) b) g))
 
-witnessed-good : (p : Parameters) (n : ℕ) (c : Core) (r : Ring) (q m : OptionAddress) (d s : ℕ) → Below n c → RingGood p r → HeardGood p n (tokenWitnessed c r q m d s)
+witnessed-good : (p : Parameters) (n : ℕ) (c : Core) (r : Ring) (q m : OptionAddress) (d s : ℕ) → Low q → Low m → Below n c → RingGood p r → HeardGood p n (tokenWitnessed c r q m d s)
 unfolding tokenWitnessed
-witnessed-good p n c r q m d s b g = heard-good p n _ _ _ (state-good n c _ b) (witness-good p r s d g)
+witnessed-good p n c r q m d s l h b g = heard-good p n _ _ _ (state-good n c _ (l, h) b) (witness-good p r s d g)
 
-token-good : (p : Parameters) (n : ℕ) (c : Core) (r : Ring) (now : Micros) (q m : OptionAddress) (k d s : ℕ) (last : Bool) → Below n c → RingGood p r → HeardGood p n (tokenHeard p c r now q m k d s last)
+token-good : (p : Parameters) (n : ℕ) (c : Core) (r : Ring) (now : Micros) (q m : OptionAddress) (k d s : ℕ) (last : Bool) → Low q → Low m → s < 128 → Below n c → RingGood p r → HeardGood p n (tokenHeard p c r now q m k d s last)
 unfolding tokenHeard
-token-good p n c r now q m k d s last b g =
-    either (HeardGood p n) (eqb s (p .address)) _ _ (active-collided-good p n c r q m k b g)
+token-good p n c r now q m k d s last l h f b g =
+    either (HeardGood p n) (eqb s (p .address)) _ _ (active-collided-good p n c r q m k l h b g)
     (either (HeardGood p n) (eqb d (p .address)) _ _
-    (either (HeardGood p n) last _ _ (to-us-good p n c r now q m d s b g) (witnessed-good p n c r q m d s b g))
-    (witnessed-good p n c r q m d s b g))
+    (either (HeardGood p n) last _ _ (to-us-good p n c r now q m d s l f b g) (witnessed-good p n c r q m d s l h b g))
+    (witnessed-good p n c r q m d s l h b g))
 
-requested-good : (p : Parameters) (n : ℕ) (c : Core) (r : Ring) (m : OptionAddress) (k s : ℕ) (noted : Bool) → Below n c → RingGood p r → HeardGood p n (activeRequested c r m k s noted)
+requested-good : (p : Parameters) (n : ℕ) (c : Core) (r : Ring) (m : OptionAddress) (k s : ℕ) (noted : Bool) → Low m → s < 128 → Below n c → RingGood p r → HeardGood p n (activeRequested c r m k s noted)
 unfolding activeRequested
-requested-good p n c r m k s noted b g =
-    either (HeardGood p n) noted _ _ (heard-good p n _ r _ (state-good n c _ b) g) (heard-good p n c r _ b g)
+requested-good p n c r m k s noted h f b g =
+    either (HeardGood p n) noted _ _ (heard-good p n _ r _ (state-good n c _ (f, h) b) g) (heard-good p n c r _ b g)
 
-active-heard-good : (p : Parameters) (n : ℕ) (c : Core) (r : Ring) (now : Micros) (q m : OptionAddress) (k : ℕ) (t : Telegram) (last : Bool) → Below n c → RingGood p r → HeardGood p n (activeHeard p c r now q m k t last)
+active-heard-good : (p : Parameters) (n : ℕ) (c : Core) (r : Ring) (now : Micros) (q m : OptionAddress) (k : ℕ) (t : Telegram) (last : Bool) → Low q → Low m → TelegramFits t → Below n c → RingGood p r → HeardGood p n (activeHeard p c r now q m k t last)
 unfolding activeHeard
-active-heard-good p n c r now q m k (telegram.Token destination source) last b g = token-good p n c r now q m k destination source last b g
-active-heard-good p n c r now q m k telegram.ShortConfirmation last b g = heard-good p n c r _ b g
-active-heard-good p n c r now q m k (telegram.Request destination source asks) last b g = requested-good p n c r m k source _ b g
-active-heard-good p n c r now q m k (telegram.Response destination source state status) last b g = heard-good p n c r _ b g
+active-heard-good p n c r now q m k (telegram.Token destination source) last l h f b g = token-good p n c r now q m k destination source last l h (f .1) b g
+active-heard-good p n c r now q m k telegram.ShortConfirmation last l h f b g = heard-good p n c r _ b g
+active-heard-good p n c r now q m k (telegram.Request destination source asks) last l h f b g = requested-good p n c r m k source _ h (f .1) b g
+active-heard-good p n c r now q m k (telegram.Response destination source state status) last l h f b g = heard-good p n c r _ b g
 
-handle-on-good : (s : State) (p : Parameters) (n : ℕ) (c : Core) (r : Ring) (now : Micros) (t : Telegram) (last : Bool) → Below n c → RingGood p r → HeardGood p n (handleTelegramOn s p c r now t last)
+handle-on-good : (s : State) (p : Parameters) (n : ℕ) (c : Core) (r : Ring) (now : Micros) (t : Telegram) (last : Bool) → Addressed s → TelegramFits t → Below n c → RingGood p r → HeardGood p n (handleTelegramOn s p c r now t last)
 unfolding handleTelegramOn
-handle-on-good Offline p n c r now t last b g = heard-good p n c r _ b g
-handle-on-good (ListenToken q k) p n c r now t last b g = heard-good p n c r _ b g
-handle-on-good (ActiveIdle q m k) p n c r now t last b g = active-heard-good p n c r now q m k t last b g
-handle-on-good (UseToken d k) p n c r now t last b g = heard-good p n c r _ b g
-handle-on-good (ClaimToken f) p n c r now t last b g = heard-good p n c r _ b g
-handle-on-good (AwaitDataResponse a d) p n c r now t last b g = heard-good p n c r _ b g
-handle-on-good (PassToken x a) p n c r now t last b g = heard-good p n c r _ b g
-handle-on-good (CheckTokenPass a) p n c r now t last b g = heard-good p n c r _ b g
-handle-on-good (AwaitStatusResponse a) p n c r now t last b g = heard-good p n c r _ b g
+handle-on-good Offline p n c r now t last l f b g = heard-good p n c r _ b g
+handle-on-good (ListenToken q k) p n c r now t last l f b g = heard-good p n c r _ b g
+handle-on-good (ActiveIdle q m k) p n c r now t last l f b g = active-heard-good p n c r now q m k t last (l .0) (l .1) f b g
+handle-on-good (UseToken d k) p n c r now t last l f b g = heard-good p n c r _ b g
+handle-on-good (ClaimToken first) p n c r now t last l f b g = heard-good p n c r _ b g
+handle-on-good (AwaitDataResponse a d) p n c r now t last l f b g = heard-good p n c r _ b g
+handle-on-good (PassToken x a) p n c r now t last l f b g = heard-good p n c r _ b g
+handle-on-good (CheckTokenPass a) p n c r now t last l f b g = heard-good p n c r _ b g
+handle-on-good (AwaitStatusResponse a) p n c r now t last l f b g = heard-good p n c r _ b g
 
-handle-good : (p : Parameters) (n : ℕ) (c : Core) (r : Ring) (now : Micros) (t : Telegram) (last : Bool) → Below n c → RingGood p r → HeardGood p n (handleTelegram p c r now t last)
+handle-good : (p : Parameters) (n : ℕ) (c : Core) (r : Ring) (now : Micros) (t : Telegram) (last : Bool) → TelegramFits t → Below n c → RingGood p r → HeardGood p n (handleTelegram p c r now t last)
 unfolding handleTelegram
-handle-good p n c r now t last b g = handle-on-good (c .state) p n c r now t last b g
+handle-good p n c r now t last f b g = handle-on-good (c .state) p n c r now t last (b .addressed) f b g
 
 -- receive_all_telegrams
-heard-telegram-good : (p : Parameters) (n : ℕ) (h : Heard) (now : Micros) (listening : Bool) (t : Telegram) (last : Bool) → HeardGood p n h → HeardGood p n (heardTelegram p h now listening t last)
+heard-telegram-good : (p : Parameters) (n : ℕ) (h : Heard) (now : Micros) (listening : Bool) (t : Telegram) (last : Bool) → TelegramFits t → HeardGood p n h → HeardGood p n (heardTelegram p h now listening t last)
 unfolding heardTelegram
-heard-telegram-good p n h now listening t last g =
+heard-telegram-good p n h now listening t last f g =
     let b = rx-good n (h .core) now (g .heard-core) in
-    either (HeardGood p n) listening _ _ (listen-telegram-good p n _ _ t last b (g .heard-ring)) (handle-good p n _ _ now t last b (g .heard-ring))
+    either (HeardGood p n) listening _ _ (listen-telegram-good p n _ _ t last f b (g .heard-ring)) (handle-good p n _ _ now t last f b (g .heard-ring))
 
 heard-all-good : (p : Parameters) (n : ℕ) (h : Heard) (now : Micros) (listening : Bool) (bytes : List ℕ) (m count i : ℕ) → HeardGood p n h → HeardGood p n (heardAll p h now listening bytes m count i)
 unfolding heardAll
 heard-all-good p n h now listening bytes m count zero g = g
 heard-all-good p n h now listening bytes m count (suc i) g =
-    heard-telegram-good p n _ now listening _ _ (heard-all-good p n h now listening bytes m count i g)
+    heard-telegram-good p n _ now listening _ _ (telegram-low bytes m i) (heard-all-good p n h now listening bytes m count i g)
 
 pub received-all-good : (p : Parameters) (n : ℕ) (c : Core) (r : Ring) (now : Micros) (listening : Bool) (bytes : List ℕ) (m count : ℕ) → Below n c → RingGood p r → HeardGood p n (receivedAll p c r now listening bytes m count)
 unfolding receivedAll
@@ -182,30 +183,30 @@ unfolding listenTokenOf
 listen-token-good p n c r now q k bytes m count b g = listen-after-good p n c r now q k bytes m count _ b g
 
 -- do_active_idle
-active-after-good : (p : Parameters) (n : ℕ) (c : Core) (r : Ring) (now : Micros) (source : ℕ) (m : OptionAddress) (k : ℕ) (w : Waited) → Below n c → RingGood p r → Good p n (activeResponseAfter p c r now source m k w)
+active-after-good : (p : Parameters) (n : ℕ) (c : Core) (r : Ring) (now : Micros) (source : ℕ) (m : OptionAddress) (k : ℕ) (w : Waited) → Low m → Below n c → RingGood p r → Good p n (activeResponseAfter p c r now source m k w)
 unfolding activeResponseAfter
-active-after-good p n c r now source m k w b g =
+active-after-good p n c r now source m k w l b g =
     let q = waited-good n c _ b in
     either (Good p n) (w .over) _ _
-    (record { good-step = transmit-good p n _ now 6 _ (state-good n _ _ q); good-ring = g })
+    (record { good-step = transmit-good p n _ now 6 _ (state-good n _ _ (tt, l) q); good-ring = g })
     (record { good-step = done-good n _ _ q; good-ring = g })
 
-active-response-good : (p : Parameters) (n : ℕ) (c : Core) (r : Ring) (now : Micros) (source : ℕ) (m : OptionAddress) (k : ℕ) → Below n c → RingGood p r → Good p n (activeResponse p c r now source m k)
+active-response-good : (p : Parameters) (n : ℕ) (c : Core) (r : Ring) (now : Micros) (source : ℕ) (m : OptionAddress) (k : ℕ) → Low m → Below n c → RingGood p r → Good p n (activeResponse p c r now source m k)
 unfolding activeResponse
-active-response-good p n c r now source m k b g = active-after-good p n c r now source m k _ b g
+active-response-good p n c r now source m k l b g = active-after-good p n c r now source m k _ l b g
 
-active-on-good : (q : OptionAddress) (p : Parameters) (n : ℕ) (c : Core) (r : Ring) (now : Micros) (m : OptionAddress) (k : ℕ) (bytes : List ℕ) (a count : ℕ) → Below n c → RingGood p r → Good p n (activeIdleOn q p c r now m k bytes a count)
+active-on-good : (q : OptionAddress) (p : Parameters) (n : ℕ) (c : Core) (r : Ring) (now : Micros) (m : OptionAddress) (k : ℕ) (bytes : List ℕ) (a count : ℕ) → Low m → Below n c → RingGood p r → Good p n (activeIdleOn q p c r now m k bytes a count)
 unfolding activeIdleOn
-active-on-good address.None p n c r now m k bytes a count b g =
+active-on-good address.None p n c r now m k bytes a count l b g =
     consumed-good p n _ count (received-all-good p n c r now false bytes a count b g)
-active-on-good (address.Some source) p n c r now m k bytes a count b g = active-response-good p n c r now source m k b g
+active-on-good (address.Some source) p n c r now m k bytes a count l b g = active-response-good p n c r now source m k l b g
 
-idle-after-good : (p : Parameters) (n : ℕ) (c : Core) (r : Ring) (now : Micros) (q m : OptionAddress) (k : ℕ) (bytes : List ℕ) (a count : ℕ) (w : Waited) → Below n c → RingGood p r → Good p n (activeIdleAfter p c r now q m k bytes a count w)
+idle-after-good : (p : Parameters) (n : ℕ) (c : Core) (r : Ring) (now : Micros) (q m : OptionAddress) (k : ℕ) (bytes : List ℕ) (a count : ℕ) (w : Waited) → Low m → Below n c → RingGood p r → Good p n (activeIdleAfter p c r now q m k bytes a count w)
 unfolding activeIdleAfter
-idle-after-good p n c r now q m k bytes a count w b g =
+idle-after-good p n c r now q m k bytes a count w l b g =
     let x = waited-good n c _ b in
-    either (Good p n) (w .over) _ _ (lost-good p n _ r now x g) (active-on-good q p n _ r now m k bytes a count x g)
+    either (Good p n) (w .over) _ _ (lost-good p n _ r now x g) (active-on-good q p n _ r now m k bytes a count l x g)
 
-pub active-idle-good : (p : Parameters) (n : ℕ) (c : Core) (r : Ring) (now : Micros) (q m : OptionAddress) (k : ℕ) (bytes : List ℕ) (a count : ℕ) → Below n c → RingGood p r → Good p n (activeIdleOf p c r now q m k bytes a count)
+pub active-idle-good : (p : Parameters) (n : ℕ) (c : Core) (r : Ring) (now : Micros) (q m : OptionAddress) (k : ℕ) (bytes : List ℕ) (a count : ℕ) → Low m → Below n c → RingGood p r → Good p n (activeIdleOf p c r now q m k bytes a count)
 unfolding activeIdleOf
-active-idle-good p n c r now q m k bytes a count b g = idle-after-good p n c r now q m k bytes a count _ b g
+active-idle-good p n c r now q m k bytes a count l b g = idle-after-good p n c r now q m k bytes a count _ l b g

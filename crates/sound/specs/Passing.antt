@@ -2,6 +2,7 @@
 use Prim.Native.Nat.{ℕ}
 use mathlib.Core.Bool.{Bool, false}
 use mathlib.Core.List.{List}
+use native.Mathlib.Omega.{arith}
 use lib.Dec.{ltb, eqb}
 use Rattle.bit_times.specs.declared.Micros.{Micros}
 use Rattle.settings.specs.declared.Parameters.{Parameters}
@@ -17,9 +18,15 @@ use Rattle.station.specs.declared.PassTokenAttempt.{PassTokenAttempt}
 use Rattle.station.specs.declared.PassTokenAttempt.the-variants.{First, Second, Third}
 use Rattle.station.specs.declared.Core.{Core}
 use Rattle.station.specs.declared.Waited.{Waited}
-use Rattle.passing.specs.Passing.{passSent, passSend, passPollOn, passPoll, passAfter, passTokenOf, statusRingOn, statusRing, statusAnswered, statusUnexpected, statusReceived, statusTimeout, awaitStatusAfter, awaitStatusOf, resendOf, checkReceived, checkAfter, checkTokenPassOf}
-use Rattle.sound.specs.Keeps.{RingGood, Below, Good, either, add-good, remove-good, witness-good, waited-good, gap-good, rx-good, idle-good, use-good, pass-good, check-good, await-status-good, done-good, transmit-good}
+use Rattle.passing.specs.Passing.{gapAdvanced, passSent, passSend, passPollOn, passPoll, passAfter, passTokenOf, statusRingOn, statusRing, statusAnswered, statusUnexpected, statusReceived, statusTimeout, awaitStatusAfter, awaitStatusOf, resendOf, checkReceived, checkAfter, checkTokenPassOf}
+use Rattle.sound.specs.Keeps.{GapAddressed, RingGood, Below, Good, either, gap-low, add-good, remove-good, witness-good, waited-good, gap-good, rx-good, idle-good, use-good, pass-good, check-good, await-status-good, done-good, transmit-good}
 use Rattle.sound.specs.Listening.{received-all-good, consumed-good}
+
+-- do_pass_token: the gap's turn
+advanced-good : (p : Parameters) (r : Ring) (s : GapState) → RingGood p r → GapAddressed (gapAdvanced p r s)
+unfolding gapAdvanced
+advanced-good p r (Waiting count) g = either GapAddressed (ltb (p .«gap_wait_rotations») count) _ _ (gap-low r _ _ (g .sound)) tt
+advanced-good p r (DoPoll current) g = gap-low r _ _ (g .sound)
 
 -- do_pass_token
 sent-good : (p : Parameters) (n : ℕ) (c : Core) (now : Micros) (k : PassTokenAttempt) (next : ℕ) (r : Ring) → Below n c → RingGood p r → Good p n (passSent p c now k next r)
@@ -33,22 +40,22 @@ send-good : (p : Parameters) (n : ℕ) (c : Core) (r : Ring) (now : Micros) (k :
 unfolding passSend
 send-good p n c r now k b g = sent-good p n c now k _ _ b (witness-good p r _ _ g)
 
-poll-on-good : (s : GapState) (p : Parameters) (n : ℕ) (c : Core) (r : Ring) (now : Micros) (k : PassTokenAttempt) → Below n c → RingGood p r → Good p n (passPollOn s p c r now k)
+poll-on-good : (s : GapState) (p : Parameters) (n : ℕ) (c : Core) (r : Ring) (now : Micros) (k : PassTokenAttempt) → GapAddressed s → Below n c → RingGood p r → Good p n (passPollOn s p c r now k)
 unfolding passPollOn
-poll-on-good (Waiting count) p n c r now k b g = send-good p n c r now k b g
-poll-on-good (DoPoll current) p n c r now k b g =
-    record { good-step = transmit-good p n _ now 6 _ (await-status-good n c current b); good-ring = g }
+poll-on-good (Waiting count) p n c r now k l b g = send-good p n c r now k b g
+poll-on-good (DoPoll current) p n c r now k l b g =
+    record { good-step = transmit-good p n _ now 6 _ (await-status-good n c current (omega arith) b); good-ring = g }
 
 poll-good : (p : Parameters) (n : ℕ) (c : Core) (r : Ring) (now : Micros) (k : PassTokenAttempt) → Below n c → RingGood p r → Good p n (passPoll p c r now k)
 unfolding passPoll
-poll-good p n c r now k b g = poll-on-good (c .«gap_state») p n c r now k b g
+poll-good p n c r now k b g = poll-on-good (c .«gap_state») p n c r now k (b .gap-addressed) b g
 
 after-good : (p : Parameters) (n : ℕ) (c : Core) (r : Ring) (now : Micros) (gap : Bool) (k : PassTokenAttempt) (w : Waited) → Below n c → RingGood p r → Good p n (passAfter p c r now gap k w)
 unfolding passAfter
 after-good p n c r now gap k w b g =
     let q = waited-good n c _ b in
     either (Good p n) (w .over) _ _
-    (either (Good p n) gap _ _ (poll-good p n _ r now k (gap-good n _ _ q) g) (send-good p n _ r now k q g))
+    (either (Good p n) gap _ _ (poll-good p n _ r now k (gap-good n _ _ (advanced-good p r (c .«gap_state») g) q) g) (send-good p n _ r now k q g))
     (record { good-step = done-good n _ _ q; good-ring = g })
 
 pub pass-token-good : (p : Parameters) (n : ℕ) (c : Core) (r : Ring) (now : Micros) (gap : Bool) (k : PassTokenAttempt) → Below n c → RingGood p r → Good p n (passTokenOf p c r now gap k)

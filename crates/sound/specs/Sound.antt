@@ -23,19 +23,21 @@ use Rattle.station.specs.Parts.{freshStation, newOf}
 use Rattle.station.specs.Steps.{ongoingOf}
 use Rattle.polling.specs.declared.Polled.{Polled}
 use Rattle.polling.specs.Polling.{connectedOn, connectedOf, dispatchOn, dispatchOf, pollOnline, pollInner, polledOf, refusedPoll, acceptedAfter, acceptedPoll, pollOf, onlineOf, offlineOf, passiveOf}
-use Rattle.sound.specs.Keeps.{RingGood, Below, Good, either, fresh-good, again-good, waited-good, online-good, listen-good, fresh-core-good, again-core-good, done-good, bus-good, claim-token-good}
+use Rattle.sound.specs.Keeps.{Addressed, GapAddressed, RingGood, Below, Good, either, fresh-good, again-good, waited-good, online-good, listen-good, fresh-core-good, again-core-good, done-good, bus-good, claim-token-good}
 use Rattle.sound.specs.Holding.{use-token-good, await-data-step-good}
 use Rattle.sound.specs.Listening.{listen-token-good, active-idle-good}
 use Rattle.sound.specs.Passing.{pass-token-good, await-status-step-good, check-token-good}
 
--- A sound station: its ring is sound and has the settings' address for its own, there are 1 to 8 applications, and the next
--- one to be asked is one of them.
+-- A sound station: its ring is sound and has the settings' address for its own, there are 1 to 8 applications, the next one to
+-- be asked is one of them, the addresses that its state holds are below 128, and the one that its gap state polls is below 126.
 pub record SoundStation (s : Station) : Type 0 where
   pub ring-sound : Sound (s .«token_ring»)
   pub own-is : s .«token_ring» .own ≡ s .p .address
   pub some : 1 ≤ s .applications
   pub eight : s .applications ≤ 8
   pub next-one : s .core .«next_application» < s .applications
+  pub addresses : Addressed (s .core .state)
+  pub gap-address : GapAddressed (s .core .«gap_state»)
 
 -- what `new` gives is a sound station or none
 abbrev pub SoundStarted : Started → Type 0
@@ -78,22 +80,22 @@ connected-good : (n : ℕ) (c : Core) → Below n c → Below n (connectedOf c)
 unfolding connectedOf
 connected-good n c b = connected-on-good (c .state) n c b
 
-dispatch-on-good : (x : State) (p : Parameters) (n : ℕ) (c : Core) (r : Ring) (now : Micros) (bytes : List ℕ) (count : ℕ) → Below n c → RingGood p r → Good p n (dispatchOn x p c r now bytes n count)
+dispatch-on-good : (x : State) (p : Parameters) (n : ℕ) (c : Core) (r : Ring) (now : Micros) (bytes : List ℕ) (count : ℕ) → Addressed x → Below n c → RingGood p r → Good p n (dispatchOn x p c r now bytes n count)
 unfolding dispatchOn
-dispatch-on-good Offline p n c r now bytes count b g = record { good-step = done-good n c _ b; good-ring = g }
-dispatch-on-good (ListenToken q k) p n c r now bytes count b g = listen-token-good p n c r now q k bytes n count b g
-dispatch-on-good (ActiveIdle q m k) p n c r now bytes count b g = active-idle-good p n c r now q m k bytes n count b g
-dispatch-on-good (UseToken d k) p n c r now bytes count b g = record { good-step = use-token-good p n c now d k bytes b; good-ring = g }
-dispatch-on-good (ClaimToken f) p n c r now bytes count b g = claim-token-good p n c r now f b g
-dispatch-on-good (AwaitDataResponse a d) p n c r now bytes count b g =
+dispatch-on-good Offline p n c r now bytes count l b g = record { good-step = done-good n c _ b; good-ring = g }
+dispatch-on-good (ListenToken q k) p n c r now bytes count l b g = listen-token-good p n c r now q k bytes n count b g
+dispatch-on-good (ActiveIdle q m k) p n c r now bytes count l b g = active-idle-good p n c r now q m k bytes n count (l .1) b g
+dispatch-on-good (UseToken d k) p n c r now bytes count l b g = record { good-step = use-token-good p n c now d k bytes b; good-ring = g }
+dispatch-on-good (ClaimToken f) p n c r now bytes count l b g = claim-token-good p n c r now f b g
+dispatch-on-good (AwaitDataResponse a d) p n c r now bytes count l b g =
     record { good-step = await-data-step-good p n c now a d bytes count b; good-ring = g }
-dispatch-on-good (PassToken x a) p n c r now bytes count b g = pass-token-good p n c r now x a b g
-dispatch-on-good (CheckTokenPass a) p n c r now bytes count b g = check-token-good p n c r now a bytes n count b g
-dispatch-on-good (AwaitStatusResponse a) p n c r now bytes count b g = await-status-step-good p n c r now a bytes n count b g
+dispatch-on-good (PassToken x a) p n c r now bytes count l b g = pass-token-good p n c r now x a b g
+dispatch-on-good (CheckTokenPass a) p n c r now bytes count l b g = check-token-good p n c r now a bytes n count b g
+dispatch-on-good (AwaitStatusResponse a) p n c r now bytes count l b g = await-status-step-good p n c r now a bytes n count b g
 
 dispatch-good : (p : Parameters) (n : ℕ) (c : Core) (r : Ring) (now : Micros) (bytes : List ℕ) (count : ℕ) → Below n c → RingGood p r → Good p n (dispatchOf p c r now bytes n count)
 unfolding dispatchOf
-dispatch-good p n c r now bytes count b g = dispatch-on-good (c .state) p n c r now bytes count b g
+dispatch-good p n c r now bytes count b g = dispatch-on-good (c .state) p n c r now bytes count (b .addressed) b g
 
 poll-online-good : (p : Parameters) (n : ℕ) (c : Core) (r : Ring) (now : Micros) (t : Bool) (pending : ℕ) (bytes : List ℕ) (count : ℕ) → Below n c → RingGood p r → Good p n (pollOnline p c r now t pending bytes n count)
 unfolding pollOnline
@@ -109,7 +111,7 @@ poll-inner-good p n c r now t pending bytes count b g =
 
 -- a sound station's parts, and a sound station made of them
 part-core : (s : Station) → SoundStation s → Below (s .applications) (s .core)
-part-core s w = record { below = w .next-one }
+part-core s w = record { below = w .next-one; addressed = w .addresses; gap-addressed = w .gap-address }
 
 part-ring : (s : Station) → SoundStation s → RingGood (s .p) (s .«token_ring»)
 part-ring s w = record { sound = w .ring-sound; own = w .own-is }
@@ -123,6 +125,8 @@ polled-sound s x w g =
       some = w .some;
       eight = w .eight;
       next-one = g .good-step .step-core .below;
+      addresses = g .good-step .step-core .addressed;
+      gap-address = g .good-step .step-core .gap-addressed;
     }
 
 -- the calls keep a station sound
@@ -160,7 +164,16 @@ fresh-sound : (p : Parameters) (n : ℕ) → p .address < 126 → 1 ≤ n → n 
 unfolding freshStation
 fresh-sound p n l one eight =
     let g = fresh-good p l in
-    record { ring-sound = g .sound; own-is = g .own; some = one; eight = eight; next-one = fresh-core-good n (omega arith) .below }
+    let c = fresh-core-good n (omega arith) in
+    record {
+      ring-sound = g .sound;
+      own-is = g .own;
+      some = one;
+      eight = eight;
+      next-one = c .below;
+      addresses = c .addressed;
+      gap-address = c .gap-addressed;
+    }
 
 -- `new`: with an address up to 125 it gives a sound station or none
 pub new-sound : (p : Parameters) (n : ℕ) → p .address < 126 → SoundStarted (newOf p n)
