@@ -1,0 +1,241 @@
+-- The run's loop, turn by turn: where it stands, and what each of its ends leaves. Assumes nothing.
+use Prim.Native.Nat.{ℕ, zero, suc, _+_, _-_, _*_, _^_, _<_, _≤_}
+use mathlib.Core.Path.{_≡_, refl, sym, ap, _∙_, subst}
+use mathlib.Core.List.{List, [], _∷_, _++_, append-nil, append-assoc}
+use mathlib.Core.Bool.{Bool, true, false, cond, _&&_}
+use native.Mathlib.Omega.{arith}
+use native.Mathlib.Numerals.{add-one}
+use native.Mathlib.Nat.{add-zero, le-refl, sub-zero, zero-add}
+use borrow.Author.Tests.{lt-ltb, le-ltb, leb-true}
+use borrow.Rule.Slice.PartMut.{putMid}
+use borrow.Table.Steps.{cases}
+use lib.ListN.{length, getD, take, drop, take-append-drop, length-drop, length-append, length-take, drop-of-length-le}
+use lib.Seq.{length-take-le, take-all, drop-drop, drop-cons, paste, length-paste, take-paste, drop-paste}
+use lib.Dec.{T, leb, lit≤}
+use Rattle.fields.specs.Fields.{bytesOf, storedOf}
+use Rattle.fields.specs.Laws.{stored-room}
+use Rattle.answers.specs.declared.Answer.{Answer}
+use Rattle.answers.specs.Answers.{answerWord}
+use Rattle.station.specs.declared.Station.{Station}
+use Rattle.station.specs.declared.Started.{Started}
+use Rattle.station.specs.declared.Started.the-variants as started
+use Rattle.polling.specs.declared.Polled.{Polled}
+use Rattle.trace.specs.Trace.{startOf, startedOf, headerOf, recordLength, entryOf, Run, ended, answered, runFrom, runOf, came, ranOf, replayOn, replayOf, numberOf, written, bufferOf}
+
+-- answers given before, and then those of a run
+abbrev pub after : List Answer → Run → Run
+after given run = record { answers = given ++ run .answers; station = run .station; ending = run .ending }
+
+-- nothing is left to answer where no byte is left
+pub run-none : (most : ℕ) (s : Station) (room : ℕ) → runFrom most s [] room ≡ ended s 0
+unfolding runFrom
+run-none zero s room = refl
+run-none (suc most) s room = refl
+
+module _ (most : ℕ) (s : Station) (kind : ℕ) (rest : List ℕ) (room : ℕ) where
+  -- bytes that end inside an entry: 17
+  pub run-cut : length rest < recordLength kind → runFrom (suc most) s (kind ∷ rest) room ≡ ended s 17
+  unfolding runFrom
+  run-cut h = rw (lt-ltb _ _ h)
+
+  -- a whole entry with no 8 bytes left for its answer: 18
+  pub run-full : recordLength kind ≤ length rest → room < 8 → runFrom (suc most) s (kind ∷ rest) room ≡ ended s 18
+  unfolding runFrom
+  run-full h f = rw (le-ltb _ _ h, lt-ltb _ _ f)
+
+  -- a whole entry with room: its answer, and then the run of the rest from the station after it
+  pub run-more :
+      recordLength kind ≤ length rest
+      → 8 ≤ room
+      → runFrom (suc most) s (kind ∷ rest) room
+      ≡ answered (entryOf s kind (take (recordLength kind) rest) .answer)
+      (runFrom most (entryOf s kind (take (recordLength kind) rest) .station) (drop (recordLength kind) rest) (room - 8))
+  unfolding runFrom
+  run-more h f = rw (le-ltb _ _ h, le-ltb _ _ f)
+
+-- whether a station was started
+abbrev isStarted : Started → Bool
+isStarted (started.Accepted s) = true
+isStarted (started.Refused n) = false
+
+-- a test that refuses did hold where a station was started
+passed : (test : Bool) (x : Started) (s : Station) → cond test x (started.Refused 17) ≡ started.Accepted s → test ≡ true
+passed true x s e = refl
+passed false x s e = absurd (subst T (ap isStarted (sym e)) tt)
+
+-- two tests that hold together hold each
+both : (a b : Bool) → (a && b) ≡ true → (a ≡ true) × (b ≡ true)
+both true true e = (refl, refl)
+both true false e = absurd (subst T (sym e) tt)
+both false true e = absurd (subst T (sym e) tt)
+both false false e = absurd (subst T (sym e) tt)
+
+-- a station starts only from a trace that has its header and no more than 2^32 bytes
+pub start-long : (trace : List ℕ) (s : Station) → startOf trace ≡ started.Accepted s → (16 ≤ length trace) × (length trace ≤ 2 ^ 32)
+unfolding startOf
+start-long trace s e =
+    let h = both _ _ (passed _ (startedOf (headerOf trace)) s e) in
+    (leb-true _ _ (h .0), leb-true _ _ (h .1))
+
+-- answers after answers are written after them
+pub written-append : (given more : List Answer) → written (given ++ more) ≡ written given ++ written more
+unfolding written
+written-append [] more = refl
+written-append (a ∷ rest) more = ap (λ (l : List ℕ). bytesOf (answerWord a) ++ l) (written-append rest more) ∙ sym (append-assoc (bytesOf (answerWord a)) (written rest) (written more))
+
+-- one answer more
+pub written-one : (given : List Answer) (a : Answer) → written (given ++ (a ∷ [])) ≡ written given ++ bytesOf (answerWord a)
+unfolding written
+written-one given a = written-append given (a ∷ []) ∙ ap (λ (l : List ℕ). written given ++ l) (append-nil (bytesOf (answerWord a)))
+
+-- an answer before a run, after answers given, is one answer given more
+pub after-answered : (given : List Answer) (a : Answer) (run : Run) → after given (answered a run) ≡ after (given ++ (a ∷ [])) run
+after-answered given a run =
+    ap (λ (l : List Answer). record { answers = l; station = run .station; ending = run .ending }) (sym (append-assoc given (a ∷ []) (run .answers)))
+
+-- a tail that was lent and has bs in the place of its first k bytes, back in its place
+pub tail-back : (out k : ℕ) (l bs : List ℕ) → putMid out (length l - out) l (bs ++ drop k (take (length l - out) (drop out l))) ≡ (take out l ++ bs) ++ drop (out + k) l
+tail-back out k l bs =
+    let m : length (drop out l) ≤ length l - out = rw length-drop (le-refl (length l - out)) in
+    let a : take (length l - out) (drop out l) ≡ drop out l = take-all (length l - out) (drop out l) m in
+    let b : drop (length l - out) (drop out l) ≡ [] = drop-of-length-le (drop out l) m in
+    rw (a, b, drop-drop, append-nil, append-assoc)
+
+-- where the loop stands: the run of the whole is that of what is left, after the answers given, which stand in the buffer
+pub record Going (fresh : Station) (trace before answers : List ℕ) (station : Station) (at out entries : ℕ) : Type 0 where
+  pub small : length trace ≤ 2 ^ 32
+  pub begun : 16 + entries ≤ at
+  pub within : at ≤ length trace
+  pub place : out ≡ 8 * entries
+  pub room : out ≤ length answers
+  pub long : length answers ≡ length before
+  pub kept : drop out answers ≡ drop out before
+  pub given : List Answer
+  pub many : length given ≡ entries
+  pub stand : written given ≡ take out answers
+  pub run : runOf fresh (drop 16 trace) (length before) ≡ after given (runFrom (length trace - 16 - entries) station (drop at trace) (length before - out))
+
+-- before the first entry
+pub begins : (fresh : Station) (trace before : List ℕ) → 16 ≤ length trace → length trace ≤ 2 ^ 32 → Going fresh trace before before fresh 16 0 0
+unfolding written
+begins fresh trace before h small =
+    record {
+      small = small;
+      begun = omega arith;
+      within = h;
+      place = refl;
+      room = omega arith;
+      long = refl;
+      kept = refl;
+      given = [];
+      many = refl;
+      stand = refl;
+      run = rw (length-drop, sub-zero (length trace - 16), sub-zero (length before));
+    }
+
+module _ {fresh : Station} {trace before answers : List ℕ} {station : Station} {at out entries : ℕ} (g : Going fresh trace before answers station at out entries) where
+  -- where the run ends: what is returned, and what is left in the buffer
+  pub over :
+      (s : Station) (n : ℕ)
+      → runFrom (length trace - 16 - entries) station (drop at trace) (length before - out) ≡ ended s n
+      → (entries * 256 + n ≡ numberOf (ranOf fresh trace (length before))) × (answers ≡ bufferOf (ranOf fresh trace (length before)) before)
+  unfolding ranOf numberOf bufferOf
+  over s n e =
+      let whole : runOf fresh (drop 16 trace) (length before) ≡ after (g .given) (ended s n) = g .run ∙ ap (after (g .given)) e in
+      let place : 8 * entries ≡ out = sym (g .place) in
+      rw (whole, append-nil, g .many, place, g .stand, ← g .kept, take-append-drop) (refl, refl)
+
+  module _ (some : at < length trace) where
+    -- one entry is counted off
+    fuel : length trace - 16 - entries ≡ suc (length trace - 16 - (entries + 1))
+    fuel = omega (arith, g .begun)
+
+    -- the entry's first byte, and what follows it
+    here : drop at trace ≡ getD trace at 0 ∷ drop (at + 1) trace
+    here = rw (add-one at) (drop-cons trace at 0 some)
+
+    -- how much follows it
+    left : length (drop (at + 1) trace) ≡ length trace - (at + 1)
+    left = length-drop (at + 1) trace
+
+    -- the trace ends inside the entry
+    pub cut :
+        length trace - (at + 1) < recordLength (getD trace at 0)
+        → (entries * 256 + 17 ≡ numberOf (ranOf fresh trace (length before))) × (answers ≡ bufferOf (ranOf fresh trace (length before)) before)
+    cut h = over station 17 (rw (fuel, here) (run-cut _ station (getD trace at 0) (drop (at + 1) trace) _ (rw left h)))
+
+    -- there is no room for its answer
+    pub full :
+        recordLength (getD trace at 0) ≤ length trace - (at + 1)
+        → length answers - out < 8
+        → (entries * 256 + 18 ≡ numberOf (ranOf fresh trace (length before))) × (answers ≡ bufferOf (ranOf fresh trace (length before)) before)
+    full h f =
+        over station 18
+        (rw (fuel, here) (run-full _ station (getD trace at 0) (drop (at + 1) trace) _ (rw left h) (omega (arith, g .long))))
+
+    -- the entry is answered: the loop stands at the next one
+    pub next :
+        (n : ℕ) (polled : Polled) (word : ℕ) (z : List ℕ)
+        → n ≡ recordLength (getD trace at 0)
+        → n ≤ length trace - (at + 1)
+        → 8 ≤ length answers - out
+        → polled ≡ entryOf station (getD trace at 0) (take (at + 1 + n - (at + 1)) (drop (at + 1) trace))
+        → word ≡ answerWord (polled .answer)
+        → z ≡ storedOf word (take (length answers - out) (drop out answers))
+        → Going fresh trace before (putMid out (length answers - out) answers z) (polled .station) (at + 1 + n) (out + 8) (entries + 1)
+    next n polled word z size h f e ew ez =
+        rw (stored, tail-back out 8 answers bs)
+        (record {
+          small = g .small;
+          begun = omega (arith, g .begun);
+          within = omega (arith, h);
+          place = omega (arith, g .place);
+          room = omega (arith, long', f);
+          long = long' ∙ g .long;
+          kept = drop-paste answers out bs 8 (g .room) (lit≤ tt) ∙ sym (drop-drop 8 out answers) ∙ ap (drop 8) (g .kept) ∙ drop-drop 8 out before;
+          given = g .given ++ (polled .answer ∷ []);
+          many = length-append (g .given) (polled .answer ∷ []) ∙ ap (λ (k : ℕ). k + 1) (g .many);
+          stand = written-one (g .given) (polled .answer) ∙ ap (λ (l : List ℕ). l ++ bs) (g .stand) ∙ sym (take-paste answers out bs 8 (g .room) (lit≤ tt));
+          run = g .run ∙ ap (after (g .given)) more ∙ after-answered (g .given) (polled .answer) _;
+        })
+      where
+        bs : List ℕ
+        bs = bytesOf (answerWord (polled .answer))
+
+        -- the tail has room, so the answer stands at its head
+        stored : z ≡ bs ++ drop 8 (take (length answers - out) (drop out answers))
+        stored = rw ew at ez ∙ stored-room (answerWord (polled .answer)) (take (length answers - out) (drop out answers)) (simp (length-take, length-drop) (omega arith))
+
+        long' : length (paste answers out bs 8) ≡ length answers
+        long' = length-paste answers out bs 8 (omega (arith, f)) (lit≤ tt)
+
+        more :
+            runFrom (length trace - 16 - entries) station (drop at trace) (length before - out)
+            ≡ answered (polled .answer)
+            (runFrom (length trace - 16 - (entries + 1)) (polled .station) (drop (at + 1 + n) trace) (length before - (out + 8)))
+        more =
+            let a : at + 1 + n - (at + 1) ≡ n = omega arith in
+            let b : length before - out - 8 ≡ length before - (out + 8) = omega arith in
+            rw (fuel, here, ← drop-drop n (at + 1) trace, ← b, e, a, size)
+            (run-more _ station (getD trace at 0) (drop (at + 1) trace) (length before - out) (rw (left, ← size) h) (omega (arith, g .long, f)))
+
+  -- no byte is left
+  pub done :
+      length trace ≤ at
+      → (entries * 256 ≡ numberOf (ranOf fresh trace (length before))) × (answers ≡ bufferOf (ranOf fresh trace (length before)) before)
+  done h =
+      let last = over station 0 (rw (drop-of-length-le trace h) (run-none _ station _)) in
+      (sym (add-zero (entries * 256)) ∙ last .0, last .1)
+
+-- the replay of a trace that starts a station is the run over its entries
+pub replay-started : (trace : List ℕ) (room : ℕ) (s : Station) → startOf trace ≡ started.Accepted s → replayOf trace room ≡ ranOf s trace room
+unfolding replayOf replayOn
+replay-started trace room s e = rw e
+
+-- that of a refused header is its number, and the buffer stays
+pub replay-refused :
+    (trace before : List ℕ) (n : ℕ)
+    → startOf trace ≡ started.Refused n
+    → (n ≡ numberOf (replayOf trace (length before))) × (before ≡ bufferOf (replayOf trace (length before)) before)
+unfolding replayOf replayOn numberOf bufferOf written
+replay-refused trace before n e = rw e (sym (zero-add n), refl)
