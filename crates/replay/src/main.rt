@@ -1,0 +1,9 @@
+// The replay program of document 01: reads at most 4,096 bytes of standard input as a trace, replays it, and prints each answer
+// as 16 hexadecimal digits, then the entries answered and the ending number. It leans on replay_print.
+use libc::STDIN_FILENO;
+
+fn main() {
+    let mut bytes = [0u8; 4096];
+    let n = io::read_full(STDIN_FILENO, &mut bytes);
+    replay_print::replay(&bytes[..n]);
+}
