@@ -12,3 +12,4 @@ pub mod Holding
 pub mod Listening
 pub mod Passing
 pub mod Polling
+pub mod Trace

@@ -17,10 +17,10 @@ use station::Started;
 use station::Station;
 
 // A trace's header as plain numbers, unchecked.
-pub struct Header {
-    pub settings: Fields,
-    pub applications: u8,
-    pub zero_bits: u8,
+struct Header {
+    settings: Fields,
+    applications: u8,
+    zero_bits: u8,
 }
 
 // The slot bits of a header's first word.
@@ -60,7 +60,7 @@ fn header_at(high: u64, low: u64) -> Header
 }
 
 // A trace's header, its first 16 bytes; zeros where the trace has fewer.
-pub fn read_header(trace: &[u8]) -> Header
+fn read_header(trace: &[u8]) -> Header
     ensures { λ r. ⌜ r ≡ headerOf (now (trace .entry)) ⌝ }
 {
     let high = load(trace, 0, 8);
@@ -119,7 +119,7 @@ fn header_refusal_on(header: Header, refusal: u8) -> u8
 }
 
 // A header's first refusal, in document 01's order: 1, 10, 2, 3, 4, 5, 6, 7, 11, 8, 14; 0 for none.
-pub fn header_refusal(header: Header) -> u8
+fn header_refusal(header: Header) -> u8
     ensures { λ r. ⌜ r ≡ headerRefusal header ⌝ }
 {
     let fields = header.settings;
@@ -149,7 +149,7 @@ fn started(header: Header) -> Started
 }
 
 // The station that a trace starts. Refusal 17 where it has fewer than 16 bytes or more than 2 to the 32.
-pub fn start(trace: &[u8]) -> Started
+fn start(trace: &[u8]) -> Started
     ensures { λ r. ⌜ r ≡ startOf (now (trace .entry)) ⌝ }
 {
     if trace.len() < 16 {
