@@ -17,10 +17,10 @@ use station::Started;
 use station::Station;
 
 // A trace's header as plain numbers, unchecked.
-struct Header {
-    settings: Fields,
-    applications: u8,
-    zero_bits: u8,
+pub struct Header {
+    pub settings: Fields,
+    pub applications: u8,
+    pub zero_bits: u8,
 }
 
 // The slot bits of a header's first word.
