@@ -92,18 +92,18 @@ impl Refusal {
     /// What document 01 asks for instead, where the words alone do not say it.
     pub fn rule(self) -> Option<&'static str> {
         match self {
-            Refusal::Slot => {
-                Some("least slot bits: 100 for baud codes 0 to 5, then 200, 300, 400, 600, 1000")
-            }
-            Refusal::Hsa => Some("HSA above the address and at most 126"),
-            Refusal::Rotation => Some("rotation 256..16,777,960 bits"),
-            Refusal::GapWait => Some("gap wait 1..100"),
-            Refusal::Retry => Some("retry 1..15"),
-            Refusal::MinTsdr => Some("min Tsdr at least 11"),
+            Refusal::Slot => Some(
+                "must be at least 100 bits for baud codes 0 to 5, then 200, 300, 400, 600, 1000",
+            ),
+            Refusal::Hsa => Some("must be above the address and at most 126"),
+            Refusal::Rotation => Some("must be 256..16,777,960 bits"),
+            Refusal::GapWait => Some("must be 1..100"),
+            Refusal::Retry => Some("must be 1..15"),
+            Refusal::MinTsdr => Some("must be at least 11"),
             Refusal::RecordLength => {
-                Some("length 8 + 6 for each application + 4 for each telegram")
+                Some("must be 8 + 6 for each application + 4 for each telegram")
             }
-            Refusal::Passive => Some("the passive station is not part of this one"),
+            Refusal::Passive => Some("this station has no passive state"),
             _ => None,
         }
     }
