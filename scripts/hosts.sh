@@ -9,6 +9,9 @@ me="hosts"
 
 built=target/hosts/c
 
+# The long trace says online this many times, which changes nothing.
+long=100000
+
 # The C test holds, and it finds each planted fault of hosts/c/faulty.c.
 test_c() {
     local faults fault
@@ -32,7 +35,10 @@ replay_all() {
         count=$((count + 1))
     done < <(find traces -name '*.trace' | sort)
     [ "$count" -gt 0 ] || fail "there are no traces"
-    echo "$host host: $count traces replayed from files, each answered as its story says"
+    { head -c 16 traces/example12.trace && head -c "$long" /dev/zero; } >target/hosts/long.trace
+    { yes 0000000000000014 | head -n "$long" && echo "$long 0"; } >target/hosts/long.answers
+    "$@" target/hosts/long.trace | cmp - target/hosts/long.answers || fail "the $host host answers a long trace wrongly"
+    echo "$host host: $count traces replayed from files, each answered as its story says, and one of $long entries"
 }
 
 # The Rust host's tests hold, on x86-64 with the proved library linked.

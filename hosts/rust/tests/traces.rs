@@ -72,6 +72,38 @@ fn a_changed_file_is_found() {
     std::fs::remove_dir_all(&folder).expect("the folder goes");
 }
 
+/// The sample joins the traces of the folder, each after its length, and their answers in the same order.
+#[test]
+fn the_sample_holds_every_trace() {
+    let folder = std::env::temp_dir().join(format!("amsulfezd-sample-{}", std::process::id()));
+    let output = Command::new(env!("CARGO_BIN_EXE_make_traces"))
+        .arg("sample")
+        .arg(&folder)
+        .output()
+        .expect("make_traces runs");
+    assert!(output.status.success());
+    let input = std::fs::read(folder.join("stdin")).expect("the input");
+    let expected = std::fs::read_to_string(folder.join("stdout")).expect("the output");
+    let mut files: Vec<(Vec<u8>, String)> = files(&traces(), "trace")
+        .iter()
+        .map(|path| {
+            let answers = std::fs::read_to_string(path.with_extension("answers"));
+            let trace = std::fs::read(path);
+            (trace.expect("the trace"), answers.expect("its answers"))
+        })
+        .collect();
+    let (mut rest, mut answers) = (&input[..], String::new());
+    while let [high, low, after @ ..] = rest {
+        let (trace, next) = after.split_at(usize::from(*high) * 256 + usize::from(*low));
+        let place = files.iter().position(|file| file.0 == trace);
+        answers.push_str(&files.remove(place.expect("a trace of the folder")).1);
+        rest = next;
+    }
+    assert!(rest.is_empty() && files.is_empty());
+    assert_eq!(answers, expected);
+    std::fs::remove_dir_all(&folder).expect("the folder goes");
+}
+
 /// Document 01's example 12 as it is printed there.
 #[test]
 fn example_12_is_document_01s() {
