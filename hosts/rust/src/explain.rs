@@ -48,8 +48,8 @@ pub fn thousands(number: u64) -> String {
     grouped
 }
 
-/// The settings in words.
-fn settings(header: &Header) -> String {
+/// The settings in words, on one line.
+pub fn settings(header: &Header) -> String {
     let rate = match BAUD_RATES.get(usize::from(header.baud)) {
         Some(&rate) => format!("{} bits a second", thousands(u64::from(rate))),
         None => "unknown".to_string(),
@@ -58,9 +58,13 @@ fn settings(header: &Header) -> String {
         (0, 0) => "no watchdog".to_string(),
         (first, second) => format!("watchdog factors {} and {}", first, second),
     };
+    let zero = match header.zero {
+        0 => String::new(),
+        number => format!(", last byte {}", number),
+    };
     format!(
         "Station {}, baud code {} ({}), slot {} bits, rotation {} bits, gap wait {}, HSA {}, retry {}, min Tsdr {}, \
-         {}, {}",
+         {}, {}{}",
         header.address,
         header.baud,
         rate,
@@ -71,7 +75,8 @@ fn settings(header: &Header) -> String {
         header.retry,
         header.min_tsdr,
         counted(usize::from(header.applications), "application"),
-        watchdog
+        watchdog,
+        zero
     )
 }
 

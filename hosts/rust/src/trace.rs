@@ -92,6 +92,20 @@ impl Header {
 }
 
 /// Writes a trace: the header first, then an entry for each call.
+///
+/// ```
+/// use amsulfezd_host::record::{Decision, Poll, Telegram};
+/// use amsulfezd_host::trace::{entries, Header, TraceBuilder};
+///
+/// // Address 5, 500 kbaud, one application.
+/// let mut trace = TraceBuilder::new(Header::new(5, 6, 1));
+/// trace.online();
+/// trace.poll(&Poll::at(1000))?; // nothing came
+/// trace.poll(&Poll::at(1500).telegram(Telegram::token(9, 9)).pending(3))?; // a token was heard
+/// trace.poll(&Poll::at(2000).normal(0, Decision::asks(20, 10)))?; // what application 0 would send
+/// assert_eq!(entries(&trace.into_bytes()).count(), 4);
+/// # Ok::<(), amsulfezd_host::record::Unfit>(())
+/// ```
 #[derive(Debug, Clone)]
 pub struct TraceBuilder {
     applications: usize,

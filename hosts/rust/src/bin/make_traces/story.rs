@@ -3,10 +3,11 @@
 //! The answers are statements of their own, written down field by field. Nothing here works out what a station does.
 
 use amsulfezd_host::answer::{Answer, Notice, Outcome, Sent, State};
+use amsulfezd_host::explain::{settings, thousands};
 use amsulfezd_host::record::{Poll, StationType, Telegram};
 use amsulfezd_host::refusal::Refusal;
 use amsulfezd_host::run::{to_text, Run};
-use amsulfezd_host::trace::{Header, TraceBuilder, BAUD_RATES};
+use amsulfezd_host::trace::{Header, TraceBuilder};
 
 /// The program `replay` reads no more.
 const LARGEST: usize = 4096;
@@ -322,7 +323,7 @@ impl Story {
     /// The story in words.
     pub fn text(&self) -> String {
         let mut text = format!("{}\n\n{}\n\n", self.title, self.tale.trim());
-        text.push_str(&format!("Settings: {}\n\n", settings(&self.header)));
+        text.push_str(&format!("{}.\n\n", settings(&self.header)));
         if !self.lines.is_empty() {
             text.push_str(
                 "Entry by entry: what happens, why, and the answer that document 01 and the Rust ask for. The first word\n\
@@ -401,34 +402,4 @@ fn fields(answer: &Answer) -> String {
     parts.push(format!("next application {}", answer.next_application));
     parts.push(format!("next station {}", answer.next_station));
     format!("{:016x}  {}", answer.to_word(), parts.join(", "))
-}
-
-/// A header's fields in words.
-fn settings(header: &Header) -> String {
-    let rate = BAUD_RATES.get(usize::from(header.baud));
-    format!(
-        "address {}, baud code {} ({}), slot {} bits, rotation {} bits,\ngap wait {}, HSA {}, retry {}, min Tsdr {}, \
-         applications {}, watchdog factors {} and {}, last byte {}.",
-        header.address,
-        header.baud,
-        rate.map_or("unknown".to_string(), |&rate| format!(
-            "{} bits a second",
-            thousands(u64::from(rate))
-        )),
-        header.slot_bits,
-        header.rotation_bits,
-        header.gap_wait,
-        header.hsa,
-        header.retry,
-        header.min_tsdr,
-        header.applications,
-        header.watchdog_factors.0,
-        header.watchdog_factors.1,
-        header.zero
-    )
-}
-
-/// A number with a comma before each group of three digits.
-fn thousands(number: u64) -> String {
-    amsulfezd_host::explain::thousands(number)
 }
