@@ -402,7 +402,7 @@ fn waited_for_bus(own: u8, before: &Before, poll: &Poll, answer: &Answer) -> Str
                 ),
                 None => "somebody is heard: the token pass is over".to_string(),
             };
-            format!("{}{}", heard, not_taken(own, poll))
+            format!("{}{}", heard, not_taken(own, poll, answer.state))
         }
         (State::AwaitDataResponse, _) => "waits for the reply".to_string(),
         (State::AwaitStatusResponse, _) => "waits for the status response".to_string(),
@@ -413,7 +413,7 @@ fn waited_for_bus(own: u8, before: &Before, poll: &Poll, answer: &Answer) -> Str
         (_, after) => format!(
             "takes note{}{}",
             own_address(own, poll, after),
-            not_taken(own, poll)
+            not_taken(own, poll, after)
         ),
     }
 }
@@ -432,15 +432,18 @@ fn own_address(own: u8, poll: &Poll, state: State) -> &'static str {
 }
 
 /// Says so if the last telegram passes the token to us; it is asked only where the answer says that it was not taken.
-fn not_taken(own: u8, poll: &Poll) -> String {
+fn not_taken(own: u8, poll: &Poll, state: State) -> String {
+    let why = match state {
+        State::ListenToken => "as it only listens",
+        _ => "which is not the station before it",
+    };
     match poll.telegrams.last() {
         Some(&Telegram::Token {
             source,
             destination,
-        }) if destination == own && source != own => format!(
-            "; does not take the token from {}, which is not the station before it",
-            source
-        ),
+        }) if destination == own && source != own => {
+            format!("; does not take the token from {}, {}", source, why)
+        }
         _ => String::new(),
     }
 }

@@ -1,5 +1,9 @@
 //! The explanations: stored outputs, which were checked by reading, and answers that are not the trace's.
 
+use amsulfezd_host::explain::explain as explained;
+use amsulfezd_host::record::{Poll, Telegram};
+use amsulfezd_host::run::from_text;
+use amsulfezd_host::trace::{Header, TraceBuilder};
 use std::io::Write;
 use std::path::{Path, PathBuf};
 use std::process::{Command, Output, Stdio};
@@ -39,6 +43,7 @@ fn stored_outputs() {
         "collision-active-idle",
         "applications",
         "unexpected",
+        "fine-points",
         "refused-entries",
         "cut-entry",
         "headers/03-hsa",
@@ -94,6 +99,25 @@ fn answers_of_another_trace_are_found() {
             b"0000000000000014\n0310000000000014\n2 18\n",
         ),
         "entry 2 has another form",
+    );
+}
+
+/// In ListenToken a token to us is not taken, whoever sends it.
+#[test]
+fn a_listening_station_takes_no_token() {
+    let mut trace = TraceBuilder::new(Header::new(5, 6, 1));
+    trace.online();
+    trace
+        .poll(&Poll::at(1000).telegram(Telegram::token(9, 5)))
+        .expect("a poll that fits");
+    let (answers, run) = from_text("0000000000000014\n0310000001000024\n2 0\n").expect("a run");
+    let text = explained(&trace.into_bytes(), &answers, &run).expect("an explanation");
+    assert!(
+        text.contains(
+            "takes note; does not take the token from 9, as it only listens; next station is now 9"
+        ),
+        "{}",
+        text
     );
 }
 

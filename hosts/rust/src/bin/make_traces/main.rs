@@ -5,6 +5,7 @@
 mod applications;
 mod bus;
 mod collisions;
+mod fine_points;
 mod night;
 mod refusals;
 mod ring;
@@ -40,6 +41,7 @@ fn stories() -> Vec<Story> {
     all.extend(collisions::stories());
     all.extend(applications::stories());
     all.extend(bus::stories());
+    all.push(fine_points::story());
     all.extend(refusals::stories());
     all
 }
