@@ -1,8 +1,12 @@
-# The two commands of README.md. Each is a script under scripts/, which says on one line what it lacks.
-.PHONY: test replay
+# The commands of README.md. Each is a script under scripts/, which says on one line what it lacks.
+# TRACE=file on the command line reaches the scripts through the environment.
+.PHONY: test replay explain
 
 test:
 	@bash scripts/test.sh
 
 replay:
 	@bash scripts/replay.sh
+
+explain:
+	@bash scripts/explain.sh

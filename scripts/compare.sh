@@ -4,28 +4,18 @@
 # SEED, RING_SEQUENCES and RECORD_ITEMS in the environment change what is generated.
 set -u
 cd "$(dirname "$0")/.."
+me=compare
+. scripts/common.sh
 
 seed=${SEED:-1}
 sequences=${RING_SEQUENCES:-20000}
 items=${RECORD_ITEMS:-80000}
 
-fail() {
-    echo "compare: $*" >&2
-    exit 1
-}
-
 for program in ring_replay records_show; do
     [ -f "target/bin/$program" ] || fail "target/bin/$program is not there: run 'rt check $program' first"
 done
 
-# The models are built with cargo, which root can have from Debian.
-if ! command -v cargo >/dev/null 2>&1; then
-    lacks="cargo is not on the PATH: install Rust (Debian: apt-get install cargo)"
-    [ "$(id -u)" -eq 0 ] && command -v apt-get >/dev/null 2>&1 || fail "$lacks"
-    install() { DEBIAN_FRONTEND=noninteractive apt-get install -y --no-install-recommends cargo >/dev/null 2>&1; }
-    install || { apt-get update >/dev/null 2>&1 && install; } || fail "$lacks; apt-get could not install it"
-    command -v cargo >/dev/null 2>&1 || fail "$lacks"
-fi
+need cargo cargo
 CARGO_TARGET_DIR=target/oracle cargo build --release --offline --quiet --manifest-path oracle/Cargo.toml ||
     fail "the models of oracle/ do not build"
 
@@ -36,23 +26,7 @@ tests=$(CARGO_TARGET_DIR=target/oracle cargo test --release --offline --quiet --
 }
 echo "oracle: its tests pass, each planted error is found"
 
-# The programs are for x86-64. They run as rt runs them: under the kit's loader and C library and, on
-# another processor, under the emulator that stands beside the kit's compiler.
-machine=$(uname -m)
-runner=()
-rt=$(command -v rt) && rt=$(readlink -f "$rt")
-if [ -n "$rt" ]; then
-    tools=${RATTLE_HOME:-$(dirname "$(dirname "$rt")")}/on/$machine/toolchain
-    loader=$tools/lib/ld-linux-x86-64.so.2
-    [ -x "$loader" ] && runner=("$loader" --library-path "$tools/lib")
-fi
-if [ "$machine" != x86_64 ]; then
-    [ -n "$rt" ] || fail "the programs are for x86-64, this machine is $machine, and 'rt', whose emulator runs them, is not on the PATH"
-    emulator=$tools/bin/qemu-x86_64
-    [ -x "$emulator" ] || fail "the programs are for x86-64, this machine is $machine, and the toolchain of 'rt' has no emulator"
-    runner=("$emulator" "${runner[@]}")
-    for word in $(env | sed -n 's/^\(QEMU_[A-Za-z0-9_]*\)=.*/\1/p'); do unset "$word"; done
-fi
+find_runner
 
 # The published files are as they were published, and the table that rt ci holds the program to is theirs.
 (cd oracle/published && sha256sum --quiet --check SHA256SUMS) || fail "a file of oracle/published is not as published"

@@ -1,4 +1,13 @@
 #!/usr/bin/env bash
-# make replay: not there yet. It says so on one line and fails.
-echo "make replay: the trace and the replay program are not built yet (layer 6 of README.md)" >&2
-exit 1
+# make replay [TRACE=file]: replays a trace, example 12 if none is named, with the proved program: each answer as 16
+# hexadecimal digits, then entries answered and ending number.
+set -u
+cd "$(dirname "$0")/.."
+me="make replay"
+. scripts/common.sh
+
+find_trace
+[ "$size" -le "$largest" ] ||
+    echo "$me: $trace has $size bytes, of which the program reads $largest; make explain takes all" >&2
+build_replay
+"${runner[@]}" target/bin/replay <"$trace"

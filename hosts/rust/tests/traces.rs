@@ -1,0 +1,196 @@
+//! The files of traces/: they are what their stories say, and, where the proved call is linked, it answers as they say.
+
+#![allow(unknown_lints, unexpected_cfgs)]
+
+use std::path::{Path, PathBuf};
+use std::process::Command;
+
+fn traces() -> PathBuf {
+    Path::new(env!("CARGO_MANIFEST_DIR")).join("../../traces")
+}
+
+/// Every file below a folder with this ending.
+fn files(folder: &Path, ending: &str) -> Vec<PathBuf> {
+    let mut found = Vec::new();
+    for entry in std::fs::read_dir(folder).expect("the folder of traces") {
+        let path = entry.expect("an entry of the folder").path();
+        if path.is_dir() {
+            found.extend(files(&path, ending));
+        } else if path.extension().map_or(false, |there| there == ending) {
+            found.push(path);
+        }
+    }
+    found.sort();
+    found
+}
+
+#[test]
+fn the_files_are_what_their_stories_say() {
+    let output = Command::new(env!("CARGO_BIN_EXE_make_traces"))
+        .arg("check")
+        .arg(traces())
+        .output()
+        .expect("make_traces runs");
+    let said = String::from_utf8(output.stdout).expect("text");
+    assert!(
+        output.status.success(),
+        "{}",
+        String::from_utf8_lossy(&output.stderr)
+    );
+    let there = files(&traces(), "trace").len();
+    assert_eq!(
+        said,
+        format!("{} traces are what their stories say\n", there),
+        "no trace lies there without a story"
+    );
+}
+
+#[test]
+fn a_changed_file_is_found() {
+    let folder = std::env::temp_dir().join(format!("amsulfezd-traces-{}", std::process::id()));
+    let run = |word: &str| {
+        Command::new(env!("CARGO_BIN_EXE_make_traces"))
+            .arg(word)
+            .arg(&folder)
+            .output()
+            .expect("make_traces runs")
+    };
+    assert!(run("write").status.success());
+    assert!(run("check").status.success());
+    let file = folder.join("example12.answers");
+    let mut text = std::fs::read(&file).expect("the file");
+    text[0] ^= 1;
+    std::fs::write(&file, text).expect("the file is written");
+    let output = run("check");
+    assert!(!output.status.success());
+    let said = String::from_utf8(output.stderr).expect("text");
+    assert!(
+        said.contains("example12.answers is not what the stories say"),
+        "{}",
+        said
+    );
+    std::fs::remove_dir_all(&folder).expect("the folder goes");
+}
+
+/// The sample joins the traces of the folder, each after its length, and their answers in the same order.
+#[test]
+fn the_sample_holds_every_trace() {
+    let folder = std::env::temp_dir().join(format!("amsulfezd-sample-{}", std::process::id()));
+    let output = Command::new(env!("CARGO_BIN_EXE_make_traces"))
+        .arg("sample")
+        .arg(&folder)
+        .output()
+        .expect("make_traces runs");
+    assert!(output.status.success());
+    let input = std::fs::read(folder.join("stdin")).expect("the input");
+    let expected = std::fs::read_to_string(folder.join("stdout")).expect("the output");
+    let mut files: Vec<(Vec<u8>, String)> = files(&traces(), "trace")
+        .iter()
+        .map(|path| {
+            let answers = std::fs::read_to_string(path.with_extension("answers"));
+            let trace = std::fs::read(path);
+            (trace.expect("the trace"), answers.expect("its answers"))
+        })
+        .collect();
+    let (mut rest, mut answers) = (&input[..], String::new());
+    while let [high, low, after @ ..] = rest {
+        let (trace, next) = after.split_at(usize::from(*high) * 256 + usize::from(*low));
+        let place = files.iter().position(|file| file.0 == trace);
+        answers.push_str(&files.remove(place.expect("a trace of the folder")).1);
+        rest = next;
+    }
+    assert!(rest.is_empty() && files.is_empty());
+    assert_eq!(answers, expected);
+    std::fs::remove_dir_all(&folder).expect("the folder goes");
+}
+
+/// Document 01's example 12 as it is printed there.
+#[test]
+fn example_12_is_document_01s() {
+    let answers = std::fs::read_to_string(traces().join("example12.answers")).expect("the file");
+    assert_eq!(
+        answers,
+        "0000000000000014\n0310000000000014\n0310000000000014\n0242140030000014\n0232140030000014\n0230000000000014\n6 0\n"
+    );
+}
+
+#[cfg(linked)]
+mod linked {
+    use super::{files, traces};
+    use amsulfezd_host::answer::{answers, Answer};
+    use amsulfezd_host::refusal::Refusal;
+    use amsulfezd_host::replay::{replay, replay_whole};
+    use amsulfezd_host::run::{from_text, to_text};
+
+    #[test]
+    fn the_proved_call_answers_as_the_stories_say() {
+        let mut count = 0;
+        for path in files(&traces(), "trace") {
+            let trace = std::fs::read(&path).expect("the trace");
+            let expected =
+                std::fs::read_to_string(path.with_extension("answers")).expect("its answers");
+            let (run, buffer) = replay_whole(&trace).expect("a run");
+            let words: Vec<u64> = answers(&buffer)
+                .map(|answer| answer.expect("an answer").to_word())
+                .collect();
+            assert_eq!(to_text(&words, &run), expected, "{}", path.display());
+            count += 1;
+        }
+        assert!(count > 20, "only {} traces", count);
+    }
+
+    /// Every buffer from none to one with room to spare: answers as far as there is room, then 18, and no byte more.
+    #[test]
+    fn a_short_buffer_ends_with_18() {
+        let trace = std::fs::read(traces().join("example12.trace")).expect("the trace");
+        let text =
+            std::fs::read_to_string(traces().join("example12.answers")).expect("the answers");
+        let (expected, _) = from_text(&text).expect("a run");
+        for length in 0..=64 {
+            let mut buffer = vec![0xa5; length];
+            let run = replay(&trace, &mut buffer).expect("a run");
+            let answered = expected.len().min(length / 8);
+            let ending = if answered < expected.len() {
+                Some(Refusal::NoRoom)
+            } else {
+                None
+            };
+            assert_eq!((run.entries, run.ending), (answered as u64, ending));
+            let (written, rest) = buffer.split_at(8 * answered);
+            let read: Vec<Answer> = answers(written).map(|a| a.expect("an answer")).collect();
+            assert_eq!(read, expected[..answered]);
+            assert!(rest.iter().all(|&byte| byte == 0xa5), "length {}", length);
+        }
+    }
+
+    #[test]
+    fn a_refused_header_writes_nothing() {
+        let mut buffer = [0xa5; 64];
+        let mut trace = std::fs::read(traces().join("example12.trace")).expect("the trace");
+        trace[0] = 126;
+        let run = replay(&trace, &mut buffer).expect("a run");
+        assert_eq!((run.entries, run.ending), (0, Some(Refusal::Address)));
+        assert_eq!(buffer, [0xa5; 64]);
+    }
+
+    #[test]
+    fn several_threads_may_call() {
+        let trace = std::fs::read(traces().join("night.trace")).expect("the trace");
+        let once = replay_whole(&trace).expect("a run");
+        let threads: Vec<_> = (0..4)
+            .map(|_| {
+                let trace = trace.clone();
+                std::thread::spawn(move || {
+                    (0..100)
+                        .map(|_| replay_whole(&trace).expect("a run"))
+                        .collect::<Vec<_>>()
+                })
+            })
+            .collect();
+        for thread in threads {
+            for again in thread.join().expect("the thread ends") {
+                assert_eq!(again, once);
+            }
+        }
+    }
+}

@@ -1,0 +1,71 @@
+#!/usr/bin/env bash
+# Builds the C and Rust hosts of the proved library and runs their tests and examples. Part of make test.
+# On a machine that is not x86-64 the C host is cross-compiled and run under the toolchain's emulator, and the Rust host
+# is built and tested without the library; what could not be run is said on one line.
+set -u
+cd "$(dirname "$0")/.."
+me="hosts"
+. scripts/common.sh
+
+built=target/hosts/c
+
+# The long trace says online this many times, which changes nothing.
+long=100000
+
+# The C test holds, and it finds each planted fault of hosts/c/faulty.c.
+test_c() {
+    local faults fault
+    c_host "$built/test" hosts/c/test.c
+    "${emulator[@]}" "$built/test" || fail "the C host's test does not hold"
+    faults=$(grep -c '^    case [0-9]' hosts/c/faulty.c)
+    for fault in $(seq "$faults"); do
+        "${compile[@]}" -DFAULT="$fault" -c hosts/c/faulty.c -o "$built/faulty.o" || fail "hosts/c/faulty.c does not build"
+        c_host "$built/test-faulty" -Dreplay_trace=faulty_replay_trace hosts/c/test.c "$built/faulty.o"
+        "${emulator[@]}" "$built/test-faulty" >/dev/null 2>&1 && fail "the C host's test does not find planted fault $fault"
+    done
+    echo "C host: its test finds each of $faults planted faults"
+}
+
+# replay_all HOST COMMAND..: each trace of traces/, replayed by the host's example, is answered as its story says.
+replay_all() {
+    local host=$1 count=0 trace
+    shift
+    while read -r trace; do
+        "$@" "$trace" | cmp - "${trace%.trace}.answers" || fail "the $host host answers $trace otherwise than its story"
+        count=$((count + 1))
+    done < <(find traces -name '*.trace' | sort)
+    [ "$count" -gt 0 ] || fail "there are no traces"
+    { head -c 16 traces/example12.trace && head -c "$long" /dev/zero; } >target/hosts/long.trace
+    { yes 0000000000000014 | head -n "$long" && echo "$long 0"; } >target/hosts/long.answers
+    "$@" target/hosts/long.trace | cmp - target/hosts/long.answers || fail "the $host host answers a long trace wrongly"
+    echo "$host host: $count traces replayed from files, each answered as its story says, and one of $long entries"
+}
+
+# The Rust host's tests hold, on x86-64 with the proved library linked.
+test_rust() {
+    local said
+    said=$(host_cargo test 2>&1) || {
+        echo "$said" >&2
+        fail "the Rust host's tests do not hold"
+    }
+    echo "Rust host: $(awk '/^test result: ok/ { n += $4 } END { print n + 0 }' <<<"$said") tests hold, $1"
+}
+
+find_runner
+need cargo cargo
+need_c_compiler
+build_staticlib
+
+test_c
+c_host "$built/replay_file" hosts/c/replay_file.c
+replay_all C "${emulator[@]}" "$built/replay_file"
+
+if [ "$machine" = x86_64 ]; then
+    export AMSULFEZD_STATICLIB_DIR=$PWD/target/staticlib
+    test_rust "the proved library linked"
+    host_cargo build --example replay_file || fail "the Rust host's example does not build"
+    replay_all Rust target/hosts-linked/release/examples/replay_file
+else
+    test_rust "without the library"
+    echo "hosts: not run on this machine ($machine): the Rust host's calls of the proved library, which is for x86-64"
+fi

@@ -1,0 +1,10 @@
+#!/usr/bin/env bash
+# Writes the files of traces/ anew from their stories (hosts/rust/src/bin/make_traces).
+set -u
+cd "$(dirname "$0")/.."
+me="traces"
+. scripts/common.sh
+
+need cargo cargo
+host_cargo build --bin make_traces || fail "the stories of hosts/rust do not build"
+target/hosts/release/make_traces write traces
