@@ -33,7 +33,7 @@ replay_all() {
     while read -r trace; do
         "$@" "$trace" | cmp - "${trace%.trace}.answers" || fail "the $host host answers $trace otherwise than its story"
         count=$((count + 1))
-    done < <(find traces -name '*.trace' | sort)
+    done < <(find traces/ -name '*.trace' | sort)
     [ "$count" -gt 0 ] || fail "there are no traces"
     { head -c 16 traces/example12.trace && head -c "$long" /dev/zero; } >target/hosts/long.trace
     { yes 0000000000000014 | head -n "$long" && echo "$long 0"; } >target/hosts/long.answers

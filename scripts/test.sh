@@ -1,6 +1,6 @@
 #!/usr/bin/env bash
 # make test: proves every crate of crates.txt from nothing, tries the must-fail edits, runs the programs,
-# then the comparisons. The last line printed is `rt ci`'s own, 'N passed, 0 failed', and only if all of it held.
+# then the comparisons and the hosts' tests. The last line printed is `rt ci`'s own, 'N passed, 0 failed', and only if all of it held.
 set -u
 cd "$(dirname "$0")/.."
 
@@ -24,5 +24,6 @@ verdict=$(tail -n 1 "$log")
 [[ "$verdict" =~ ^[1-9][0-9]*\ passed,\ 0\ failed$ ]] || fail "rt ci's last line is not a verdict: $verdict"
 
 bash scripts/compare.sh || fail "the comparison with Rust did not hold"
+bash scripts/hosts.sh || fail "the hosts' tests did not hold"
 
 echo "$verdict"

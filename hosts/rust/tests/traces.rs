@@ -72,35 +72,39 @@ fn a_changed_file_is_found() {
     std::fs::remove_dir_all(&folder).expect("the folder goes");
 }
 
-/// The sample joins the traces of the folder, each after its length, and their answers in the same order.
+/// The program that replays the traces inside the gate is called with each of them, and must print each one's answers.
 #[test]
-fn the_sample_holds_every_trace() {
-    let folder = std::env::temp_dir().join(format!("amsulfezd-sample-{}", std::process::id()));
+fn the_program_replays_every_trace() {
+    let folder = std::env::temp_dir().join(format!("amsulfezd-program-{}", std::process::id()));
     let output = Command::new(env!("CARGO_BIN_EXE_make_traces"))
-        .arg("sample")
+        .arg("program")
         .arg(&folder)
         .output()
         .expect("make_traces runs");
     assert!(output.status.success());
-    let input = std::fs::read(folder.join("stdin")).expect("the input");
-    let expected = std::fs::read_to_string(folder.join("stdout")).expect("the output");
-    let mut files: Vec<(Vec<u8>, String)> = files(&traces(), "trace")
-        .iter()
-        .map(|path| {
-            let answers = std::fs::read_to_string(path.with_extension("answers"));
-            let trace = std::fs::read(path);
-            (trace.expect("the trace"), answers.expect("its answers"))
+    let crate_folder = Path::new(env!("CARGO_MANIFEST_DIR")).join("../../crates/replay_traces");
+    let read = |path: &Path| std::fs::read_to_string(path).expect("a file");
+    for name in ["args", "stdout"] {
+        assert_eq!(
+            read(&folder.join(name)),
+            read(&crate_folder.join(name)),
+            "{}",
+            name
+        );
+    }
+    let args = read(&folder.join("args"));
+    assert_eq!(args.lines().count(), files(&traces(), "trace").len());
+    let answers: String = args
+        .lines()
+        .map(|name| {
+            format!(
+                "{}\n{}",
+                name,
+                read(&traces().join(name).with_extension("answers"))
+            )
         })
         .collect();
-    let (mut rest, mut answers) = (&input[..], String::new());
-    while let [high, low, after @ ..] = rest {
-        let (trace, next) = after.split_at(usize::from(*high) * 256 + usize::from(*low));
-        let place = files.iter().position(|file| file.0 == trace);
-        answers.push_str(&files.remove(place.expect("a trace of the folder")).1);
-        rest = next;
-    }
-    assert!(rest.is_empty() && files.is_empty());
-    assert_eq!(answers, expected);
+    assert_eq!(answers, read(&folder.join("stdout")));
     std::fs::remove_dir_all(&folder).expect("the folder goes");
 }
 

@@ -1,5 +1,5 @@
 //! Writes the traces of `traces/`, each with its story and its expected answers, or checks that the files there are
-//! what it would write. It also joins them to one input for a program that replays them all, with the output expected of
+//! what it would write. It also writes the arguments of the program that replays them all, with the output expected of
 //! it.
 
 mod applications;
@@ -14,14 +14,14 @@ mod story;
 use std::path::{Path, PathBuf};
 use story::Story;
 
-const USAGE: &str = "usage: make_traces write|check|sample FOLDER";
+const USAGE: &str = "usage: make_traces write|check|program FOLDER";
 
 fn main() {
     let words: Vec<String> = std::env::args().skip(1).collect();
     let result = match words.iter().map(String::as_str).collect::<Vec<_>>()[..] {
         ["write", folder] => write(Path::new(folder)),
         ["check", folder] => check(Path::new(folder)),
-        ["sample", folder] => sample(Path::new(folder)),
+        ["program", folder] => program(Path::new(folder)),
         _ => Err(USAGE.to_string()),
     };
     match result {
@@ -74,18 +74,19 @@ fn put(path: &Path, content: &[u8]) -> Result<(), String> {
     std::fs::write(path, content).map_err(failed)
 }
 
-/// Writes `stdin`, each trace after its length in two bytes, most significant first, and `stdout`, the answers to each.
-fn sample(folder: &Path) -> Result<String, String> {
-    let (mut input, mut output) = (Vec::new(), String::new());
+/// Writes `args`, a line for each trace of `traces/`, and `stdout`, each trace's name and the answers to it: what the
+/// program that replays them all is called with, and what it must print.
+fn program(folder: &Path) -> Result<String, String> {
+    let (mut args, mut output) = (String::new(), String::new());
     for story in stories() {
-        let trace = story.trace();
-        input.extend((trace.len() as u16).to_be_bytes());
-        input.extend(trace);
+        let name = format!("{}.trace\n", story.name);
+        output.push_str(&name);
         output.push_str(&story.answers());
+        args.push_str(&name);
     }
-    put(&folder.join("stdin"), &input)?;
+    put(&folder.join("args"), args.as_bytes())?;
     put(&folder.join("stdout"), output.as_bytes())?;
-    Ok(format!("{} bytes of traces written", input.len()))
+    Ok(format!("{} traces named", stories().len()))
 }
 
 /// Compares every file of every story with the one that is there.
