@@ -1,0 +1,6 @@
+-- The statement is in Silence; Times to Theorem prove it.
+pub mod Silence
+pub mod Times
+pub mod Phases
+pub mod OnePoll
+pub mod Theorem
