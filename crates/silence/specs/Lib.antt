@@ -4,3 +4,5 @@ pub mod Times
 pub mod Phases
 pub mod OnePoll
 pub mod Theorem
+pub mod SilentRecords
+pub mod Sharp

@@ -24,14 +24,13 @@ use Rattle.station.specs.declared.Activity.{Activity}
 use Rattle.station.specs.declared.Activity.the-variants as activity
 use Rattle.station.specs.declared.PassTokenAttempt.{PassTokenAttempt}
 use Rattle.station.specs.declared.PassTokenAttempt.the-variants.{First, Second, Third}
-use Rattle.station.specs.declared.UseTokenData.{UseTokenData}
 use Rattle.station.specs.declared.State.{State}
 use Rattle.station.specs.declared.State.the-variants.{UseToken, PassToken, CheckTokenPass}
 use Rattle.station.specs.declared.Core.{Core}
 use Rattle.station.specs.declared.Waited.{Waited}
 use Rattle.station.specs.declared.RingStep.{RingStep}
 use Rattle.station.specs.Parts.{withState, withActivity, withGap}
-use Rattle.station.specs.Steps.{toUseToken, toPassToken, toCheckTokenPass, withTokenTime, markedAt, busyOf, pauseOf, slotExpiredOf, doneOf, transmitOf}
+use Rattle.station.specs.Steps.{toUseToken, toPassToken, toCheckTokenPass, withTokenTime, markedAt, sentAt, busyOf, pauseOf, slotExpiredOf, doneOf, transmitOf}
 use Rattle.passing.specs.Passing.{gapAdvanced, passSent, passSend, passPollOn, passPoll, passAfter, passTokenOf, resendOf, checkReceived, checkAfter, checkTokenPassOf}
 use Rattle.polling.specs.Polling.{dispatchOn, dispatchOf}
 use Rattle.sound.specs.Keeps.{RingGood, witness-good, remove-good}
@@ -51,11 +50,10 @@ pub record Passing (p : Parameters) (c : Core) (r : Ring) : Type 0 where
   pub passing : c .state ≡ PassToken gap First
   pub no-question : gapDue p c r gap ≡ false
 
--- the state that holds the token
+-- the state that holds a new token
 pub record Holding (c : Core) : Type 0 where
-  pub data-held : UseTokenData
-  pub cycled : Bool
-  pub held : c .state ≡ UseToken data-held cycled
+  pub since : Micros
+  pub held : c .state ≡ UseToken (withTokenTime since) false
 
 -- a station is at a place
 abbrev pub At : Phase → Parameters → Core → Ring → Type 0
@@ -63,9 +61,10 @@ At (starting os) p c r = Ready p c r os × Passing p c r
 At (checking attempt x more) p c r = Ready p c r (x ∷ more) × (c .state ≡ CheckTokenPass attempt)
 At holding p c r = Ready p c r [] × Holding c
 
--- a step that sends the token to this address and leads to this place
-pub record Sends (p : Parameters) (to : ℕ) (ph : Phase) (x : RingStep) : Type 0 where
+-- a step that sends the token to this address now and leads to this place
+pub record Sends (p : Parameters) (now : Micros) (to : ℕ) (ph : Phase) (x : RingStep) : Type 0 where
   pub token : x .step .sent ≡ sent.Token to
+  pub marks : x .step .core .«last_bus_activity» ≡ sentAt p now 3
   pub place : At ph p (x .step .core) (x .ring)
 
 -- a step that sends nothing and stays at this place
@@ -74,25 +73,25 @@ pub record Stays (p : Parameters) (ph : Phase) (x : RingStep) : Type 0 where
   pub place : At ph p (x .step .core) (x .ring)
 
 -- one poll at a place, with whether it is counted
-pub data Turn (p : Parameters) (ph : Phase) (counts : Bool) (x : RingStep) : Type 0 where
-  sends : Sends p (receiver (p .address) ph) (next ph) x → Turn p ph counts x
-  stays : counts ≡ false → Stays p ph x → Turn p ph counts x
+pub data Turn (p : Parameters) (now : Micros) (ph : Phase) (counts : Bool) (x : RingStep) : Type 0 where
+  sends : Sends p now (receiver (p .address) ph) (next ph) x → Turn p now ph counts x
+  stays : counts ≡ false → Stays p ph x → Turn p now ph counts x
 
 -- a pass that the ring has witnessed: if the next station is then ourselves the token is held, else the pass is checked
-held-now : (p : Parameters) (c : Core) (now : Micros) (k : PassTokenAttempt) (to own : ℕ) (seen : Ring) → to ≡ own → Ready p c seen [] → Sends p own holding (passSent p c now k to seen)
+held-now : (p : Parameters) (c : Core) (now : Micros) (k : PassTokenAttempt) (to own : ℕ) (seen : Ring) → to ≡ own → Ready p c seen [] → Sends p now own holding (passSent p c now k to seen)
 unfolding passSent transmitOf toUseToken withState withActivity
 held-now p c now k to own seen e w =
     let g = w .ring-good in
     rw (eq-eqb (nextOf seen) (p .address) (next-alone seen (g .sound) (w .are) ∙ g .own))
-    (record { token = ap sent.Token e; place = (record { on = w .on; ring-good = g; are = w .are }, record { data-held = withTokenTime now; cycled = false; held = refl }) })
+    (record { token = ap sent.Token e; marks = refl; place = (record { on = w .on; ring-good = g; are = w .are }, record { since = now; held = refl }) })
 
-checked-now : (p : Parameters) (c : Core) (now : Micros) (k : PassTokenAttempt) (to x : ℕ) (more : List ℕ) (seen : Ring) → to ≡ x → Ready p c seen (x ∷ more) → Sends p x (checking k x more) (passSent p c now k to seen)
+checked-now : (p : Parameters) (c : Core) (now : Micros) (k : PassTokenAttempt) (to x : ℕ) (more : List ℕ) (seen : Ring) → to ≡ x → Ready p c seen (x ∷ more) → Sends p now x (checking k x more) (passSent p c now k to seen)
 unfolding passSent transmitOf toCheckTokenPass withState withActivity
 checked-now p c now k to x more seen e w =
     let g = w .ring-good in
     let other = next-other seen x more (g .sound) (w .are) in
     rw (ne-eqb (nextOf seen) (p .address) (λ z. other .not-own (sym (next-is seen x more (g .sound) (w .are)) ∙ z ∙ sym (g .own))))
-    (record { token = ap sent.Token e; place = (record { on = w .on; ring-good = g; are = w .are }, refl) })
+    (record { token = ap sent.Token e; marks = refl; place = (record { on = w .on; ring-good = g; are = w .are }, refl) })
 
 -- the ring once it has witnessed the pass to the next station: the others stay
 seen-ready : (p : Parameters) (c : Core) (r : Ring) (os : List ℕ) → Ready p c r os → Ready p c (witnessOf r (p .address) (nextOf r)) os
@@ -105,7 +104,7 @@ seen-ready p c r os w =
     }
 
 -- a token that is sent goes to the first of the others; with none it goes to ourselves and is held
-first-sent : (p : Parameters) (c : Core) (r : Ring) (now : Micros) (k : PassTokenAttempt) (os : List ℕ) → Ready p c r os → Sends p (headOr (p .address) os) (sentTo k os) (passSend p c r now k)
+first-sent : (p : Parameters) (c : Core) (r : Ring) (now : Micros) (k : PassTokenAttempt) (os : List ℕ) → Ready p c r os → Sends p now (headOr (p .address) os) (sentTo k os) (passSend p c r now k)
 unfolding passSend
 first-sent p c r now k [] w =
     let g = w .ring-good in
@@ -133,7 +132,7 @@ unasked (Waiting count) p c r now k e = refl
 unasked (DoPoll current) p c r now k e = absurd (true≢false e)
 
 -- a pass whose pause is over: the token is sent
-paused-sent : (p : Parameters) (c : Core) (r : Ring) (now : Micros) (gap : Bool) (k : PassTokenAttempt) (os : List ℕ) (w : Waited) → Ready p c r os → gapDue p c r gap ≡ false → w .over ≡ true → Sends p (headOr (p .address) os) (sentTo k os) (passAfter p c r now gap k w)
+paused-sent : (p : Parameters) (c : Core) (r : Ring) (now : Micros) (gap : Bool) (k : PassTokenAttempt) (os : List ℕ) (w : Waited) → Ready p c r os → gapDue p c r gap ≡ false → w .over ≡ true → Sends p now (headOr (p .address) os) (sentTo k os) (passAfter p c r now gap k w)
 unfolding passAfter passPoll gapDue withGap
 paused-sent p c r now true k os w b due e =
     let advanced = gapAdvanced p r (c .«gap_state») in
@@ -185,14 +184,14 @@ module _ (p : Parameters) (w : Slotted p) (c : Core) (r : Ring) (now : Micros) (
   dispatch-check k e = ap (λ (x : State). dispatchOn x p c r now bytes n 0) e
 
   -- while a transmission goes on the station stays where it is
-  busy-starting : (os : List ℕ) → At (starting os) p c r → busyOf (c .«last_bus_activity») now ≡ true → Turn p (starting os) countsHere (quietStep p c r now bytes n)
+  busy-starting : (os : List ℕ) → At (starting os) p c r → busyOf (c .«last_bus_activity») now ≡ true → Turn p now (starting os) countsHere (quietStep p c r now bytes n)
   unfolding quietStep doneOf
   busy-starting os s e =
       rw e
       (stays (not-counted-busy countsHere (busyOf (c .«last_bus_activity») now) (counted-free p w _ now) e)
       (record { nothing = refl; place = (active-ready p c r os _ (s .0), active-passing p c r _ (s .1)) }))
 
-  busy-checking : (k : PassTokenAttempt) (x : ℕ) (more : List ℕ) → At (checking k x more) p c r → busyOf (c .«last_bus_activity») now ≡ true → Turn p (checking k x more) countsHere (quietStep p c r now bytes n)
+  busy-checking : (k : PassTokenAttempt) (x : ℕ) (more : List ℕ) → At (checking k x more) p c r → busyOf (c .«last_bus_activity») now ≡ true → Turn p now (checking k x more) countsHere (quietStep p c r now bytes n)
   unfolding quietStep doneOf withActivity
   busy-checking k x more s e =
       rw e
@@ -200,7 +199,7 @@ module _ (p : Parameters) (w : Slotted p) (c : Core) (r : Ring) (now : Micros) (
       (record { nothing = refl; place = (active-ready p c r (x ∷ more) _ (s .0), s .1) }))
 
   -- a token pass is to start: the token is sent once the pause is over
-  free-starting : (os : List ℕ) → At (starting os) p c r → Turn p (starting os) countsHere (dispatchOf p c r now bytes n 0)
+  free-starting : (os : List ℕ) → At (starting os) p c r → Turn p now (starting os) countsHere (dispatchOf p c r now bytes n 0)
   unfolding passTokenOf
   free-starting os s =
       let pause = pauseOf p (c .«last_bus_activity») now in
@@ -208,7 +207,7 @@ module _ (p : Parameters) (w : Slotted p) (c : Core) (r : Ring) (now : Micros) (
       (cases (pause .over) (λ e. sends (paused-sent p c r now (s .1 .gap) First os pause (s .0) (s .1 .no-question) e))
       (λ e. stays (not-counted countsHere (pause .over) (counted-paused p w _ now) e) (unpaused-stays p c r now (s .1 .gap) First os pause (s .0) (s .1) e)))
 
-  pub turn-starting : (os : List ℕ) → At (starting os) p c r → Turn p (starting os) countsHere (quietStep p c r now bytes n)
+  pub turn-starting : (os : List ℕ) → At (starting os) p c r → Turn p now (starting os) countsHere (quietStep p c r now bytes n)
   unfolding quietStep
   turn-starting os s =
       cases (busyOf (c .«last_bus_activity») now) (λ e. busy-starting os s e) (λ e. rw e (free-starting os s))
@@ -219,7 +218,7 @@ unfolding gapDue
 no-gap p c r = refl
 
 -- a token that is sent again, or, after the third, to the next station behind the one that is taken out: the pause is over
-again : (p : Parameters) (c : Core) (r : Ring) (now : Micros) (k : PassTokenAttempt) (os : List ℕ) → Ready p c r os → pauseOf p (c .«last_bus_activity») now .over ≡ true → Sends p (headOr (p .address) os) (sentTo k os) (passTokenOf p (toPassToken c false k) r now false k)
+again : (p : Parameters) (c : Core) (r : Ring) (now : Micros) (k : PassTokenAttempt) (os : List ℕ) → Ready p c r os → pauseOf p (c .«last_bus_activity») now .over ≡ true → Sends p now (headOr (p .address) os) (sentTo k os) (passTokenOf p (toPassToken c false k) r now false k)
 unfolding passTokenOf toPassToken withState
 again p c r now k os w e =
     paused-sent p (toPassToken c false k) r now false k os _ (state-ready p c r os false k w) (no-gap p _ r) e
@@ -233,7 +232,7 @@ taken-out p c r x more w =
       are = ap (λ (a : ℕ). others (removeOf r a)) (next-is r x more (g .sound) (w .are)) ∙ others-remove r x more (g .sound) (w .are);
     }
 
-resent : (k : PassTokenAttempt) (p : Parameters) (c : Core) (r : Ring) (now : Micros) (x : ℕ) (more : List ℕ) → Ready p c r (x ∷ more) → pauseOf p (c .«last_bus_activity») now .over ≡ true → Sends p (receiver (p .address) (checking k x more)) (next (checking k x more)) (resendOf p c r now k)
+resent : (k : PassTokenAttempt) (p : Parameters) (c : Core) (r : Ring) (now : Micros) (x : ℕ) (more : List ℕ) → Ready p c r (x ∷ more) → pauseOf p (c .«last_bus_activity») now .over ≡ true → Sends p now (receiver (p .address) (checking k x more)) (next (checking k x more)) (resendOf p c r now k)
 unfolding resendOf
 resent First p c r now x more w e = again p c r now Second (x ∷ more) w e
 resent Second p c r now x more w e = again p c r now Third (x ∷ more) w e
@@ -241,7 +240,7 @@ resent Third p c r now x more w e = again p c (removeOf r (nextOf r)) now First 
 
 module _ (p : Parameters) (w : Slotted p) (c : Core) (r : Ring) (now : Micros) (bytes : List ℕ) (n : ℕ) where
   -- a pass is being checked: once the slot has expired the next token is sent, before that nothing happens
-  expired : (k : PassTokenAttempt) (x : ℕ) (more : List ℕ) → At (checking k x more) p c r → slotExpiredOf p (c .«last_bus_activity») now .over ≡ true → Sends p (receiver (p .address) (checking k x more)) (next (checking k x more)) (checkTokenPassOf p c r now k bytes n 0)
+  expired : (k : PassTokenAttempt) (x : ℕ) (more : List ℕ) → At (checking k x more) p c r → slotExpiredOf p (c .«last_bus_activity») now .over ≡ true → Sends p now (receiver (p .address) (checking k x more)) (next (checking k x more)) (checkTokenPassOf p c r now k bytes n 0)
   unfolding checkTokenPassOf checkAfter withActivity
   expired k x more s e =
       rw e (resent k p _ r now x more (active-ready p c r (x ∷ more) _ (s .0)) (expired-paused p w (c .«last_bus_activity») now e))
@@ -250,7 +249,7 @@ module _ (p : Parameters) (w : Slotted p) (c : Core) (r : Ring) (now : Micros) (
   unfolding checkTokenPassOf checkAfter checkReceived doneOf withActivity
   unexpired k x more s e = rw e (record { nothing = refl; place = (active-ready p c r (x ∷ more) _ (s .0), s .1) })
 
-  pub turn-checking : (k : PassTokenAttempt) (x : ℕ) (more : List ℕ) → At (checking k x more) p c r → Turn p (checking k x more) (slotAfter (c .«last_bus_activity») (now .0) (slotTimeOf p .0)) (quietStep p c r now bytes n)
+  pub turn-checking : (k : PassTokenAttempt) (x : ℕ) (more : List ℕ) → At (checking k x more) p c r → Turn p now (checking k x more) (slotAfter (c .«last_bus_activity») (now .0) (slotTimeOf p .0)) (quietStep p c r now bytes n)
   unfolding quietStep
   turn-checking k x more s =
       let counts = slotAfter (c .«last_bus_activity») (now .0) (slotTimeOf p .0) in

@@ -69,19 +69,19 @@ unfolding connectedOf connectedOn
 connected-check c k e = ap (λ (x : State). connectedOn x c) e
 
 -- a silent poll of a station at a place, told by the silent step
-poll-at : (ph : Phase) (p : Parameters) (n : ℕ) (c : Core) (r : Ring) (bytes : List ℕ) → Quiet n bytes → Under ph → At ph p c r → pollOf (stationOf p n c r) bytes ≡ polledOf p n (quietStep p c r (clockOf bytes) bytes n)
+pub poll-at : (ph : Phase) (p : Parameters) (n : ℕ) (c : Core) (r : Ring) (bytes : List ℕ) → Quiet n bytes → Under ph → At ph p c r → pollOf (stationOf p n c r) bytes ≡ polledOf p n (quietStep p c r (clockOf bytes) bytes n)
 poll-at (starting os) p n c r bytes q u s = poll-is p n c r bytes q (s .0 .on) (connected-pass c (s .1 .gap) _ (s .1 .passing))
 poll-at (checking k x more) p n c r bytes q u s = poll-is p n c r bytes q (s .0 .on) (connected-check c k (s .1))
 poll-at holding p n c r bytes q u s = absurd u
 
 -- and what it comes to
-turn-at : (ph : Phase) (p : Parameters) → Slotted p → (n : ℕ) (c : Core) (r : Ring) (bytes : List ℕ) → Under ph → At ph p c r → Turn p ph (slotAfter (c .«last_bus_activity») (headOf bytes .clock) (slotTimeOf p .0)) (quietStep p c r (clockOf bytes) bytes n)
+pub turn-at : (ph : Phase) (p : Parameters) → Slotted p → (n : ℕ) (c : Core) (r : Ring) (bytes : List ℕ) → Under ph → At ph p c r → Turn p (clockOf bytes) ph (slotAfter (c .«last_bus_activity») (headOf bytes .clock) (slotTimeOf p .0)) (quietStep p c r (clockOf bytes) bytes n)
 turn-at (starting os) p w n c r bytes u s = turn-starting p w c r (clockOf bytes) bytes n os s
 turn-at (checking k x more) p w n c r bytes u s = turn-checking p w c r (clockOf bytes) bytes n k x more s
 turn-at holding p w n c r bytes u s = absurd u
 
 -- a station holds the token exactly at the last place
-not-holding : (ph : Phase) (p : Parameters) (n : ℕ) (c : Core) (r : Ring) → Under ph → At ph p c r → holdsToken (stationOf p n c r) ≡ false
+pub not-holding : (ph : Phase) (p : Parameters) (n : ℕ) (c : Core) (r : Ring) → Under ph → At ph p c r → holdsToken (stationOf p n c r) ≡ false
 unfolding holdsToken
 not-holding (starting os) p n c r u s = ap (λ (x : State). eqb (stateNumber x) 3) (s .1 .passing)
 not-holding (checking k x more) p n c r u s = ap (λ (x : State). eqb (stateNumber x) 3) (s .1)
@@ -101,7 +101,7 @@ module _ (p : Parameters) (n : ℕ) (c : Core) (r : Ring) (bytes : List ℕ) (la
   unfolding sentUntil polledOf answerOf
   sent-on = rw (out, is)
 
-  counted-on : countedIn (stationOf p n c r) (bytes ∷ later) ≡ cond (slotAfter (c .«last_bus_activity») (headOf bytes .clock) (slotTimeOf p .0)) 1 0 + countedIn (stationOf p n (x .step .core) (x .ring)) later
+  pub counted-on : countedIn (stationOf p n c r) (bytes ∷ later) ≡ cond (slotAfter (c .«last_bus_activity») (headOf bytes .clock) (slotTimeOf p .0)) 1 0 + countedIn (stationOf p n (x .step .core) (x .ring)) later
   unfolding countedIn counted polledOf
   counted-on = rw is
 
@@ -186,7 +186,7 @@ module _ (ph : Phase) (p : Parameters) (w : Slotted p) (n : ℕ) (c : Core) (r :
   abbrev after-it : Station
   after-it = stationOf p n (the-step .step .core) (the-step .ring)
 
-  by-turn : Turn p ph is-counted the-step → Ran p ph (told (the-step .step .sent) ++ sentUntil after-it later) (until after-it later) (cond is-counted 1 0 + countedIn after-it later)
+  by-turn : Turn p (clockOf bytes) ph is-counted the-step → Ran p ph (told (the-step .step .sent) ++ sentUntil after-it later) (until after-it later) (cond is-counted 1 0 + countedIn after-it later)
   by-turn (sends g) = ran-sends p ph _ _ _ is-counted _ u (g .token) (then (next ph) _ _ (g .place))
   by-turn (stays f g) = ran-stays p ph _ _ _ is-counted _ (g .nothing) f (then ph _ _ (g .place))
 
