@@ -6,3 +6,5 @@ pub mod OnePoll
 pub mod Theorem
 pub mod SilentRecords
 pub mod Sharp
+pub mod Calls
+pub mod Shown

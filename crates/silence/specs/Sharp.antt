@@ -60,7 +60,7 @@ too-few s records h q l =
     (λ e. e)
 
 -- the time of a token and of a slot
-abbrev turnTime : Parameters → ℕ
+abbrev pub turnTime : Parameters → ℕ
 turnTime p = pauseTime p + slotTimeOf p .0
 
 -- m silent polls, the first at this clock, and each a token and a slot after the one before
