@@ -1,4 +1,5 @@
--- The statement is in Silence; Times to Theorem prove it.
+-- The statement is in Silence, its proof in Times to Theorem; Sharp, Calls and Shown say that it is sharp, that calls make such
+-- stations, and for which numbers of others. The letter's own case is in Letter, its proof in Asking.
 pub mod Silence
 pub mod Times
 pub mod Phases
@@ -7,4 +8,6 @@ pub mod Theorem
 pub mod SilentRecords
 pub mod Sharp
 pub mod Calls
+pub mod Letter
+pub mod Asking
 pub mod Shown

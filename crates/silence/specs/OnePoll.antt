@@ -159,12 +159,12 @@ quietStep p c r now bytes n =
     (dispatchOf p c r now bytes n 0)
 
 -- a test that would be true of a counted poll is false: the poll is not counted
-not-counted : (counts test : Bool) → (counts ≡ true → test ≡ true) → test ≡ false → counts ≡ false
+pub not-counted : (counts test : Bool) → (counts ≡ true → test ≡ true) → test ≡ false → counts ≡ false
 not-counted true test h e = absurd (true≢false (sym (h refl) ∙ e))
 not-counted false test h e = refl
 
 -- the same of a test that would be false
-not-counted-busy : (counts test : Bool) → (counts ≡ true → test ≡ false) → test ≡ true → counts ≡ false
+pub not-counted-busy : (counts test : Bool) → (counts ≡ true → test ≡ false) → test ≡ true → counts ≡ false
 not-counted-busy true test h e = absurd (true≢false (sym e ∙ h refl))
 not-counted-busy false test h e = refl
 

@@ -30,7 +30,7 @@ use Rattle.silence.specs.Silence.{Start, Quiet, AllQuiet, holdsToken, un
 use Rattle.silence.specs.Times.{Slotted, slotted, pauseTime}
 use Rattle.silence.specs.Phases.{Phase, starting, checking, holding, next, receiver, todo, Under, todo-next, tokens-length}
 use Rattle.silence.specs.OnePoll.{At, Sends, Turn, sends, stays, quietStep}
-use Rattle.silence.specs.Theorem.{stationOf, clockOf, poll-at, turn-at, not-holding, counted-on, started, silence}
+use Rattle.silence.specs.Theorem.{stationOf, clockOf, poll-at, turn-at, counted-on, started, silence}
 use Rattle.silence.specs.SilentRecords.{silentAt, silent-quiet, silent-clock}
 
 -- a poll sends at most one telegram
@@ -113,7 +113,7 @@ module _ (m : ℕ) (ph : Phase) (p : Parameters) (w : Slotted p) (n : ℕ) (c : 
       ((d : Core) (t : Ring) → At (next ph) p d t → slotAfter (d .«last_bus_activity») (clock + turnTime p) (slotTimeOf p .0) ≡ true → countedIn (stationOf p n d t) (tight p n m (clock + turnTime p)) ≡ m)
       → countedIn (stationOf p n c r) (silentAt n clock ∷ tight p n m (clock + turnTime p)) ≡ suc m
   tight-on then =
-      counted-on p n c r the-bytes (tight p n m (clock + turnTime p)) the-step (not-holding ph p n c r u s) (poll-at ph p n c r the-bytes (silent-quiet n clock low) u s)
+      counted-on p n c r the-bytes (tight p n m (clock + turnTime p)) the-step (poll-at ph p n c r the-bytes (silent-quiet n clock low) u s)
       ∙ ap (λ (b : Bool). cond b 1 0 + countedIn (stationOf p n (the-step .step .core) (the-step .ring)) (tight p n m (clock + turnTime p))) is-counted
       ∙ ap (λ (j : ℕ). 1 + j) (then (the-step .step .core) (the-step .ring) (is-sent .place) (next-counted p (the-step .step .core) (headOf the-bytes .clock) clock (silent-clock n clock low) (is-sent .marks)))
       ∙ one-add m

@@ -53,7 +53,7 @@ inner-quiet p c r now bytes n on out =
     ∙ ap (λ (d : Core). pollOnline p d r now false 0 bytes n 0) out
     ∙ online-quiet p c r now bytes n
 
-poll-is : (p : Parameters) (n : ℕ) (c : Core) (r : Ring) (bytes : List ℕ) → Quiet n bytes → c .online ≡ true → connectedOf c ≡ c → pollOf (stationOf p n c r) bytes ≡ polledOf p n (quietStep p c r (clockOf bytes) bytes n)
+pub poll-is : (p : Parameters) (n : ℕ) (c : Core) (r : Ring) (bytes : List ℕ) → Quiet n bytes → c .online ≡ true → connectedOf c ≡ c → pollOf (stationOf p n c r) bytes ≡ polledOf p n (quietStep p c r (clockOf bytes) bytes n)
 unfolding pollOf acceptedPoll acceptedAfter
 poll-is p n c r bytes q on out =
     rw (eq-eqb _ _ (q .accepted), q .no-telegram, q .no-pending, q .no-transmission)
@@ -81,15 +81,20 @@ turn-at (checking k x more) p w n c r bytes u s = turn-checking p w c r (clockOf
 turn-at holding p w n c r bytes u s = absurd u
 
 -- a station holds the token exactly at the last place
-pub not-holding : (ph : Phase) (p : Parameters) (n : ℕ) (c : Core) (r : Ring) → Under ph → At ph p c r → holdsToken (stationOf p n c r) ≡ false
+not-holding : (ph : Phase) (p : Parameters) (n : ℕ) (c : Core) (r : Ring) → Under ph → At ph p c r → holdsToken (stationOf p n c r) ≡ false
 unfolding holdsToken
 not-holding (starting os) p n c r u s = ap (λ (x : State). eqb (stateNumber x) 3) (s .1 .passing)
 not-holding (checking k x more) p n c r u s = ap (λ (x : State). eqb (stateNumber x) 3) (s .1)
 not-holding holding p n c r u s = absurd u
 
-is-holding : (p : Parameters) (n : ℕ) (c : Core) (r : Ring) → At holding p c r → holdsToken (stationOf p n c r) ≡ true
+pub is-holding : (p : Parameters) (n : ℕ) (c : Core) (r : Ring) → At holding p c r → holdsToken (stationOf p n c r) ≡ true
 unfolding holdsToken
 is-holding p n c r s = ap (λ (x : State). eqb (stateNumber x) 3) (s .1 .held)
+
+-- a poll of a run counts or not
+pub counted-on : (p : Parameters) (n : ℕ) (c : Core) (r : Ring) (bytes : List ℕ) (later : List (List ℕ)) (x : RingStep) → pollOf (stationOf p n c r) bytes ≡ polledOf p n x → countedIn (stationOf p n c r) (bytes ∷ later) ≡ cond (slotAfter (c .«last_bus_activity») (headOf bytes .clock) (slotTimeOf p .0)) 1 0 + countedIn (stationOf p n (x .step .core) (x .ring)) later
+unfolding countedIn counted polledOf
+counted-on p n c r bytes later x is = rw is
 
 -- a run that does not start with the token held goes on with its first poll
 module _ (p : Parameters) (n : ℕ) (c : Core) (r : Ring) (bytes : List ℕ) (later : List (List ℕ)) (x : RingStep) (out : holdsToken (stationOf p n c r) ≡ false) (is : pollOf (stationOf p n c r) bytes ≡ polledOf p n x) where
@@ -100,10 +105,6 @@ module _ (p : Parameters) (n : ℕ) (c : Core) (r : Ring) (bytes : List ℕ) (la
   sent-on : sentUntil (stationOf p n c r) (bytes ∷ later) ≡ told (x .step .sent) ++ sentUntil (stationOf p n (x .step .core) (x .ring)) later
   unfolding sentUntil polledOf answerOf
   sent-on = rw (out, is)
-
-  pub counted-on : countedIn (stationOf p n c r) (bytes ∷ later) ≡ cond (slotAfter (c .«last_bus_activity») (headOf bytes .clock) (slotTimeOf p .0)) 1 0 + countedIn (stationOf p n (x .step .core) (x .ring)) later
-  unfolding countedIn counted polledOf
-  counted-on = rw is
 
 -- once the token is held the run is over
 until-held : (s : Station) (records : List (List ℕ)) → holdsToken s ≡ true → until s records ≡ s
@@ -122,7 +123,7 @@ empty-length [] h = refl
 empty-length (x ∷ l) h = absurd (omega arith)
 
 -- a poll counts for at most one
-one-less : (counts : Bool) (left polls : ℕ) → suc left ≤ cond counts 1 0 + polls → left ≤ polls
+pub one-less : (counts : Bool) (left polls : ℕ) → suc left ≤ cond counts 1 0 + polls → left ≤ polls
 one-less true left polls l = omega arith
 one-less false left polls l = omega arith
 
@@ -194,7 +195,7 @@ module _ (ph : Phase) (p : Parameters) (w : Slotted p) (n : ℕ) (c : Core) (r :
   ran-poll =
       let out = not-holding ph p n c r u s in
       let is = poll-at ph p n c r bytes q u s in
-      rw (sent-on p n c r bytes later the-step out is, until-on p n c r bytes later the-step out is, counted-on p n c r bytes later the-step out is)
+      rw (sent-on p n c r bytes later the-step out is, until-on p n c r bytes later the-step out is, counted-on p n c r bytes later the-step is)
       (by-turn (turn-at ph p w n c r bytes u s))
 
 -- from any place: no poll, and one poll with a run from wherever it leads
@@ -230,6 +231,12 @@ some-left-there (starting os) p n c r s e = todo-some (p .address) (starting os)
 some-left-there (checking k x more) p n c r s e = todo-some (p .address) (checking k x more) tt
 some-left-there holding p n c r s e = absurd (true≢false (sym (is-holding p n c r s) ∙ e))
 
+-- a station at a place that holds the token is at the last
+at-holding : (ph : Phase) (p : Parameters) (n : ℕ) (c : Core) (r : Ring) → At ph p c r → holdsToken (stationOf p n c r) ≡ true → At holding p c r
+at-holding (starting os) p n c r s e = absurd (true≢false (sym e ∙ not-holding (starting os) p n c r tt s))
+at-holding (checking k x more) p n c r s e = absurd (true≢false (sym e ∙ not-holding (checking k x more) p n c r tt s))
+at-holding holding p n c r s e = s
+
 -- a station that starts a token pass is at the first place
 pub started : (s : Station) → Start s → At (starting (others (s .«token_ring»))) (s .p) (s .core) (s .«token_ring»)
 started s h = (
@@ -237,13 +244,27 @@ started s h = (
   record { gap = h .gap; passing = h .passing; no-question = h .no-question },
 )
 
+-- its run, and where it ends
+ran-of : (s : Station) (records : List (List ℕ)) → Start s → AllQuiet (s .applications) records → RanOn (s .p) (starting (others (s .«token_ring»))) s records
+ran-of s records h q = ran records (s .p) (slotted (s .p) (h .settings)) (s .applications) q _ (s .core) (s .«token_ring») (started s h)
+
+abbrev placeOf : Station → List (List ℕ) → Phase
+placeOf s records = advance (length (sentUntil s records)) (starting (others (s .«token_ring»)))
+
+-- once it holds the token it is at the last place
+pub held-place : (s : Station) (records : List (List ℕ)) → Start s → AllQuiet (s .applications) records → holdsToken (until s records) ≡ true → At holding (s .p) (until s records .core) (until s records .«token_ring»)
+held-place s records h q e =
+    let g = ran-of s records h q in
+    let end = until s records in
+    at-holding (placeOf s records) (s .p) (end .applications) (end .core) (end .«token_ring») (g .reached) (subst (λ (x : Station). holdsToken x ≡ true) (g .same-parts) e)
+
 -- the theorem
 pub silence : Theorem
 silence s records h q =
     let os = others (s .«token_ring») in
     let p = s .p in
-    let g = ran records p (slotted p (h .settings)) (s .applications) q (starting os) (s .core) (s .«token_ring») (started s h) in
-    let ph = advance (length (sentUntil s records)) (starting os) in
+    let g = ran-of s records h q in
+    let ph = placeOf s records in
     let end = until s records in
     record {
       rest = todo (p .address) ph;
