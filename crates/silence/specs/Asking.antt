@@ -1,5 +1,5 @@
 -- The proof of the letter's case: a station that holds a new token asks its applications by the next counted poll.
-use Prim.Native.Nat.{ℕ, suc, _+_, _<_, _≤_}
+use Prim.Native.Nat.{ℕ, zero, suc, _+_, _<_, _≤_}
 use mathlib.Core.Bool.{Bool, true, false, cond}
 use mathlib.Core.Path.{_≡_, refl, sym, ap, subst, _∙_}
 use mathlib.Core.List.{List, [], _∷_, _++_, append-nil}
@@ -13,12 +13,12 @@ use Rattle.settings.specs.Settings.{slotTimeOf}
 use Rattle.ring.specs.declared.Ring.{Ring}
 use Rattle.ring.specs.SetLaws.{true≢false}
 use Rattle.ring.specs.Ring.{has, others}
-use Rattle.ring.specs.Laws.{Sound, next-other, alone-has}
+use Rattle.ring.specs.Laws.{next-other, alone-has}
 use Rattle.telegrams.specs.declared.Decision.{Decision}
 use Rattle.telegrams.specs.declared.Decision.the-variants as decision
 use Rattle.records.specs.Records.{headOf, decisionAt}
 use Rattle.answers.specs.declared.Sent.{Sent}
-use Rattle.answers.specs.declared.Sent.the-variants.{Nothing, Token}
+use Rattle.answers.specs.declared.Sent.the-variants.{Nothing}
 use Rattle.answers.specs.declared.Outcome.the-variants as outcome
 use Rattle.station.specs.declared.Activity.{Activity}
 use Rattle.station.specs.declared.Activity.the-variants as activity
@@ -31,17 +31,17 @@ use Rattle.station.specs.declared.Step.{Step}
 use Rattle.station.specs.declared.Waited.{Waited}
 use Rattle.station.specs.declared.RingStep.{RingStep}
 use Rattle.station.specs.Parts.{withState, withActivity, withTokenTimes, withNextApplication}
-use Rattle.station.specs.Steps.{toPassToken, toAwaitDataResponse, withTokenTime, markedAt, busyOf, pauseOf, doneOf, transmitOf}
+use Rattle.station.specs.Steps.{withTokenTime, markedAt, busyOf, pauseOf, doneOf, transmitOf}
 use Rattle.holding.specs.declared.Asked.{Asked}
-use Rattle.holding.specs.Holding.{usePassOf, appTransmitOf, askedOf, holdEndOf, holdsOf, useAppsAfter, useAppsOf, useTokenAfter, useTokenTimed, useTokenOf}
+use Rattle.holding.specs.Holding.{declinesAt, usePassOf, appTransmitOf, askedFrom, askedOf, holdEndOf, holdsOf, useAppsAfter, useAppsOf, useTokenAfter, useTokenTimed, useTokenOf}
 use Rattle.polling.specs.declared.Polled.{Polled}
 use Rattle.polling.specs.Polling.{connectedOn, connectedOf, dispatchOn, dispatchOf, polledOf, answerOf, pollOf}
-use Rattle.silence.specs.Silence.{Start, Quiet, AllQuiet, holdsToken, until, told, sentUntil, countedIn, slotAfter, tokens}
+use Rattle.silence.specs.Silence.{AllQuiet, told, sentUntil, countedIn, slotAfter, tokens}
 use Rattle.silence.specs.Times.{Slotted, slotted, counted-free, counted-paused}
 use Rattle.silence.specs.Phases.{Phase, starting, checking, holding, next, todo, Under, todo-next, tokens-length}
-use Rattle.silence.specs.OnePoll.{At, Ready, Holding, Turn, sends, stays, quietStep, not-counted, not-counted-busy}
+use Rattle.silence.specs.OnePoll.{At, Turn, sends, stays, quietStep, not-counted, not-counted-busy}
 use Rattle.silence.specs.Theorem.{stationOf, clockOf, poll-is, poll-at, turn-at, is-holding, counted-on, one-less, held-place, started, silence}
-use Rattle.silence.specs.Letter.{polls, sentIn, wanted, askedSent, Asks, fourTokens, Out, Letter, LetterTheorem}
+use Rattle.silence.specs.Letter.{polls, sentIn, wanted, askedSent, Asks, fourTokens, LetterTheorem}
 
 -- what an application's decision leads to is what it wants
 transmit-sent : (p : Parameters) (c : Core) (now : Micros) (held : UseTokenData) (d : Decision) (high : Bool) → appTransmitOf p c now held d high .sent ≡ wanted d (c .«next_application») high
@@ -259,21 +259,27 @@ the-letter s x records h one q =
     let four : tokens (others r) (p .address) ≡ fourTokens x (p .address) = ap (λ (os : List ℕ). tokens os (p .address)) one in
     record {
       by-four = λ l.
-        let held = g .bound (omega arith) in
-        record {
-          holds = held;
-          sent = sym (append-nil _) ∙ ap (λ (rest : List Sent). sentUntil s records ++ rest) (sym (g .all-sent held)) ∙ g .sends ∙ four;
-          gone = gone-from p _ _ x (held-place s records h q held) (other .low) not-own;
-        };
+          let held = g .bound (omega arith) in
+          record {
+            holds = held;
+            sent = sym (append-nil _) ∙ ap (λ (rest : List Sent). sentUntil s records ++ rest) (sym (g .all-sent held)) ∙ g .sends ∙ four;
+            gone = gone-from p _ _ x (held-place s records h q held) (other .low) not-own;
+          };
       by-five = λ l.
-        let f = found records p (slotted p (h .settings)) (s .applications) q (starting (others r)) (s .core) r (started s h) (omega (arith, tokens-length (others r) (p .address))) in
-        record {
-          before = f .before;
-          asking = f .asking;
-          rest = f .rest;
-          are = f .are;
-          sent = f .sent ∙ four;
-          gone = gone-from p _ _ x (f .place) (other .low) not-own;
-          asks = f .asks;
-        };
+          let f = found records p (slotted p (h .settings)) (s .applications) q (starting (others r)) (s .core) r (started s h) (omega (arith, tokens-length (others r) (p .address))) in
+          record {
+            before = f .before;
+            asking = f .asking;
+            rest = f .rest;
+            are = f .are;
+            sent = f .sent ∙ four;
+            gone = gone-from p _ _ x (f .place) (other .low) not-own;
+            asks = f .asks;
+          };
     }
+
+-- the application whose turn it is: if it does not decline, its telegram is what is sent
+pub its-turn : (bytes : List ℕ) (n turn : ℕ) (high : Bool) → 1 ≤ n → declinesAt bytes n turn high ≡ false → askedSent bytes n turn high ≡ wanted (decisionAt bytes n turn high) turn high
+unfolding askedSent askedOf askedFrom
+its-turn bytes zero turn high l e = absurd (omega arith)
+its-turn bytes (suc k) turn high l e = rw e

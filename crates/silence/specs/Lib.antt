@@ -11,3 +11,4 @@ pub mod Calls
 pub mod Letter
 pub mod Asking
 pub mod Shown
+pub mod Question

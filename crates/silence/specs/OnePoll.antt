@@ -1,13 +1,10 @@
 -- One silent poll at each place of a token pass: the station stays where it is, or sends the one token that is next.
-use Prim.Native.Nat.{ℕ, _+_}
+use Prim.Native.Nat.{ℕ}
 use mathlib.Core.Bool.{Bool, true, false, cond}
 use mathlib.Core.Path.{_≡_, refl, sym, ap, _∙_}
 use mathlib.Core.List.{List, [], _∷_}
-use mathlib.Core.Logic.{_⊎_, inl, inr}
-use native.Mathlib.Omega.{arith}
-use borrow.Author.Tests.{eq-eqb, ne-eqb, le-ltb}
+use borrow.Author.Tests.{eq-eqb, ne-eqb}
 use borrow.Table.Steps.{cases}
-use lib.Dec.{leb, ltb, eqb}
 use Rattle.bit_times.specs.declared.Micros.{Micros}
 use Rattle.settings.specs.declared.Parameters.{Parameters}
 use Rattle.settings.specs.Settings.{slotTimeOf}
@@ -17,7 +14,7 @@ use Rattle.ring.specs.declared.GapState.the-variants.{Waiting, DoPoll}
 use Rattle.ring.specs.Set.{headOr}
 use Rattle.ring.specs.SetLaws.{true≢false}
 use Rattle.ring.specs.Ring.{others, nextOf, witnessOf, removeOf}
-use Rattle.ring.specs.Laws.{Sound, next-head, next-is, next-alone, next-other, others-witness, others-remove}
+use Rattle.ring.specs.Laws.{next-is, next-alone, next-other, others-witness, others-remove}
 use Rattle.answers.specs.declared.Outcome.the-variants as outcome
 use Rattle.answers.specs.declared.Sent.the-variants as sent
 use Rattle.station.specs.declared.Activity.{Activity}
@@ -174,7 +171,7 @@ module _ (p : Parameters) (w : Slotted p) (c : Core) (r : Ring) (now : Micros) (
   countsHere = slotAfter (c .«last_bus_activity») (now .0) (slotTimeOf p .0)
 
   -- the state asks for a token pass
-  dispatch-pass : (gap : Bool) (k : PassTokenAttempt) → c .state ≡ PassToken gap k → dispatchOf p c r now bytes n 0 ≡ passTokenOf p c r now gap k
+  pub dispatch-pass : (gap : Bool) (k : PassTokenAttempt) → c .state ≡ PassToken gap k → dispatchOf p c r now bytes n 0 ≡ passTokenOf p c r now gap k
   unfolding dispatchOf dispatchOn
   dispatch-pass gap k e = ap (λ (x : State). dispatchOn x p c r now bytes n 0) e
 

@@ -1,7 +1,7 @@
 -- The places that a token pass into silence goes through, and what is still to be sent at each. Nothing here knows of a poll.
-use Prim.Native.Nat.{ℕ, zero, suc, _+_, _-_, _*_, _/_, _≤_}
-use mathlib.Core.Path.{_≡_, refl, sym, ap, _∙_}
-use mathlib.Core.List.{List, [], _∷_, _++_}
+use Prim.Native.Nat.{ℕ, zero, suc, _+_, _-_, _*_, _/_}
+use mathlib.Core.Path.{_≡_, refl, sym, _∙_}
+use mathlib.Core.List.{List, [], _∷_}
 use lib.ListN.{length, drop}
 use native.Mathlib.Omega.{arith}
 use Rattle.ring.specs.Set.{headOr}
@@ -9,7 +9,7 @@ use Rattle.answers.specs.declared.Sent.{Sent}
 use Rattle.answers.specs.declared.Sent.the-variants.{Token}
 use Rattle.station.specs.declared.PassTokenAttempt.{PassTokenAttempt}
 use Rattle.station.specs.declared.PassTokenAttempt.the-variants.{First, Second, Third}
-use Rattle.silence.specs.Silence.{thrice, tokens}
+use Rattle.silence.specs.Silence.{tokens}
 
 -- before the first token, with these others; a token was sent to x for the given time, and `more` come behind it; the token is held
 pub data Phase : Type 0 where

@@ -1,17 +1,15 @@
 -- The bound of Silence is sharp: 3k polls never lead to the token, and there is a run of 3k polls that are all counted.
-use Prim.Native.Nat.{ℕ, zero, suc, _+_, _-_, _*_, _^_, _<_, _≤_}
+use Prim.Native.Nat.{ℕ, zero, suc, _+_, _*_, _^_, _<_, _≤_}
 use mathlib.Core.Bool.{Bool, true, false, cond}
-use mathlib.Core.Path.{_≡_, refl, sym, ap, subst, _∙_}
-use mathlib.Core.List.{List, [], _∷_, _++_}
+use mathlib.Core.Path.{_≡_, refl, sym, ap, _∙_}
+use mathlib.Core.List.{List, [], _∷_}
 use lib.ListN.{length, length-append}
-use lib.Dec.{leb}
 use native.Mathlib.Omega.{arith}
 use native.Mathlib.Nat.{suc-mul}
 use native.Mathlib.Numerals.{one-add}
 use borrow.Author.Tests.{le-leb}
 use borrow.Table.Steps.{cases}
 use Rattle.bit_times.specs.declared.Micros.{Micros}
-use Rattle.bit_times.specs.Times.{timeOf}
 use Rattle.settings.specs.declared.Parameters.{Parameters}
 use Rattle.settings.specs.Settings.{slotTimeOf}
 use Rattle.ring.specs.declared.Ring.{Ring}
@@ -26,7 +24,7 @@ use Rattle.station.specs.declared.Station.{Station}
 use Rattle.station.specs.declared.RingStep.{RingStep}
 use Rattle.station.specs.Steps.{sentAt}
 use Rattle.polling.specs.Polling.{pollOf}
-use Rattle.silence.specs.Silence.{Start, Quiet, AllQuiet, holdsToken, until, told, sentUntil, counted, countedIn, slotAfter, tokens}
+use Rattle.silence.specs.Silence.{Start, AllQuiet, holdsToken, until, told, sentUntil, countedIn, slotAfter, tokens}
 use Rattle.silence.specs.Times.{Slotted, slotted, pauseTime}
 use Rattle.silence.specs.Phases.{Phase, starting, checking, holding, next, receiver, todo, Under, todo-next, tokens-length}
 use Rattle.silence.specs.OnePoll.{At, Sends, Turn, sends, stays, quietStep}

@@ -1,16 +1,16 @@
 -- What accepted settings give: a slot time that is not zero and not shorter than the pause; and what a counted poll then knows.
-use Prim.Native.Nat.{ℕ, _+_, _*_, _/_, _<_, _≤_}
-use mathlib.Core.Bool.{Bool, true, false, cond}
-use mathlib.Core.Path.{_≡_, refl, sym, _∙_}
+use Prim.Native.Nat.{ℕ, _+_, _*_, _<_, _≤_}
+use mathlib.Core.Bool.{true, false}
+use mathlib.Core.Path.{_≡_, refl, sym}
 use native.Mathlib.Omega.{arith}
 use native.Mathlib.Nat.{le-div-iff-mul-le, mul-le-mul-right}
 use lib.Ieee.Nearest.{div-mono}
-use borrow.Author.Tests.{le-leb, lt-leb, leb-true, leb-false, eqb-true}
+use borrow.Author.Tests.{le-leb, lt-leb, leb-true, eqb-true}
 use borrow.Table.Steps.{cases}
 use lib.Dec.{leb, eqb}
 use Rattle.bit_times.specs.declared.Baud.{Baud}
 use Rattle.bit_times.specs.declared.Micros.{Micros}
-use Rattle.bit_times.specs.Times.{leastSlotBits, rateOf, codeOf, baudOf, rounded, timeOf}
+use Rattle.bit_times.specs.Times.{leastSlotBits, rateOf, rounded, timeOf}
 use Rattle.bit_times.specs.Laws.{listed}
 use Rattle.settings.specs.declared.Parameters.{Parameters}
 use Rattle.ring.specs.SetLaws.{true≢false}
