@@ -6,7 +6,7 @@ use mathlib.Core.List.{List, [], _∷_}
 use lib.ListN.{length, length-append}
 use native.Mathlib.Omega.{arith}
 use native.Mathlib.Nat.{suc-mul}
-use native.Mathlib.Numerals.{one-add}
+use native.Mathlib.Numerals.{add-one, one-add}
 use borrow.Author.Tests.{le-leb}
 use borrow.Table.Steps.{cases}
 use Rattle.bit_times.specs.declared.Micros.{Micros}
@@ -78,6 +78,11 @@ room-on m t clock l = omega (arith, suc-mul m t)
 room-here : (m t clock : ℕ) → clock + m * t < 2 ^ 48 → clock < 2 ^ 48
 room-here m t clock l = omega arith
 
+room-less : (m t clock : ℕ) → clock + (m + 1) * t < 2 ^ 48 → clock + m * t < 2 ^ 48
+room-less m t clock l =
+    let on : clock + suc m * t < 2 ^ 48 = rw add-one at l in
+    omega (arith, room-on m t clock on)
+
 tight-quiet : (m : ℕ) (p : Parameters) (n clock : ℕ) → clock + m * turnTime p < 2 ^ 48 → AllQuiet n (tight p n m clock)
 unfolding tight
 tight-quiet zero p n clock l = tt
@@ -132,27 +137,43 @@ tight-counted (suc m) ph p w n c r clock s l a room =
     tight-on m ph p w n c r clock (under-some (p .address) m ph l) s a (room-here (suc m) (turnTime p) clock room)
     (λ d t to b. tight-counted m (next ph) p w n d t (clock + turnTime p) to (next-room (p .address) m ph l) b (room-on m (turnTime p) clock room))
 
--- a run of silent polls, 3k of them counted, after which the token is not held
-pub record NotYet (s : Station) : Type 0 where
+-- m silent polls, each of them counted
+pub record CountedRun (s : Station) (m : ℕ) : Type 0 where
   pub records : List (List ℕ)
   pub quiet : AllQuiet (s .applications) records
-  pub all-counted : countedIn s records ≡ 3 * length (others (s .«token_ring»))
-  pub not-held : holdsToken (until s records) ≡ false
+  pub long : length records ≡ m
+  pub all-counted : countedIn s records ≡ m
 
--- The bound is sharp for every station that starts a token pass with known last bus activity, as long as 3k turns are left before
--- the clock's end.
-pub sharp : (s : Station) (last : Micros) → Start s → s .core .«last_bus_activity» ≡ activity.At last → last .0 + slotTimeOf (s .p) .0 + 3 * length (others (s .«token_ring»)) * turnTime (s .p) < 2 ^ 48 → NotYet s
+-- up to 3k + 1 there is such a run of every station that starts a token pass with known last bus activity, if the clock has room
+-- for as many turns
+counted-run : (s : Station) (last : Micros) (m : ℕ) → Start s → s .core .«last_bus_activity» ≡ activity.At last → m ≤ 3 * length (others (s .«token_ring»)) + 1 → last .0 + slotTimeOf (s .p) .0 + m * turnTime (s .p) < 2 ^ 48 → CountedRun s m
 unfolding slotAfter
-sharp s last h a room =
+counted-run s last m h a l room =
     let os = others (s .«token_ring») in
-    let m = 3 * length os in
     let clock = last .0 + slotTimeOf (s .p) .0 in
-    let runs = tight (s .p) (s .applications) m clock in
-    let quiet = tight-quiet m (s .p) (s .applications) clock room in
-    let long = tokens-length os (s .p .address) in
     record {
-      records = runs;
-      quiet = quiet;
-      all-counted = tight-counted m (starting os) (s .p) (slotted (s .p) (h .settings)) (s .applications) (s .core) (s .«token_ring») clock (started s h) (omega arith) (rw a (le-leb clock clock (omega arith))) room;
-      not-held = too-few s runs h quiet (omega (arith, tight-length m (s .p) (s .applications) clock));
+      records = tight (s .p) (s .applications) m clock;
+      quiet = tight-quiet m (s .p) (s .applications) clock room;
+      long = tight-length m (s .p) (s .applications) clock;
+      all-counted = tight-counted m (starting os) (s .p) (slotted (s .p) (h .settings)) (s .applications) (s .core) (s .«token_ring») clock (started s h) (omega (arith, tokens-length os (s .p .address))) (rw a (le-leb clock clock (omega arith))) room;
+    }
+
+-- the bound is sharp: 3k counted polls that do not lead to the token, and 3k + 1 that do
+pub record Sharp (s : Station) : Type 0 where
+  pub too-short : CountedRun s (3 * length (others (s .«token_ring»)))
+  pub not-held : holdsToken (until s (too-short .records)) ≡ false
+  pub long-enough : CountedRun s (3 * length (others (s .«token_ring»)) + 1)
+  pub held : holdsToken (until s (long-enough .records)) ≡ true
+
+-- for every such station
+pub sharp : (s : Station) (last : Micros) → Start s → s .core .«last_bus_activity» ≡ activity.At last → last .0 + slotTimeOf (s .p) .0 + (3 * length (others (s .«token_ring»)) + 1) * turnTime (s .p) < 2 ^ 48 → Sharp s
+sharp s last h a room =
+    let k = length (others (s .«token_ring»)) in
+    let short = counted-run s last (3 * k) h a (omega arith) (room-less (3 * k) (turnTime (s .p)) _ room) in
+    let enough = counted-run s last (3 * k + 1) h a (omega arith) room in
+    record {
+      too-short = short;
+      not-held = too-few s (short .records) h (short .quiet) (omega (arith, short .long));
+      long-enough = enough;
+      held = silence s (enough .records) h (enough .quiet) .bound (omega (arith, enough .all-counted));
     }

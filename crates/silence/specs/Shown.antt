@@ -33,7 +33,7 @@ use Rattle.sound.specs.Sound as call
 use Rattle.silence.specs.Silence.{Start, Quiet, AllQuiet, online, gapDue, slotAfter, counted, countedIn}
 use Rattle.silence.specs.Letter.{sentIn}
 use Rattle.silence.specs.Calls.{ByCalls, settings-given, start-of-calls}
-use Rattle.silence.specs.Sharp.{NotYet, turnTime, sharp}
+use Rattle.silence.specs.Sharp.{Sharp, turnTime, sharp}
 
 -- document 01's example settings: address 5, code 6, slot 200; so a slot is 400 µs, a pause or a token 66 µs, a token is lost after
 -- 6,400 µs
@@ -137,17 +137,16 @@ here-new : newOf here 1 ≡ started.Accepted (freshStation here 1)
 unfolding newOf
 here-new = refl
 
--- A station with k others that calls make and that meets the premises of Silence; and a run of silent polls of it, 3k of them
--- counted, after which it does not hold the token.
+-- A station with k others that calls make and that meets the premises of Silence; and runs of it that show that the bound is sharp.
 pub record Met (k : ℕ) : Type 0 where
   pub station : Station
   pub by-calls : ByCalls station
   pub starts : Start station
   pub size : length (others (station .«token_ring»)) ≡ k
-  pub not-yet : NotYet station
+  pub is-sharp : Sharp station
 
--- 3k turns of such a station end well before the clock does
-room : (k last : ℕ) → k ≤ 125 → last ≤ 8000 → last + slotTimeOf here .0 + 3 * k * turnTime here < 2 ^ 48
+-- 3k + 1 turns of such a station end well before the clock does
+room : (k last : ℕ) → k ≤ 125 → last ≤ 8000 → last + slotTimeOf here .0 + (3 * k + 1) * turnTime here < 2 ^ 48
 unfolding slotTimeOf timeOf rounded
 room k last h l = omega arith
 
@@ -156,7 +155,7 @@ met-by k last telegrams h l g =
     let s = made telegrams in
     let calls : ByCalls s = record { settings = here; applications = 1; accepted = here-accepted; fresh = freshStation here 1; is-new = here-new; calls = callsOf telegrams; makes = refl } in
     let starts = start-of-calls s calls (g .on) true (g .state) (g .due) in
-    record { station = s; by-calls = calls; starts = starts; size = g .size; not-yet = sharp s (record { 0 = last }) starts (g .last-active) (rw (settings-given s calls, g .size) (room k last h l)) }
+    record { station = s; by-calls = calls; starts = starts; size = g .size; is-sharp = sharp s (record { 0 = last }) starts (g .last-active) (rw (settings-given s calls, g .size) (room k last h l)) }
 
 pub met : Met 0 × Met 1 × Met 2 × Met 125
 met = (

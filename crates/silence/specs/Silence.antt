@@ -1,4 +1,6 @@
--- Silence (demand 3), as a statement; the proof is in Theorem.antt and the files below it. The mission's words:
+-- Silence (demand 3), as a statement. Its proof is in Theorem.antt, over Times, Phases and OnePoll. Beside it: Calls (every station
+-- that calls make meets the first two premises), Shown (stations with 0, 1, 2 and 125 others meet all), Sharp (the bound cannot be
+-- smaller), Question (why no gap question may be due), Letter (the letter's own case). The mission's words:
 --
 --   "Let a station that is not offline start a token pass on its first attempt, no gap question due, with k others in its ring.
 --   Let no command follow, and let all later polls be accepted and report no telegram, no pending byte and no transmission. Then,
@@ -128,7 +130,7 @@ abbrev pub tokens : List ℕ → ℕ → List Sent
 tokens stations own = thrice stations ++ (Token own ∷ [])
 
 -- The four parts, for any station that starts and any list of later polls. `others` are the other stations in its ring, in ring
--- order; k is their number.
+-- order; k is their number, which is at most 125 (`others-length` of ring).
 pub record Silence (s : Station) (records : List (List ℕ)) : Type 0 where
   -- what is not sent yet
   pub rest : List Sent
@@ -139,7 +141,7 @@ pub record Silence (s : Station) (records : List (List ℕ)) : Type 0 where
   pub all-sent : holdsToken (until s records) ≡ true → rest ≡ []
   pub some-left : holdsToken (until s records) ≡ false → rest ≡ [] → ⊥
   -- Removals: each station is taken out after its third token, when the next token goes out. So with tokens 1 to 3 sent nobody is
-  -- out, with 4 to 6 the first is, .. and in the end, with 3k + 1, all are.
+  -- out, with 4 to 6 the first is, .. and in the end, with 3k + 1, all are. (With none sent, 0 - 1 is 0.)
   pub removes : others (until s records .«token_ring») ≡ drop ((length (sentUntil s records) - 1) / 3) (others (s .«token_ring»))
   -- The bound: it holds the token by the (3k+1)th counted poll.
   pub bound : 3 * length (others (s .«token_ring»)) + 1 ≤ countedIn s records → holdsToken (until s records) ≡ true

@@ -1,2 +1,3 @@
-// Silence: what a station does that passes the token into a silent bus (demand 3). No code stands here: the statement is
-// specs/Silence.antt, its proof, the stations that meet it and the letter's own case are in the files beside it.
+// Silence: what a station does that passes the token into a silent bus (demand 3), and the letter's own case of it. No code stands
+// here: the statements are specs/Silence.antt and specs/Letter.antt, readable without the proofs in the files beside them. It leans
+// on every crate of the station.
