@@ -1,0 +1,80 @@
+-- The letter's own case, as a statement; its proof is in Asking.antt.
+--
+-- A neighbour that never answers is out of the ring after three tokens, and the station asks its cabinets again. In document 01's
+-- words: the station has one other in its ring and starts a token pass; the bus stays silent. By the fourth counted poll it has sent
+-- three tokens to the neighbour and one to itself, the neighbour is out of the ring, and the station holds the token. By the fifth
+-- it has asked its applications, which are the cabinets.
+use Prim.Native.Nat.{ℕ, _≤_}
+use mathlib.Core.Bool.{Bool, true, false, cond}
+use mathlib.Core.Path.{_≡_}
+use mathlib.Core.List.{List, [], _∷_, _++_}
+use Rattle.ring.specs.Ring.{has, others}
+use Rattle.telegrams.specs.declared.Decision.{Decision}
+use Rattle.telegrams.specs.declared.Decision.the-variants as decision
+use Rattle.records.specs.Records.{decisionAt}
+use Rattle.answers.specs.declared.Sent.{Sent}
+use Rattle.answers.specs.declared.Sent.the-variants.{Nothing, Token, Application}
+use Rattle.station.specs.declared.OptionApplication.the-variants as application
+use Rattle.station.specs.declared.Station.{Station}
+use Rattle.holding.specs.Holding.{askedOf}
+use Rattle.polling.specs.Polling.{pollOf}
+use Rattle.silence.specs.Silence.{Start, AllQuiet, holdsToken, until, told, sentUntil, countedIn}
+
+-- the station after these polls
+unfoldable pub polls : Station → List (List ℕ) → Station
+polls s [] = s
+polls s (bytes ∷ later) = polls (pollOf s bytes .station) later
+
+-- all that these polls send, in order
+unfoldable pub sentIn : Station → List (List ℕ) → List Sent
+sentIn s [] = []
+sentIn s (bytes ∷ later) = told (pollOf s bytes .answer .sent) ++ sentIn (pollOf s bytes .station) later
+
+-- what application a sends by its decision, of normal or high priority
+abbrev pub wanted : Decision → ℕ → Bool → Sent
+wanted decision.Decline a high = Nothing
+wanted (decision.Send length) a high = Application 0 a high length
+wanted (decision.SendExpectReply address length) a high = Application address a high length
+
+-- What is sent when the n applications are asked, one after the other, from the one whose turn it is: the telegram of the first
+-- that does not decline, nothing if all decline.
+unfoldable pub askedSent : List ℕ → ℕ → ℕ → Bool → Sent
+askedSent bytes n turn high =
+    let asked = askedOf bytes n turn application.None high in
+    cond (asked .sends) (wanted (decisionAt bytes n (asked .application) high) (asked .application) high) Nothing
+
+-- a poll in which the station holds the token and asks its applications: within the hold time for their normal telegrams, after it
+-- for those of high priority
+pub record Asks (s : Station) (bytes : List ℕ) : Type 0 where
+  pub holds : holdsToken s ≡ true
+  pub high : Bool
+  pub asks : pollOf s bytes .answer .sent ≡ askedSent bytes (s .applications) (s .core .«next_application») high
+
+-- three tokens to the neighbour, then one to itself
+abbrev pub fourTokens : ℕ → ℕ → List Sent
+fourTokens neighbour own = Token neighbour ∷ Token neighbour ∷ Token neighbour ∷ Token own ∷ []
+
+-- the neighbour is out and the token is held
+pub record Out (s : Station) (neighbour : ℕ) (records : List (List ℕ)) : Type 0 where
+  pub holds : holdsToken (until s records) ≡ true
+  pub sent : sentUntil s records ≡ fourTokens neighbour (s .p .address)
+  pub gone : has (until s records .«token_ring») neighbour ≡ false
+
+-- one of the polls asks the applications; those before it have sent the four tokens and nothing else
+pub record Asked (s : Station) (neighbour : ℕ) (records : List (List ℕ)) : Type 0 where
+  pub before : List (List ℕ)
+  pub asking : List ℕ
+  pub rest : List (List ℕ)
+  pub are : records ≡ before ++ (asking ∷ rest)
+  pub sent : sentIn s before ≡ fourTokens neighbour (s .p .address)
+  pub gone : has (polls s before .«token_ring») neighbour ≡ false
+  pub asks : Asks (polls s before) asking
+
+-- the letter's case: out by the fourth counted poll, asked by the fifth
+pub record Letter (s : Station) (neighbour : ℕ) (records : List (List ℕ)) : Type 0 where
+  pub by-four : 4 ≤ countedIn s records → Out s neighbour records
+  pub by-five : 5 ≤ countedIn s records → Asked s neighbour records
+
+-- for every station that starts a token pass with one other in its ring, and any list of silent polls
+abbrev pub LetterTheorem : Type 0
+LetterTheorem = (s : Station) (neighbour : ℕ) (records : List (List ℕ)) → Start s → others (s .«token_ring») ≡ neighbour ∷ [] → AllQuiet (s .applications) records → Letter s neighbour records
