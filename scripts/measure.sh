@@ -10,6 +10,7 @@ fail() {
     echo "measure: $*" >&2
     exit 1
 }
+[ "$(uname -m)" = x86_64 ] || fail "the program is for x86-64, and valgrind counts it on no other processor"
 command -v valgrind >/dev/null 2>&1 || fail "valgrind is not on the PATH (Debian: apt-get install valgrind)"
 [ -x "$program" ] || fail "$program is not there: run 'rt check poll_runs' first"
 counts=$(mktemp) || fail "no temporary file could be made"
@@ -23,7 +24,7 @@ confirmation=$((1 << 30)) decline=0
 send=$((1 << 23 | 10 << 7))             # 10 bytes
 ask=$((3 << 22 | 20 << 15 | 10 << 7))   # 10 bytes to station 20, which is to reply
 
-# A poll so many microseconds later: what each application but the last does is to decline. POLL adds it to the input.
+# Adds a poll so many microseconds later to the input. The last application decides so, all others decline.
 poll() { # TIME DECISION TELEGRAM..
     clock=$((clock + $1)) polls=$((polls + 1))
     local decision=$2 record
@@ -47,9 +48,10 @@ heard_of() { # STATION..
     poll 300 $decline
 }
 
-# The token comes from a station, is used and passed on, and somebody is silent for a while.
+# The token comes from a station.
 token_from() { poll 100 $decline "$(token 5 "$1")"; } # STATION
-passed_on() {
+# After so many microseconds all applications decline, then the token is passed on; two polls follow.
+passed_on() { # TIME
     poll "$1" $decline
     poll 1 $decline
     poll 30 $decline
