@@ -607,6 +607,40 @@ pub fn consumed_all(all: Heard, telegrams: u8) -> RingStep
     }
 }
 
+// The step that the telegrams of a poll lead to. Most polls have none, and are spared the copies.
+fn received(
+    p: Parameters,
+    core: Core,
+    ring: Ring,
+    now: Micros,
+    listening: bool,
+    bytes: &[u8],
+    applications: u8,
+    telegrams: u8,
+) -> RingStep
+    ensures { λ r. ⌜ r ≡ consumedAll (receivedAll p core ring now listening (contents (bytes .entry)) applications telegrams) telegrams ⌝ }
+{
+    if telegrams == 0 {
+        return RingStep {
+            step: station::done(core, Outcome::Bus),
+            ring,
+        };
+    }
+    consumed_all(
+        receive_all_telegrams(
+            p,
+            core,
+            ring,
+            now,
+            listening,
+            bytes,
+            applications,
+            telegrams,
+        ),
+        telegrams,
+    )
+}
+
 // do_listen_token.
 pub fn do_listen_token(
     p: Parameters,
@@ -630,10 +664,7 @@ pub fn do_listen_token(
         return handle_lost_token(p, waited, ring, now);
     }
     match status_request {
-        OptionAddress::None => consumed_all(
-            receive_all_telegrams(p, waited, ring, now, true, bytes, applications, telegrams),
-            telegrams,
-        ),
+        OptionAddress::None => received(p, waited, ring, now, true, bytes, applications, telegrams),
         OptionAddress::Some(source) => do_listen_token_respond(
             p,
             waited,
@@ -715,8 +746,14 @@ pub fn do_active_idle(
         return handle_lost_token(p, waited, ring, now);
     }
     match status_request {
-        OptionAddress::None => consumed_all(
-            receive_all_telegrams(p, waited, ring, now, false, bytes, applications, telegrams),
+        OptionAddress::None => received(
+            p,
+            waited,
+            ring,
+            now,
+            false,
+            bytes,
+            applications,
             telegrams,
         ),
         OptionAddress::Some(source) => do_active_idle_respond(

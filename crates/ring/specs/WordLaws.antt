@@ -6,7 +6,9 @@ use native.Mathlib.Nat.{div-one, pow-suc, mod-lt, zero-add, one-mul, not-le-of-l
 use native.Mathlib.Omega.{arith}
 use lib.Dec.{ltb, eqb, eqb·suc-suc, eqb·zero-suc, eqb·suc-zero, lit<}
 use lib.Bits.{bitAnd, bitOr, bitXor, and-shr, and-mod, and-lt, or-shr, or-mod, or-lt, xor-shr, xor-mod, xor-lt}
-use lib.Pow.{shr-shr, shl-exact, pow-pos, pow-lt, field, mod-mod-pow}
+use lib.Count.{leadingZeros, trailingZeros, under, leading-length}
+use lib.Arith.{lt-one}
+use lib.Pow.{shr-shr, shr-lt, shl-exact, pow-pos, pow-lt, field, mod-mod-pow}
 use borrow.Author.Tests.{eqb-true, eqb-false, eq-eqb, ne-eqb, ltb-true, ltb-false, lt-ltb, le-ltb}
 use Rattle.ring.specs.Set.{betweenOf, arcOf, only, lower, keeps, keepsAll, sameSet}
 use Rattle.ring.specs.SetLaws.{true≢false, between-start, between-end, same-if, same-then}
@@ -206,6 +208,54 @@ bit-short w n k l =
     ∙ ap (λ (m : ℕ). eqb (w / 2 ^ k % 2 ^ m % 2) 1) rest
     ∙ ap (λ (m : ℕ). eqb m 1) (mod-mod-pow (w / 2 ^ k) (n - k - 1) 1)
 
+-- bit j of what stands above the lowest k bits is bit k + j
+pub bit-above : (w k j : ℕ) → bitOf (w / 2 ^ k) j ≡ bitOf w (k + j)
+unfolding bitOf
+bit-above w k j = ap (λ (n : ℕ). eqb (n % 2) 1) (shr-shr w k j)
+
+-- below the lowest bit that is set no bit is
+bit-trailing : (n w j : ℕ) → j < trailingZeros n w → bitOf w j ≡ false
+unfolding trailingZeros
+bit-trailing zero w j l = absurd (omega arith)
+bit-trailing (suc n) w j l = go (w % 2) refl (bit-trailing n (w / 2)) j l
+  where
+    go : (b : ℕ) → w % 2 ≡ b → ((i : ℕ) → i < trailingZeros n (w / 2) → bitOf (w / 2) i ≡ false) → (i : ℕ) → i < under b (trailingZeros n (w / 2))
+        → bitOf w i ≡ false
+    go zero q on zero h = bit-zero w ∙ ap (λ (x : ℕ). eqb x 1) q
+    go zero q on (suc i) h = bit-suc w i ∙ on i (omega arith)
+    go (suc b) q on i h = absurd (omega arith)
+
+-- a number below 2 to the m has no bit from m on
+bit-beyond : (m w j : ℕ) → w < 2 ^ m → m ≤ j → bitOf w j ≡ false
+bit-beyond m w j l h =
+    let back : m + (j - m) ≡ j = omega arith in
+    let nothing : w / 2 ^ m ≡ 0 = lt-one (shr-lt 0 m (subst (λ (x : ℕ). w < 2 ^ x) (sym (zero-add m)) l)) in
+    ap (bitOf w) (sym back) ∙ sym (bit-above w m (j - m)) ∙ ap (λ (x : ℕ). bitOf x (j - m)) nothing ∙ bit-none (j - m)
+
+-- above the highest bit that is set no bit is
+bit-leading : (n w j : ℕ) → w < 2 ^ n → n ≤ leadingZeros n w + j → bitOf w j ≡ false
+bit-leading n w j l h =
+    let top = leading-length n w l in
+    let sum : leadingZeros n w + top .0 ≡ n = top .1 in
+    bit-beyond (top .0) w j (top .2) (omega arith)
+
+-- the zeros that are counted after place k are empty places
+pub empty-after : (w k j : ℕ) → j < trailingZeros 64 (w / 2 ^ k / 2 ^ 1) → bitOf w (k + 1 + j) ≡ false
+empty-after w k j l =
+    let sum : k + 1 + j ≡ k + (1 + j) = omega arith in
+    ap (bitOf w) sum ∙ sym (bit-above w k (1 + j)) ∙ sym (bit-above (w / 2 ^ k) 1 j) ∙ bit-trailing 64 (w / 2 ^ k / 2 ^ 1) j l
+
+-- and so are those that are counted before it
+pub empty-before : (w b k i : ℕ) → w < 2 ^ 64 → b ≡ wordOf (lower k) 0 64 → i < k → k < 64 → 64 ≤ leadingZeros 64 (bitAnd w b) + i → bitOf w i ≡ false
+empty-before w b k i l e u m h =
+    let mask : bitOf b i ≡ true = ap (λ (x : ℕ). bitOf x i) e ∙ word-bit (lower k) 0 64 i (omega arith) ∙ lt-ltb (0 + i) k (omega arith) in
+    let both : (bitOf w i && bitOf b i) ≡ false = sym (bit-and w b i) ∙ bit-leading 64 (bitAnd w b) i (and-lt 64 w b l (subst (λ (x : ℕ). x < 2 ^ 64) (sym e) (word-lt (lower k) 0 64))) h in
+    go (bitOf w i) refl mask both
+  where
+    go : (x : Bool) → bitOf w i ≡ x → bitOf b i ≡ true → (bitOf w i && bitOf b i) ≡ false → bitOf w i ≡ false
+    go true q mask both = absurd (true≢false (sym (ap (λ (y : Bool). y && bitOf b i) q ∙ mask) ∙ both))
+    go false q mask both = q
+
 -- The two words.
 
 -- below 64 the low word says who is a member
@@ -235,6 +285,25 @@ in-words P h k a l = go (ltb a 64) refl
         let m : 64 ≤ a = ltb-false a 64 q in
         let back : 64 + (a - 64) ≡ a = omega arith in
         subst P back (k (a - 64) (omega arith))
+
+-- empty places of a word are addresses without a member
+pub empty-low : (low high a r : ℕ) → a + r < 64 → ((j : ℕ) → j < r → bitOf low (a + 1 + j) ≡ false) → (j : ℕ) → j < r → hasIn low high (a + 1 + j) ≡ false
+empty-low low high a r l h j u = has-low low high (a + 1 + j) (omega arith) ∙ h j u
+
+pub empty-high : (low high a r : ℕ) → 64 ≤ a → a - 64 + r < 62 → ((j : ℕ) → j < r → bitOf high (a - 64 + 1 + j) ≡ false) → (j : ℕ) → j < r
+    → hasIn low high (a + 1 + j) ≡ false
+empty-high low high a r m l h j u =
+    let at : a + 1 + j ≡ 64 + (a - 64 + 1 + j) = omega arith in
+    ap (hasIn low high) at ∙ has-high low high (a - 64 + 1 + j) (omega arith) ∙ h j u
+
+pub empty-low-down : (low high a r : ℕ) → a < 64 → ((j : ℕ) → j < r → bitOf low (a - 1 - j) ≡ false) → (j : ℕ) → j < r → hasIn low high (a - 1 - j) ≡ false
+empty-low-down low high a r l h j u = has-low low high (a - 1 - j) (omega arith) ∙ h j u
+
+pub empty-high-down : (low high a r : ℕ) → 64 ≤ a → a < 126 → r ≤ a - 64 → ((j : ℕ) → j < r → bitOf high (a - 64 - 1 - j) ≡ false) → (j : ℕ) → j < r
+    → hasIn low high (a - 1 - j) ≡ false
+empty-high-down low high a r m n l h j u =
+    let at : a - 1 - j ≡ 64 + (a - 64 - 1 - j) = omega arith in
+    ap (hasIn low high) at ∙ has-high low high (a - 64 - 1 - j) (omega arith) ∙ h j u
 
 -- the words of a set keep the set
 pub has-words : (f : ℕ → Bool) (a : ℕ) → a < 126 → hasIn (wordOf f 0 64) (wordOf f 64 62) a ≡ f a

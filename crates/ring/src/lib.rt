@@ -4,8 +4,8 @@
 // member, and adding, removing or witnessing it changes nothing; with an own address above 125, which settings never
 // give, the ring is empty.
 ghost use mathlib.Core.Path.{_≡_};
-ghost use Prim.Native.Nat.{_%_, _^_, _<_, _≤_};
-ghost use mathlib.Core.Bool.{_||_};
+ghost use Prim.Native.Nat.{ℕ, _+_, _-_, _%_, _^_, _<_, _≤_};
+ghost use mathlib.Core.Bool.{false, _||_};
 ghost use lib.Dec.{leb};
 ghost use Rattle.ring.specs.Set.{placeOf, nearest, betweenOf, only, lower, arcOf, keepsAll, sameSet, roundOf, lapsOf, candidateOf};
 ghost use Rattle.ring.specs.Words.{bitOf, wordOf, wordSet, hasIn};
@@ -71,20 +71,63 @@ fn place(up: bool, own: u8, d: u8) -> u8
     wrapped(own as u16 + 126 - d as u16)
 }
 
-// The first member met from own on, up or down; own if it is alone.
+// How many of the places after `k` in a word of `width` bits are empty, up to the first that is not.
+fn empty_after(word: u64, k: u8, width: u8) -> u8
+    requires { ⌜ (k < width) × (width ≤ 64) ⌝ }
+    ensures { λ r. ⌜ (k + r < width) × ((j : ℕ) → j < r → bitOf word (k + 1 + j) ≡ false) ⌝ }
+{
+    let zeros = u64::trailing_zeros((word >> k) >> 1);
+    let rest = width - 1 - k;
+    if zeros < rest as u32 {
+        return zeros as u8;
+    }
+    rest
+}
+
+// How many of the places before `k` in a word are empty, down to the first that is not.
+fn empty_before(word: u64, k: u8) -> u8
+    requires { ⌜ k < 64 ⌝ }
+    ensures { λ r. ⌜ (r ≤ k) × ((j : ℕ) → j < r → bitOf word (k - 1 - j) ≡ false) ⌝ }
+{
+    let used = 64 - u64::leading_zeros(word & below(0, k));
+    if used < k as u32 {
+        return k - used as u8;
+    }
+    0
+}
+
+// How many addresses behind `a`, going up or down, are seen in its word to be no members: so many a search leaves out.
+fn empty_behind(low: u64, high: u64, a: u8, up: bool) -> u8
+    requires { ⌜ a < 126 ⌝ }
+    ensures { λ r. ⌜ (r < 126) × ((j : ℕ) → j < r → hasIn low high (placeOf up a (1 + j)) ≡ false) ⌝ }
+{
+    if up {
+        if a < 64 {
+            return empty_after(low, a, 64);
+        }
+        return empty_after(high, a - 64, 62);
+    }
+    if a < 64 {
+        return empty_before(low, a);
+    }
+    empty_before(high, a - 64)
+}
+
+// The first member met from own on, up or down; own if it is alone. A search has 125 distances, and asking for each costs
+// more than the rest of a poll.
 fn nearest_station(low: u64, high: u64, own: u8, up: bool) -> u8
     ensures { λ r. ⌜ r ≡ nearest up (hasIn low high) own ⌝ }
 {
     let mut d: u8 = 1;
     let found = loop {
-        if d == 126 {
+        if 126 <= d {
             break own;
         }
         let a = place(up, own, d);
         if holds(low, high, a) {
             break a;
         }
-        d += 1;
+        d += 1 + empty_behind(low, high, a, up);
     };
     found
 }
