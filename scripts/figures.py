@@ -45,7 +45,7 @@ def is_law(path, has_code):
     in a crate of theorems, what is claimed."""
     name = os.path.basename(path)
     if not has_code:
-        return name not in ("Claim.antt", "Table.antt")
+        return name not in ("Claim.antt", "Table.antt", "Silence.antt", "Letter.antt")
     return name.endswith("Laws.antt") or name in ("Made.antt", "Examples.antt", "Widths.antt")
 
 
