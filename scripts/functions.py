@@ -300,7 +300,7 @@ def row(*cells):
     return "| " + " | ".join(cells) + " |"
 
 
-def rows_of(rust, definitions, functions, by_name, part_of):
+def rows_of(rust, definitions, by_name, functions, part_of):
     """The rows of one Rust function: one for each definition, then one for each function that only its comment names."""
     rows, shown = [], set()
     for definition in definitions:
@@ -354,48 +354,25 @@ def check_taken(rust, by_rust):
             fail(f"{r.name} ({r.file}:{r.line}) has no definition whose comment begins with its name, and is not listed as not taken")
 
 
-def table(folder):
-    """The text of docs/FUNCTIONS.md."""
-    rust = rust_functions(folder)
-    definitions, functions = sources()
-    part_of = whole_of(definitions, functions)
-    by_rust, fn_by_rust = {}, {}
-    for definition in definitions:
-        for name in names_at_head(definition.comment, rust):
-            by_rust.setdefault(name, []).append(definition)
-    for function in functions:
-        for name in names_at_head(function.comment, rust):
-            fn_by_rust.setdefault(name, []).append(function)
-    check_taken(rust, by_rust)
-
-    taken = [r for r in rust if r.name in by_rust]
-    text = [
-        "# Functions",
-        "",
-        "Made by `scripts/functions.py` from the sources; `make test` fails where it is not what the sources say. Do not edit it.",
-        "",
-        f"The published Rust has {len(rust)} functions and macros in `oracle/published/active.rs` and `parameters.rs`: {len(taken)} are",
-        f"taken and have definitions, {len(NOT_TAKEN)} are not and have a reason. Each number is a line. Files are under `crates/`.",
-        "",
-        "A row is one definition of the Rust function, the Rattle function whose contract cites it, and that contract: `r` is what",
-        "the function gives back, and `requires` what its callers have to show first. A definition that no contract cites by itself",
-        "is part of one that is named. (01) marks a name that document 01 lists as lacking in the printed text: there its own rule",
-        "is built, and not the published lines.",
-    ]
-    found = set()
+def taken_tables(rust, named, functions, part_of):
+    """A table for each of the two files. `named` gives for a Rust function the definitions and functions that name it."""
+    text = []
     for file in FILES:
         text += ["", f"## `{file}`", "", row("Rust, line", "Definition", "Rattle function", "Contract"), "|---|---|---|---|"]
-        for r in taken:
-            if r.file == file:
-                rows = rows_of(r, by_rust[r.name], functions, fn_by_rust.get(r.name, []), part_of)
-                text += rows
-                cited = {(d.crate, d.name) for d in by_rust[r.name]}
-                found |= {f for f in functions if cited & set(f.cites)} | set(fn_by_rust.get(r.name, []))
+        for r in rust:
+            if r.file == file and named(r)[0]:
+                text += rows_of(r, *named(r), functions, part_of)
+    return text
 
-    text += ["", "## Not taken", "", row("Rust, line", "File", "Reason"), "|---|---|---|"]
-    text += [row(rust_cell(r), f"`{r.file}`", NOT_TAKEN[r.name]) for r in rust if r.name in NOT_TAKEN]
 
-    text += [
+def not_taken_table(rust):
+    text = ["", "## Not taken", "", row("Rust, line", "File", "Reason"), "|---|---|---|"]
+    return text + [row(rust_cell(r), f"`{r.file}`", NOT_TAKEN[r.name]) for r in rust if r.name in NOT_TAKEN]
+
+
+def rest_table(functions, definitions):
+    """The functions that stand in no table above."""
+    text = [
         "",
         "## Without a function in the two files",
         "",
@@ -406,10 +383,45 @@ def table(folder):
     ]
     where = {(d.crate, d.name): d for d in definitions}
     for function in functions:
-        if function not in found:
-            cited = [place(where[cite]) for cite in dict.fromkeys(function.cites) if cite in where]
-            meaning = re.split(r"(?<=[.?]) ", function.comment)[0].replace("|", "\\|")
-            text.append(row(place(function), meaning, "<br>".join(cited), contract_cell(function)))
+        cited = [place(where[cite]) for cite in dict.fromkeys(function.cites) if cite in where]
+        meaning = re.split(r"(?<=[.?]) ", function.comment)[0].replace("|", "\\|")
+        text.append(row(place(function), meaning, "<br>".join(cited), contract_cell(function)))
+    return text
+
+
+def by_rust_name(items, rust):
+    """The definitions or functions whose comments begin with the name of a Rust function, by that name."""
+    found = {}
+    for item in items:
+        for name in names_at_head(item.comment, rust):
+            found.setdefault(name, []).append(item)
+    return found
+
+
+def table(folder):
+    """The text of docs/FUNCTIONS.md."""
+    rust = rust_functions(folder)
+    definitions, functions = sources()
+    definitions_by, functions_by = by_rust_name(definitions, rust), by_rust_name(functions, rust)
+    check_taken(rust, definitions_by)
+    cited = {(d.crate, d.name) for named in definitions_by.values() for d in named}
+    listed = {f for named in functions_by.values() for f in named} | {f for f in functions if cited & set(f.cites)}
+    text = [
+        "# Functions",
+        "",
+        "Made by `scripts/functions.py` from the sources; `make test` fails where it is not what the sources say. Do not edit it.",
+        "",
+        f"The published Rust has {len(rust)} functions and macros in `oracle/published/active.rs` and `parameters.rs`: {len(definitions_by)} are",
+        f"taken and have definitions, {len(NOT_TAKEN)} are not and have a reason. Each number is a line. Files are under `crates/`.",
+        "",
+        "A row is one definition of the Rust function, the Rattle function whose contract cites it, and that contract: `r` is what",
+        "the function gives back, and `requires` what its callers have to show first. A definition that no contract cites by itself",
+        "is part of one that is named. (01) marks a name that document 01 lists as lacking in the printed text: there its own rule",
+        "is built, and not the published lines.",
+    ]
+    text += taken_tables(rust, lambda r: (definitions_by.get(r.name, []), functions_by.get(r.name, [])), functions, whole_of(definitions, functions))
+    text += not_taken_table(rust)
+    text += rest_table([function for function in functions if function not in listed], definitions)
     return "\n".join(text) + "\n"
 
 
