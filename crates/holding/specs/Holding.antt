@@ -91,7 +91,7 @@ holdEndOf p c token =
     cond (eqb (c .«last_token_time» .0) (token .0)) c
     (withTokenTimes c token (record { from = c .«last_token_time»; span = rotationTimeOf p; less = holdLess p (c .«gap_state») }))
 
--- now < end_token_hold_time, which is from + span − less
+-- do_use_token: now < end_token_hold_time, which is from + span − less
 unfoldable pub holdsOf : Micros → HoldEnd → Bool
 holdsOf now end = ltb (now .0 + end .less .0) (end .from .0 + end .span .0)
 

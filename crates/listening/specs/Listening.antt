@@ -64,7 +64,7 @@ collided p c ring request collisions =
     cond (eqb collisions 0) (heardOf (withState c (ListenToken request 1)) ring outcome.Bus)
     (heardOf freshCore (freshOf (p .address)) outcome.Bus)
 
--- a status request, to us, that is the last telegram of its poll
+-- do_listen_token and handle_telegram: a status request, to us, that is the last telegram of its poll
 unfoldable pub toUs : ℕ → ℕ → Bool → Bool → Bool
 toUs destination own asks last = cond asks (cond (eqb destination own) last false) false
 
@@ -106,7 +106,7 @@ activeCollided c ring request previous collisions =
     cond (eqb collisions 0) (heardOf (withState c (ActiveIdle request previous 1)) ring outcome.Bus)
     (heardOf (toListenToken c) ring outcome.Bus)
 
--- is this the remembered station
+-- handle_telegram: is this the remembered station
 unfoldable pub remembers : OptionAddress → ℕ → Bool
 remembers address.None a = false
 remembers (address.Some b) a = eqb b a

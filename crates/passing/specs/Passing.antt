@@ -28,7 +28,7 @@ use Rattle.station.specs.Parts.{withActivity, withGap}
 use Rattle.station.specs.Steps.{toActiveIdle, toUseToken, toPassToken, toCheckTokenPass, toAwaitStatusResponse, withTokenTime, pauseOf, rxOf, slotExpiredOf, doneOf, transmitOf}
 use Rattle.listening.specs.Listening.{receivedAll, consumedAll}
 
--- do_pass_token: the gap's turn: a count above the settings' starts a walk from own, a walk goes on from where it is
+-- do_pass_token and GapState::increment_wait: the gap's turn: a count above the settings' starts a walk from own, a walk goes on from where it is
 unfoldable pub gapAdvanced : Parameters → Ring → GapState → GapState
 gapAdvanced p ring (Waiting count) =
     cond (ltb (p .«gap_wait_rotations») count) (gapOf ring (p .address) (p .«highest_station_address»)) (Waiting (count + 1))
@@ -115,7 +115,7 @@ awaitStatusOf p c ring now address bytes n count =
     cond (ltb 0 count) (statusReceived p (rxOf c now) ring address (telegramAt bytes n 0))
     (awaitStatusAfter p c ring now (slotExpiredOf p (c .«last_bus_activity») now))
 
--- do_check_token_pass: sent again up to the third attempt, then the next station is taken out and and the one behind it gets its first attempt
+-- do_check_token_pass: sent again up to the third attempt, then the next station is taken out and the one behind it gets its first attempt
 unfoldable pub resendOf : Parameters → Core → Ring → Micros → PassTokenAttempt → RingStep
 resendOf p c ring now First = passTokenOf p (toPassToken c false Second) ring now false Second
 resendOf p c ring now Second = passTokenOf p (toPassToken c false Third) ring now false Third

@@ -110,16 +110,16 @@ unfoldable pub pollOf : Station → List ℕ → Polled
 pollOf s bytes =
     cond (eqb (recordRefusal bytes (s .applications)) 0) (acceptedPoll s bytes) (refusedPoll s (recordRefusal bytes (s .applications)))
 
--- set_online: all else stays
+-- set_online, set_state: all else stays
 unfoldable pub onlineOf : Station → Polled
 onlineOf s =
     polledOf (s .p) (s .applications) (record { step = doneOf (withOnline (s .core) true) outcome.None; ring = s .«token_ring» })
 
--- set_offline: a fresh station
+-- set_offline, set_state: a fresh station
 unfoldable pub offlineOf : Station → Polled
 offlineOf s =
     polledOf (s .p) (s .applications) (record { step = doneOf freshCore outcome.None; ring = freshOf (s .p .address) })
 
--- set_passive: refused with 16
+-- set_passive, set_state: refused with 16
 unfoldable pub passiveOf : Station → Polled
 passiveOf s = refusedPoll s 16

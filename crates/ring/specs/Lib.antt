@@ -1,3 +1,4 @@
+-- Sets of addresses, then how a set is kept, then the ring, each with its laws; those that other crates cite are in Laws.
 pub mod Set
 pub mod SetLaws
 pub mod Words

@@ -1,6 +1,6 @@
 // Reads calls of the ring from standard input, three bytes each, makes them one after the other, and prints a line for
 // each: next and previous station, laps, ready, the call's own answer, and the members as a number of 128 bits. The ring
-// written in another language is held to these lines.
+// written in another language is held to these lines. It leans on ring and io.
 ghost use mathlib.Core.Path.{_≡_};
 ghost use lib.ListN.{length};
 use libc::STDIN_FILENO;

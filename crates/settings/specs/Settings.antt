@@ -33,7 +33,7 @@ outsideOf low v high n = cond (leb low v && leb v high) 0 n
 abbrev pub ceilOf : ℕ → ℕ → ℕ
 ceilOf u f = (u + f - 1) / f
 
--- the least f1 of the k numbers from f on with u / f1 rounded up below 256, and that quotient; 9 where there is none
+-- watchdog_factors: the least f1 of the k numbers from f on with u / f1 rounded up below 256, and that quotient; 9 where there is none
 unfoldable pub trial : ℕ → ℕ → ℕ → Factored
 trial u zero f = factored.Refused 9
 trial u (suc k) f = let rest = trial u k (suc f) in cond (ltb (ceilOf u f) 256) (factored.Factors f (ceilOf u f)) rest
@@ -46,7 +46,7 @@ factorsOf ms = cond (eqb ms 0) factored.None (trial (ms / 10) 255 1)
 abbrev pub defaultOf : ℕ → Baud → Parameters
 defaultOf address baud = record { «token_rotation_bits» = 32436; «slot_bits» = leastSlotBits baud; address = address; baudrate = baud; «gap_wait_rotations» = 10; «highest_station_address» = 126; «max_retry_limit» = 1; «min_tsdr_bits» = 11; «watchdog_factors» = wf.None }
 
--- new settings of a known rate; 10 where the code has no rate
+-- ParametersBuilder::new, of a known rate; 10 where the code has no rate
 unfoldable pub newAt : ℕ → Coded → Created
 newAt address (Rate baud) = created.Accepted (defaultOf address baud)
 newAt address Unknown = created.Refused 10
@@ -150,19 +150,23 @@ factorsPair (wf.Some f1 f2) = (f1, f2)
 unfoldable pub fieldsOf : Parameters → Fields
 fieldsOf p = record { «token_rotation_bits» = p .«token_rotation_bits»; «slot_bits» = p .«slot_bits»; address = p .address; «baud_code» = codeOf (p .baudrate); «gap_wait_rotations» = p .«gap_wait_rotations»; «highest_station_address» = p .«highest_station_address»; «max_retry_limit» = p .«max_retry_limit»; «min_tsdr_bits» = p .«min_tsdr_bits»; «factor_1» = factorsPair (p .«watchdog_factors») .0; «factor_2» = factorsPair (p .«watchdog_factors») .1 }
 
--- Parameters::bits_to_time, slot_time, min_tsdr_time, token_lost_timeout (slot bits × (6 + 2 × address)), token_rotation_time
+-- Parameters::bits_to_time
 abbrev pub bitsToTime : Parameters → ℕ → Micros
 bitsToTime p bits = timeOf (record { 0 = bits }) (p .baudrate)
 
+-- Parameters::slot_time
 unfoldable pub slotTimeOf : Parameters → Micros
 slotTimeOf p = bitsToTime p (p .«slot_bits»)
 
+-- Parameters::min_tsdr_time
 unfoldable pub minTsdrTimeOf : Parameters → Micros
 minTsdrTimeOf p = bitsToTime p (p .«min_tsdr_bits»)
 
+-- Parameters::token_lost_timeout: the time of slot bits × (6 + 2 × address)
 unfoldable pub tokenLostOf : Parameters → Micros
 tokenLostOf p = bitsToTime p (p .«slot_bits» * (6 + 2 * p .address))
 
+-- Parameters::token_rotation_time
 unfoldable pub rotationTimeOf : Parameters → Micros
 rotationTimeOf p = bitsToTime p (p .«token_rotation_bits»)
 

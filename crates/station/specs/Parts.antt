@@ -56,11 +56,11 @@ stateNumber (AwaitStatusResponse address) = 8
 abbrev pub zeroTime : Micros
 zeroTime = record { 0 = 0 }
 
--- document 01: a fresh station is Offline, activity unknown, pending 0, token time 0, hold end 0, gap waiting 0, application 0
+-- FdlActiveStation::new, as document 01 has it: a fresh station is Offline, activity unknown, pending 0, token time 0, hold end 0, gap waiting 0, application 0
 unfoldable pub freshCore : Core
 freshCore = record { «last_token_time» = zeroTime; «end_token_hold_time» = record { from = zeroTime; span = zeroTime; less = zeroTime }; «last_bus_activity» = activity.Unknown; state = Offline; «gap_state» = Waiting 0; «pending_bytes» = 0; «next_application» = 0; online = false }
 
--- a fresh station with these settings and applications
+-- FdlActiveStation::new, with these settings and applications
 unfoldable pub freshStation : Parameters → ℕ → Station
 freshStation p n = record { core = freshCore; «token_ring» = freshOf (p .address); p = p; applications = n }
 

@@ -112,15 +112,16 @@ rxOf c now = withActivity (withPending c 0) (markedAt (c .«last_bus_activity»)
 unfoldable pub slotExpiredOf : Parameters → Activity → Micros → Waited
 slotExpiredOf p a now = waitedOf a now (slotTimeOf p)
 
--- the test of handle_lost_token: the time of slot bits × (6 + 2 × address)
+-- handle_lost_token, its test: the time of slot bits × (6 + 2 × address)
 unfoldable pub tokenLostWaitOf : Parameters → Activity → Micros → Waited
 tokenLostWaitOf p a now = waitedOf a now (tokenLostOf p)
 
--- PollDone: a step that sends, tells and consumes nothing
+-- PollDone::waiting_for_transmission, PollDone::waiting_for_bus, PollDone::waiting_for_delay, PollDone::offline, by the outcome: a
+-- step that sends, tells and consumes nothing
 unfoldable pub doneOf : Core → Outcome → Step
 doneOf c o = record { core = c; sent = sent.Nothing; notice = notice.NoNotice; outcome = o; consumed = 0 }
 
--- a step that sends, and mark_tx
+-- mark_tx, in a step that sends
 unfoldable pub transmitOf : Parameters → Core → Micros → ℕ → Sent → Step
 transmitOf p c now bytes x =
     record { core = withActivity c (sentAt p now bytes); sent = x; notice = notice.NoNotice; outcome = outcome.Transmission; consumed = 0 }

@@ -1,6 +1,6 @@
 // The station's record and what every state leans on: states and their transitions, bus activity, the synchronization
 // pause, the slot, sending. Layer 5 of document 01 ("Station"), from profirust's active.rs, in its order. It leans on
-// bit_times, settings and ring, and on answers for what a step reports.
+// bit_times, settings and ring, and on answers and telegrams for what a step reports.
 //
 // A step takes the settings, which never change, the part of the station that it may change (`Core`, and the ring where
 // it needs it) and the clock, and hands back that part with what the poll came to.
