@@ -50,11 +50,11 @@ enum amsulfezd_refusal {
  * trace, trace_len      The trace: a header of 16 bytes, then entries. It is read only. A trace above 2^32 bytes is
  *                       refused with 17.
  * answers, answers_len  Where the answers go: the answer to the entry with index i, counted from 0, into the 8 bytes
- *                       from 8 * i on, most significant byte first. A trace of n bytes has at most n - 16 entries, so
+ *                       from 8 * i on, most significant byte first. A trace of n bytes, n at least 16, has at most n - 16 entries, so
  *                       8 * (n - 16) bytes are always enough.
  *
  * Returns the number of entries answered, times 256, plus the ending number: 0 if the trace was read to its end, 17
- * if it ends inside its header or an entry, 18 if there was no room for an answer, or the number of a refused header.
+ * if it ends inside its header or an entry or is above 2^32 bytes, 18 if there was no room for an answer, or the number of a refused header.
  * Take it apart with amsulfezd_entries and amsulfezd_ending.
  *
  * Which bytes change: exactly the 8 bytes of each answered entry. All others of `answers` keep their value, and nothing

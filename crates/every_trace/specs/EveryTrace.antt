@@ -51,7 +51,7 @@ pub longer-trace-begins-alike :
     ≡ after (runOf s part room .answers) (runOf (runOf s part room .station) rest (room - 8 * length (runOf s part room .answers)))
 longer-trace-begins-alike s part rest room e = run-on s part rest room e
 
--- what a started run, or none, comes to
+-- the answers of a started run, or of none, have room
 replay-room : (x : Started) (trace : List ℕ) (room : ℕ) → 8 * length (replayOn x trace room .answers) ≤ room
 unfolding replayOn ranOf
 replay-room (started.Accepted s) trace room = run-ends (length (drop 16 trace)) s (drop 16 trace) room .fits
@@ -118,7 +118,7 @@ each-entry-is-answered s (e ∷ es) room w h =
     (run-enough (length (e .bytes ++ laid es)) (length (laid es)) (entryOf s (e .kind) (e .bytes) .station) (laid es) (room - 8) (rw length-append (omega arith)) (le-refl (length (laid es)))
     ∙ each-entry-is-answered (entryOf s (e .kind) (e .bytes) .station) es (room - 8) (w .1) (omega (arith, h))))
 
--- a replay ends with a number below 256: 0, 17 or 18 after a header that was taken, and else the header's refusal
+-- a replay ends with a number below 256: at most 18 after a header that was taken, and else the header's refusal, at most 17
 replay-ending : (x : Started) (trace : List ℕ) (room : ℕ) → Small x → replayOn x trace room .ending < 256
 unfolding replayOn ranOf
 replay-ending (started.Accepted s) trace room h = omega (arith, run-ends (length (drop 16 trace)) s (drop 16 trace) room .number)

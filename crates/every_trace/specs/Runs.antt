@@ -133,7 +133,7 @@ pub run-on :
 run-on s t u room e =
     ap (λ (k : ℕ). runFrom k s (t ++ u) room) (length-append t u) ∙ run-on-from (length t) s t u room (le-refl (length t)) e
 
--- the answers of a run have room, and it ends with 0, 17 or 18
+-- the answers of a run have room, and it ends with at most 18
 pub record Ends (room : ℕ) (run : Run) : Type 0 where
   pub fits : 8 * length (run .answers) ≤ room
   pub number : run .ending ≤ 18

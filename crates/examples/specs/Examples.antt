@@ -27,4 +27,4 @@ use Rattle.examples.specs.Table.{AllHold, table}
 -- every row of the table holds
 pub examples-1-to-12 : AllHold table
 unfolding baudOf rounded timeOf belowOf outsideOf trial factorsOf newAt unless slotBitsOf hsaOf rotationOf gapWaitOf retryOf minTsdrOf withWatchdog watchdogAt watchdogOf slotCheckOf factorsRefusal restRefusal codedRefusal pairOf builtAt buildOf fieldsOf slotTimeOf minTsdrTimeOf tokenLostOf rotationTimeOf watchdogTimeOf settings-newOf settings-firstRefusal has make claimOf others nextOf prevOf freshOf addOf removeOf passed witnessOf polls gapOf walk nearest betweenOf addTo takeOut keeps sameSet roundOf lapsOf candidateOf bitOf wordOf hasIn fieldOf putOf beFrom loadOf storedOf stateOf telegramOf zeroOr14 telegramRefusal telegramWord decisionOf lengthRefusal decisionRefusal decisionWord headOf decisionAt telegramAt entryRefusal recordRefusal records-firstRefusal outcomeOf sentFields sentFrom noticeFields noticeFrom refusedOf answerWord fullOf refusalKnown sentMeant meant unpackOf answers-answerOf withState withActivity withGap withPending withTokenTimes withNextApplication withOnline freshCore freshStation station-newOf withTokenTime toListenToken toActiveIdle toUseToken toClaimToken toAwaitDataResponse toPassToken toCheckTokenPass toAwaitStatusResponse knownAt elapsedOf markedAt busyOf ongoingOf pauseOf sentAt busActivityOf rxOf slotExpiredOf tokenLostWaitOf doneOf transmitOf claimNext claimAfter claimTokenOf declinesOn declinesAt usePassOf appTransmitOf firstOr turnOf askedFrom askedOf holdLess holdEndOf holdsOf useAppsAfter useAppsOf useTokenAfter useTokenTimed useTokenOf validResponse receivedOf withNotice timeoutOf awaitDataAfter awaitDataOf heardOf lostTokenOf responseState listenAnswered listenResponseAfter listenResponse collided toUs listened listenHeard listenTelegramOn listenTelegram activeCollided remembers acceptedOf tokenToUs tokenWitnessed tokenHeard activeRequested activeHeard handleTelegramOn handleTelegram heardTelegram heardAll receivedAll consumedAll listenTokenOn listenTokenAfter listenTokenOf activeResponseAfter activeResponse activeIdleOn activeIdleAfter activeIdleOf gapAdvanced passSent passSend passPollOn passPoll passAfter passTokenOf statusRingOn statusRing statusAnswered statusUnexpected statusReceived statusTimeout awaitStatusAfter awaitStatusOf resendOf checkReceived checkAfter checkTokenPassOf connectedOn connectedOf dispatchOn dispatchOf pollOnline pollInner polledOf refusedPoll acceptedAfter acceptedPoll pollOf onlineOf offlineOf passiveOf polling-answerOf headerAt headerOf applicationsRefusal zeroRefusal lateRefusal headerRefusalOn headerRefusal startedAfter startedOf startOf recordLength entryOf runFrom ranOf replayOn replayOf numberOf written bufferOf
-examples-1-to-12 = (refl, (refl, (refl, (refl, (refl, (refl, (refl, (refl, (refl, (refl, (refl, (refl, (refl, (refl, ((refl, refl, refl), tt)))))))))))))))
+examples-1-to-12 = (refl, (refl, (refl, (refl, (refl, (refl, (refl, (refl, (refl, (refl, (refl, (refl, (refl, (refl, (refl, (refl, (refl, (refl, ((refl, refl, refl), tt)))))))))))))))))))

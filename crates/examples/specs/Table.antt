@@ -6,18 +6,19 @@ use mathlib.Core.List.{List, [], _∷_, _++_, map}
 use lib.ListN.{length, drop, replicate}
 use Rattle.fields.specs.Fields.{bytesOf}
 use Rattle.bit_times.specs.declared.Micros.{Micros}
-use Rattle.bit_times.specs.declared.Baud.{Baud}
-use Rattle.bit_times.specs.declared.Baud.the-variants.{B500000, B12000000}
-use Rattle.bit_times.specs.Times.{timeOf}
+use Rattle.bit_times.specs.declared.Baud.the-variants.{B500000}
+use Rattle.bit_times.specs.declared.Coded.{Coded}
+use Rattle.bit_times.specs.declared.Coded.the-variants.{Rate, Unknown}
+use Rattle.bit_times.specs.Times.{timeOf, baudOf}
 use Rattle.settings.specs.declared.Parameters.{Parameters}
 use Rattle.settings.specs.declared.WatchdogFactors.the-variants as watchdog
 use Rattle.settings.specs.declared.Factored.{Factored}
 use Rattle.settings.specs.declared.Factored.the-variants as factored
-use Rattle.settings.specs.Settings.{factorsOf}
+use Rattle.settings.specs.Settings.{factorsOf, slotTimeOf, tokenLostOf}
 use Rattle.ring.specs.declared.Ring.{Ring}
 use Rattle.ring.specs.declared.GapState.{GapState}
 use Rattle.ring.specs.declared.GapState.the-variants.{Waiting, DoPoll}
-use Rattle.ring.specs.Ring.{freshOf, addOf, gapOf}
+use Rattle.ring.specs.Ring.{freshOf, addOf, claimOf, gapOf}
 use Rattle.answers.specs.declared.Answer.{Answer}
 use Rattle.answers.specs.declared.Sent.{Sent}
 use Rattle.answers.specs.declared.Sent.the-variants as sent
@@ -29,7 +30,7 @@ use Rattle.station.specs.declared.State.{State}
 use Rattle.station.specs.declared.State.the-variants.{ListenToken, PassToken}
 use Rattle.station.specs.declared.Core.{Core}
 use Rattle.station.specs.declared.Station.{Station}
-use Rattle.station.specs.Parts.{withState, withActivity, withOnline, freshCore, freshStation}
+use Rattle.station.specs.Parts.{withState, withActivity, withGap, withPending, withOnline, freshCore, freshStation}
 use Rattle.passing.specs.Passing.{passTokenOf}
 use Rattle.polling.specs.declared.Polled.{Polled}
 use Rattle.polling.specs.Polling.{pollOf}
@@ -39,11 +40,14 @@ use Rattle.trace.specs.Trace.{replayOf}
 pub data Row : Type 0 where
   -- (1..6) a watchdog time in milliseconds, and its factors or refusal
   factors : ℕ → Factored → Row
-  -- (7) bits at a rate, and their microseconds
-  time : ℕ → Baud → ℕ → Row
+  -- (7) bits at a baud code, and their microseconds
+  time : ℕ → ℕ → ℕ → Row
+  -- (the sentence before the list) the slot time and the time after which the token counts as lost, in microseconds
+  slot : ℕ → Row
+  lost : ℕ → Row
   -- (8) a station alone, HSA 126, walks from an address: what is polled, or that it waits
   walk : ℕ → ℕ → GapState → Row
-  -- (9) how many passes of the token by a station alone, with gap wait and count; what each sends, and the gap state after it
+  -- (9) a station alone: own address, gap wait, how many passes (the count begins at 0); what each sends, and the gap state after it
   passes : ℕ → ℕ → ℕ → List (Sent × GapState) → Row
   -- (10) polls in silence of a station that starts a token pass, with a neighbour, at these times; what each sends
   silence : ℕ → List ℕ → List Sent → Row
@@ -69,7 +73,8 @@ laid (t ∷ ts) = t ++ laid ts
 abbrev pub pollRecord : ℕ → List (List ℕ) → List ℕ
 pollRecord clock telegrams = (bytesOf (clock * 2 ^ 16 + length telegrams * 2 ^ 11) ++ replicate 6 0) ++ laid telegrams
 
--- a station alone passes the token n times, one second after the other
+-- a station alone passes the token n times, one second after the other (passTokenOf is given the state's data, so the state between
+-- passes is not looked at)
 abbrev pub passesOf : ℕ → Parameters → Ring → ℕ → Core → List (Sent × GapState)
 passesOf zero p ring now c = []
 passesOf (suc n) p ring now c =
@@ -81,18 +86,29 @@ abbrev pub sentAlong : Station → List ℕ → List Sent
 sentAlong s [] = []
 sentAlong s (clock ∷ clocks) = let polled = pollOf s (pollRecord clock []) in polled .answer .sent ∷ sentAlong (polled .station) clocks
 
--- what a row says
+-- the time of bits at a rate; none at an unknown one
+abbrev pub timeAt : ℕ → Coded → Micros
+timeAt bits (Rate baud) = timeOf (record { 0 = bits }) baud
+timeAt bits Unknown = record { 0 = 0 }
+
+-- the station of example 11 before the poll: in ListenToken after one collision, and fresh in nothing that a poll can change
+abbrev pub collidedOnce : Station
+collidedOnce =
+    record { core = withPending (withGap (inState (ListenToken address.None 1)) (Waiting 4)) 7; «token_ring» = claimOf (addOf (freshOf 5) 9); p = example 10; applications = 1 }
+
+-- what a row says; 32,768 bytes are the replay program's buffer
 abbrev pub Holds : Row → Type 0
 Holds (factors ms expected) = factorsOf ms ≡ expected
-Holds (time bits baud micros) = timeOf (record { 0 = bits }) baud ≡ record { 0 = micros }
+Holds (time bits code micros) = timeAt bits (baudOf code) ≡ record { 0 = micros }
+Holds (slot micros) = slotTimeOf (example 10) ≡ record { 0 = micros }
+Holds (lost micros) = tokenLostOf (example 10) ≡ record { 0 = micros }
 Holds (walk own from expected) = gapOf (freshOf own) from 126 ≡ expected
 Holds (passes own wait n expected) = passesOf n (example wait) (freshOf own) 1000 (inState (PassToken true First)) ≡ expected
 Holds (silence neighbour clocks expected) =
     sentAlong (record { core = inState (PassToken false First); «token_ring» = addOf (freshOf 5) neighbour; p = example 10; applications = 1 }) clocks
     ≡ expected
 Holds (collision clock telegrams expected) =
-    pollOf (record { core = inState (ListenToken address.None 1); «token_ring» = freshOf 5; p = example 10; applications = 1 }) (pollRecord clock telegrams) .station
-    ≡ expected
+    pollOf collidedOnce (pollRecord clock telegrams) .station ≡ expected
 Holds (replay trace lines entries ending) =
     (map answerWord (replayOf trace 32768 .answers) ≡ lines) × (length (replayOf trace 32768 .answers) ≡ entries) × (replayOf trace 32768 .ending ≡ ending)
 
@@ -118,16 +134,20 @@ example12 =
     ++ (14 ∷ pollRecord 7532 []))
     ++ (14 ∷ pollRecord 7598 [])
 
--- the table
+-- the table: the times of the sentence before the list (1 bit is 2 µs, slot 400, pause 66, lost 6,400), then examples 1 to 12
 abbrev pub table : List Row
 table =
-    factors 9 (factored.Factors 1 0)
+    time 1 6 2
+    ∷ slot 400
+    ∷ time 33 6 66
+    ∷ lost 6400
+    ∷ factors 9 (factored.Factors 1 0)
     ∷ factors 2550 (factored.Factors 1 255)
     ∷ factors 2560 (factored.Factors 2 128)
     ∷ factors 10000 (factored.Factors 4 250)
     ∷ factors 650250 (factored.Factors 255 255)
     ∷ factors 650260 (factored.Refused 9)
-    ∷ time 33 B12000000 2
+    ∷ time 33 10 2
     ∷ walk 5 5 (DoPoll 6)
     ∷ walk 5 125 (DoPoll 0)
     ∷ walk 5 4 (Waiting 0)

@@ -41,7 +41,7 @@ applicationsRefusal n = cond (leb 1 n && leb n 8) 0 11
 unfoldable pub zeroRefusal : ℕ → ℕ
 zeroRefusal n = cond (eqb n 0) 0 14
 
--- document 01's header order from 7 on: 11, 8, 14; the settings' refusal is 8 or none here
+-- document 01's header order after 7: 11, 8, 14; the settings' refusal is 8 or none here
 unfoldable pub lateRefusal : Header → ℕ → ℕ
 lateRefusal h n = first (applicationsRefusal (h .applications)) (first n (zeroRefusal (h .«zero_bits»)))
 
@@ -89,7 +89,8 @@ abbrev pub answered : Answer → Run → Run
 answered a run = record { answers = a ∷ run .answers; station = run .station; ending = run .ending }
 
 -- the run over entries from a station, with room bytes left for answers: 17 where the bytes end inside an entry, then 18 where no 8
--- bytes are left for its answer, else its answer and the run of the rest. There are at most `most` entries
+-- bytes are left for its answer, else its answer and the run of the rest. There are at most `most` entries (that this never
+-- cuts a run short is `run-enough` of every_trace)
 unfoldable pub runFrom : ℕ → Station → List ℕ → ℕ → Run
 runFrom zero s entries room = ended s 0
 runFrom (suc most) s [] room = ended s 0

@@ -59,7 +59,7 @@ fn header_at(high: u64, low: u64) -> Header
     }
 }
 
-// A trace's header, its first 16 bytes; zeros where the trace has fewer.
+// A trace's header, its first 16 bytes. Of a shorter trace each of its two words that is not whole reads as zeros.
 fn read_header(trace: &[u8]) -> Header
     ensures { λ r. ⌜ r ≡ headerOf (now (trace .entry)) ⌝ }
 {
@@ -91,7 +91,7 @@ fn zero_refusal(zero_bits: u8) -> u8
     14
 }
 
-// A header's refusal from 7 on: 11, 8, 14. `refusal` is that of its settings, 8 or none.
+// A header's refusal after 7: 11, 8, 14. `refusal` is that of its settings, 8 or none.
 fn late_refusal(header: Header, refusal: u8) -> u8
     ensures { λ r. ⌜ r ≡ lateRefusal header refusal ⌝ }
 {
