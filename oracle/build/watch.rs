@@ -27,6 +27,8 @@ pub struct Watched {
     /// The time of the token held, in UseToken and AwaitDataResponse.
     pub token_time: Option<crate::time::Instant>,
     pub first_cycle_done: bool,
+    /// The application that declined first since the token came.
+    pub first_app: Option<usize>,
     pub next_application: usize,
 }
 
@@ -86,6 +88,7 @@ impl FdlActiveStation {
             do_gap: false,
             token_time: None,
             first_cycle_done: false,
+            first_app: None,
             next_application: self.next_application,
         };
         match self.gap_state {
@@ -115,11 +118,13 @@ impl FdlActiveStation {
                 first_cycle_done,
             } => {
                 w.token_time = Some(data.token_time);
+                w.first_app = data.first_app;
                 w.first_cycle_done = first_cycle_done;
             }
             State::AwaitDataResponse { address, data } => {
                 w.awaited = Some(address);
                 w.token_time = Some(data.token_time);
+                w.first_app = data.first_app;
             }
             State::PassToken { do_gap, attempt } => {
                 w.do_gap = do_gap;

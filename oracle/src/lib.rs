@@ -56,3 +56,6 @@ pub mod ring;
 pub mod ring_calls;
 pub mod ring_coverage;
 pub mod seed;
+pub mod trace_compare;
+pub mod trace_coverage;
+pub mod trace_items;

@@ -73,8 +73,13 @@ impl Header {
         ]
     }
 
-    /// The number of the first refusal in document 01's order "1, 10, 2, 3, 4, 5, 6, 7, 11, 8, 14".
+    /// The number of the refusal: that of the first fault.
     pub fn refusal(&self) -> Option<u8> {
+        self.faults().first().copied()
+    }
+
+    /// The numbers of all faults in document 01's order "1, 10, 2, 3, 4, 5, 6, 7, 11, 8, 14".
+    pub fn faults(&self) -> Vec<u8> {
         let rules = [
             (1, self.address > 125),
             (10, self.baud > 10),
@@ -88,7 +93,7 @@ impl Header {
             (8, (self.factors.0 == 0) != (self.factors.1 == 0)),
             (14, self.zero != 0),
         ];
-        rules.iter().find(|rule| rule.1).map(|rule| rule.0)
+        rules.iter().filter(|rule| rule.1).map(|rule| rule.0).collect()
     }
 
     /// Whether the slot bits are below the least for the baud code, if that code is one.
