@@ -522,7 +522,8 @@ impl Met {
         for (number, point) in values {
             if faults.is_empty() {
                 edge(point);
-            } else if faults == [number] {
+            } else if faults == [number] || (number == 1 && faults == [1, 3]) {
+                // no HSA is above an address of 126 or more
                 edge(format!("{}: {}", point, number));
             }
         }
@@ -530,7 +531,7 @@ impl Met {
             self.coverage.hit("refused header", &number.to_string());
         }
         for (first, second) in TWO_FAULTS {
-            if faults == [first, second] {
+            if faults.starts_with(&[first, second]) {
                 let point = format!("{} before {}", first, second);
                 self.coverage.hit("header with two faults", &point);
             }

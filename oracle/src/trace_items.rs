@@ -69,6 +69,11 @@ pub fn trace(seed: u64, index: u64) -> Trace {
     if kind == Kind::Edge {
         edge_header(&mut seed, &mut header);
     }
+    let early = kind == Kind::Whole && seed.one_in(16);
+    if early {
+        header.slot = 65535;
+        header.gap = 1;
+    }
     let length = match kind {
         Kind::Whole => seed.pick(&[20, 60, 100, 150]),
         _ => seed.between(0, 30),
@@ -80,7 +85,7 @@ pub fn trace(seed: u64, index: u64) -> Trace {
         fill: seed.pick(&[0x00, 0xff, 0xa5, 0x5a]),
     };
     if header.refusal().is_none() {
-        let mut maker = Maker::new(seed.clone(), header);
+        let mut maker = Maker::new(seed.clone(), header, early);
         for _ in 0..length {
             made.entries.push(maker.next_entry());
         }
@@ -217,12 +222,17 @@ struct Maker {
     others: Vec<Address>,
     /// Where in the circle the next token between others starts.
     circle: usize,
+    /// How many tokens of the circle were heard.
+    heard: usize,
+    /// The trace starts at clock 0 and keeps to short times, on a bus that is never silent.
+    early: bool,
     clock: u64,
 }
 
 impl Maker {
-    fn new(mut seed: Seed, header: Header) -> Maker {
+    fn new(mut seed: Seed, header: Header, early: bool) -> Maker {
         let count = match seed.below(12) {
+            _ if early => 2,
             0..=2 => 0,
             3..=5 => 1,
             6..=9 => seed.between(2, 8),
@@ -234,6 +244,7 @@ impl Maker {
         others.truncate(count as usize);
         others.sort_by_key(|a| (a + 126 - header.address) % 126);
         let clock = match seed.below(8) {
+            _ if early => 0,
             0 => 0,
             1 => LAST_CLOCK - seed.below(3_000_000),
             _ => seed.below(1 << 34),
@@ -244,6 +255,8 @@ impl Maker {
             runner: Runner::new(&header),
             others,
             circle: 0,
+            heard: 0,
+            early,
             clock,
         }
     }
@@ -311,7 +324,7 @@ impl Maker {
     /// A time soon after the last activity, before anything is over.
     fn soon(&mut self, watched: &Watched) -> u64 {
         let last = last_activity(watched).unwrap_or(self.clock as i64);
-        let span = self.slot().max(4);
+        let span = if self.early { self.time(40) } else { self.slot() }.max(4);
         let step = match self.seed.below(4) {
             0 => 1,
             1 => self.seed.between(1, span / 2),
@@ -354,10 +367,10 @@ impl Maker {
                 }
             }
             // listening: what is heard comes soon, else the token is lost
-            0..=2 if hears => self.soon(watched),
+            0..=2 if hears || self.early => self.soon(watched),
             0..=2 => self.near(last + self.lost() as i64),
             // waiting: the reply comes soon, else the slot expires
-            _ if hears && !self.seed.one_in(8) => self.soon(watched),
+            _ if hears && (self.early || !self.seed.one_in(8)) => self.soon(watched),
             _ => self.near(last + self.slot() as i64),
         }
     }
@@ -476,6 +489,7 @@ impl Maker {
         if n == 0 {
             return Vec::new();
         }
+        self.heard += count as usize;
         (0..count)
             .map(|_| {
                 let source = self.others[self.circle % n];
@@ -512,6 +526,10 @@ impl Maker {
             return Vec::new();
         }
         let previous = self.runner.station.inspect_token_ring().previous_station();
+        if self.heard < self.others.len() && !self.seed.one_in(30) {
+            // a large ring has to be heard once
+            return self.circle_tokens(8);
+        }
         match self.seed.below(20) {
             0..=8 if !self.others.is_empty() => {
                 let count = if self.others.len() > 8 { 8 } else { self.seed.between(1, 8) };
@@ -637,6 +655,11 @@ impl Maker {
                 vec![token, token]
             }
             8 => vec![self.any_telegram()],
+            // the bus is not silent: the next station passes the token on
+            _ if self.early => vec![Telegram::Token {
+                destination: previous,
+                source: next,
+            }],
             _ => Vec::new(),
         };
         if !heard.is_empty() && self.seed.one_in(4) {
