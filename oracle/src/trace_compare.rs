@@ -18,28 +18,43 @@ pub type Replay<'a> = &'a dyn Fn(&[u8], &mut [u8]) -> u64;
 pub struct Left {
     pub number: Option<u64>,
     pub buffer: Vec<u8>,
+    /// Whether the bytes around the buffer and the trace itself are as they were.
+    pub outside_kept: bool,
 }
+
+/// So many bytes before and after the buffer are watched.
+const AROUND: usize = 64;
 
 /// Makes the call on a trace with the buffer that belongs to it.
 pub fn run(replay: Replay, trace: &Trace) -> Left {
-    let bytes = trace.bytes();
-    let mut buffer = trace.buffer();
-    let number = catch_unwind(AssertUnwindSafe(|| replay(&bytes, &mut buffer))).ok();
-    Left { number, buffer }
+    let given = trace.bytes();
+    let bytes = given.clone();
+    let mut space = vec![!trace.fill; trace.room + 2 * AROUND];
+    let end = AROUND + trace.room;
+    space[AROUND..end].fill(trace.fill);
+    let buffer = &mut space[AROUND..end];
+    let number = catch_unwind(AssertUnwindSafe(|| replay(&bytes, buffer))).ok();
+    let around = space[..AROUND].iter().chain(&space[end..]);
+    let outside_kept = bytes == given && around.copied().all(|byte| byte == !trace.fill);
+    Left {
+        number,
+        buffer: space[AROUND..end].to_vec(),
+        outside_kept,
+    }
 }
 
-/// The entry of the first difference, counted from 1; `None` if the two are the same. A number that
-/// differs alone counts as the entry after the last.
+/// The entry of the first difference, counted from 1; `None` if the two are the same. A number or a
+/// byte outside that differs alone counts as the entry after the last.
 pub fn first_difference(expected: &Left, got: &Left) -> Option<usize> {
-    let differs = |(a, b): (&[u8], &[u8])| a != b;
-    let answers = expected.buffer.chunks(ANSWER).zip(got.buffer.chunks(ANSWER));
-    match answers.map(differs).position(|differs| differs) {
-        Some(entry) => Some(entry + 1),
-        None if expected.number != got.number => {
-            Some(expected.number.or(got.number).unwrap_or(0) as usize / 256 + 1)
-        }
-        None => None,
+    if expected == got {
+        return None;
     }
+    let answers = expected.buffer.chunks(ANSWER).zip(got.buffer.chunks(ANSWER));
+    let answered = expected.number.or(got.number).unwrap_or(0) as usize / 256;
+    Some(match answers.map(|(a, b)| a != b).position(|differs| differs) {
+        Some(entry) => entry + 1,
+        None => answered + 1,
+    })
 }
 
 /// How long a difference is made shorter.
@@ -148,11 +163,17 @@ fn answer_in_words(buffer: &[u8], entry: usize) -> String {
     }
 }
 
-fn number_in_words(number: Option<u64>) -> String {
-    match number {
+fn end_in_words(left: &Left) -> String {
+    let number = match left.number {
         Some(number) => format!("{} entries, ending {}", number / 256, number % 256),
         None => "a panic".to_string(),
-    }
+    };
+    let outside = if left.outside_kept {
+        ""
+    } else {
+        ", and bytes outside of the buffer were changed"
+    };
+    format!("{}{}", number, outside)
 }
 
 /// A difference that was found.
@@ -180,8 +201,8 @@ pub fn describe(replay: Replay, trace: &Trace) -> String {
         entry,
         answer_in_words(&expected.buffer, entry),
         answer_in_words(&got.buffer, entry),
-        number_in_words(expected.number),
-        number_in_words(got.number),
+        end_in_words(&expected),
+        end_in_words(&got),
     )
 }
 
