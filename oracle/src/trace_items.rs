@@ -116,7 +116,16 @@ fn cut(seed: &mut Seed, made: &mut Trace) {
     made.entries
         .truncate(seed.between(1, made.entries.len() as u64) as usize);
     if let Some(last) = made.entries.last_mut() {
-        last.truncate(seed.between(1, last.len() as u64) as usize);
+        if seed.one_in(5) {
+            // a record of under 8 bytes, or none but its length
+            *last = vec![seed.between(3, 8) as u8];
+            last.resize(1 + seed.below(4) as usize, 0);
+        } else {
+            last.truncate(seed.between(1, last.len() as u64) as usize);
+        }
+        if seed.one_in(8) {
+            made.room = seed.below(ANSWER as u64 * made.entries.len() as u64) as usize;
+        }
     }
 }
 
@@ -184,32 +193,58 @@ pub fn good_header(seed: &mut Seed) -> Header {
     }
 }
 
-/// One value, or two, put at or beyond the edge of its range.
+/// The header's fields in the order in which document 01 checks them.
+const FIELDS: u64 = 11;
+
+/// A value at or beyond the edge of its range, or two neighbouring fields beyond theirs.
 fn edge_header(seed: &mut Seed, header: &mut Header) {
-    for _ in 0..seed.between(1, 2) {
-        match seed.below(11) {
-            0 => header.address = seed.pick(&[0, 125, 126, 127, 128, 255]),
-            1 => header.baud = seed.pick(&[0, 10, 11, 12, 255]),
-            2 => {
-                let code = usize::from(header.baud.min(10));
-                let least = crate::baud::LEAST_SLOT_BITS[code];
-                header.slot = seed.pick(&[0, least - 1, least, least + 1, 65535]);
+    if seed.coin() {
+        // the slot has an edge for each baud code
+        let field = if seed.one_in(3) { 2 } else { seed.below(FIELDS) };
+        let beyond = seed.coin();
+        edge_field(seed, header, field, beyond);
+    } else {
+        let first = seed.below(FIELDS - 1);
+        // without a baud rate there is no least slot
+        let second = if first == 1 { 3 } else { first + 1 };
+        edge_field(seed, header, first, true);
+        edge_field(seed, header, second, true);
+    }
+}
+
+/// One field at the edge of its range, or beyond it.
+fn edge_field(seed: &mut Seed, header: &mut Header, field: u64, beyond: bool) {
+    let mut of = |inside: &[u32], outside: &[u32]| seed.pick(if beyond { outside } else { inside });
+    let own = u32::from(header.address);
+    match field {
+        0 => {
+            header.address = of(&[0, 125], &[126, 127, 128, 255]) as u8;
+            if !beyond {
+                header.hsa = 126;
             }
-            3 => {
-                let own = header.address;
-                header.hsa = seed.pick(&[0, own, own.saturating_add(1), 125, 126, 127, 255]);
-            }
-            4 => {
-                header.rotation =
-                    seed.pick(&[0, 255, 256, 16_777_960, 16_777_961, u32::MAX])
-            }
-            5 => header.gap = seed.pick(&[0, 1, 100, 101, 255]),
-            6 => header.retry = seed.pick(&[0, 1, 15, 16, 255]),
-            7 => header.min_tsdr = seed.pick(&[0, 10, 11, 255]),
-            8 => header.applications = seed.pick(&[0, 1, 8, 9, 255]),
-            9 => header.factors = seed.pick(&[(0, 1), (1, 0), (0, 255), (255, 0), (1, 255)]),
-            _ => header.zero = seed.pick(&[0, 1, 128, 255]),
         }
+        1 => {
+            header.baud = of(&[0, 10], &[11, 12, 255]) as u8;
+            if !beyond {
+                header.slot = header.slot.max(1000);
+            }
+        }
+        2 => {
+            let code = usize::from(header.baud.min(10));
+            let least = u32::from(crate::baud::LEAST_SLOT_BITS[code]);
+            header.slot = of(&[least, least, least + 1, 65535], &[least - 1, least - 1, 0]) as u16;
+        }
+        3 => header.hsa = of(&[own + 1, 126], &[0, own, own, 127, 127, 255]) as u8,
+        4 => header.rotation = of(&[256, 16_777_960], &[0, 255, 16_777_961, u32::MAX]),
+        5 => header.gap = of(&[1, 100], &[0, 101, 255]) as u8,
+        6 => header.retry = of(&[1, 15], &[0, 16, 255]) as u8,
+        7 => header.min_tsdr = of(&[11, 255], &[0, 10]) as u8,
+        8 => header.applications = of(&[1, 8], &[0, 9, 255]) as u8,
+        9 => {
+            let factors = of(&[0x0000, 0x01ff, 0xffff], &[0x0001, 0x0100, 0x00ff, 0xff00]);
+            header.factors = ((factors / 256) as u8, (factors % 256) as u8);
+        }
+        _ => header.zero = of(&[0], &[1, 128, 255]) as u8,
     }
 }
 
