@@ -64,6 +64,14 @@ impl FdlActiveStation {
         self.next_application
     }
 
+    /// Where the gap walk goes from this address; `None` is waiting.
+    pub fn gap_walk_from(&self, address: crate::Address) -> Option<crate::Address> {
+        match self.next_gap_poll(address) {
+            GapState::DoPoll { current_address } => Some(current_address),
+            GapState::Waiting { .. } => None,
+        }
+    }
+
     /// What a generator and a reader may know.
     pub fn watch(&self) -> Watched {
         let attempt_number = |attempt| match attempt {

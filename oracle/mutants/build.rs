@@ -64,7 +64,7 @@ fn main() {
                 text.clone()
             };
             let text = text
-                .replace("crate::", &format!("crate::{}::", name))
+                .replace("crate::", &format!("crate::copies::{}::", name))
                 .replace("../published/parameters.rs", "parameters.rs");
             std::fs::write(folder.join(format!("{}.rs", file)), text).expect("a file can be written");
             if *file != "parameters" {
