@@ -1,8 +1,16 @@
-# The two commands of README.md. Each is a script under scripts/, which says on one line what it lacks.
-.PHONY: test replay
+# The commands of README.md. Each is a script under scripts/, which says on one line what it lacks.
+.PHONY: test replay compare speed
 
 test:
 	@bash scripts/test.sh
 
 replay:
 	@bash scripts/replay.sh
+
+# m generated traces of seed n through the proved trace call and the published Rust: make compare SEED=n COUNT=m
+compare:
+	@bash scripts/compare_traces.sh
+
+# Entries per second of both on one long ordinary trace.
+speed:
+	@bash scripts/speed.sh

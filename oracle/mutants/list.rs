@@ -386,5 +386,11 @@ pub const PLANTED: &[Planted] = &[
         "u64::from(bits) * 1_000_000 / BAUDRATES[self.code()].1",
         "(u64::from(bits) * 1_000_000 + BAUDRATES[self.code()].1 - 1) / BAUDRATES[self.code()].1",
     ),
-    planted("time", "        self.micros -= time.micros as i64;", "        self.micros = (self.micros - time.micros as i64).max(0);"),
+    hidden(
+        "time",
+        "        self.micros -= time.micros as i64;",
+        "        self.micros = (self.micros - time.micros as i64).max(0);",
+        "a clock is never below zero, so a hold that ended below zero and one that ended at zero are both over",
+    ),
+    planted("time", "            micros: self.micros + time.micros as i64,", "            micros: self.micros + time.micros as i64 + 1,"),
 ];
