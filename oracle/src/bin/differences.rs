@@ -109,8 +109,8 @@ fn silent(times: &[u64]) -> Vec<PollRecord> {
     times.iter().map(|time| poll(*time, &[])).collect()
 }
 
-/// The polls of a station that hears 6 alone in the ring, is asked, answers, gets the token at 2000 and
-/// passes it at 2200: it is in CheckTokenPass. Between 5 and 6 there is no gap.
+/// The polls of a station that hears 6 alone in the ring and its question, answers, gets the token and
+/// passes it at 1500: it is in CheckTokenPass. Between 5 and 6 there is no gap.
 fn passed_to_6() -> Vec<PollRecord> {
     let request = Telegram::Request {
         destination: 5,
@@ -118,13 +118,22 @@ fn passed_to_6() -> Vec<PollRecord> {
         status_request: true,
     };
     vec![
-        poll(1000, &[token(6, 6), token(6, 6)]),
-        poll(1100, &[request]),
-        poll(1300, &[]),
-        poll(2000, &[token(6, 5)]),
-        poll(2100, &[]),
-        poll(2200, &[]),
+        poll(1000, &[token(6, 6), token(6, 6), request]),
+        poll(1100, &[]),
+        poll(1300, &[token(6, 5)]),
+        poll(1400, &[]),
+        poll(1500, &[]),
     ]
+}
+
+/// The polls of a station that claims the token and asks station 9 at 7700: AwaitDataResponse.
+fn asked_9() -> Vec<PollRecord> {
+    let mut polls = silent(&[1000, 7400, 7540, 7700]);
+    polls[3].decisions[0].0 = Decision::Sends {
+        reply: Some(9),
+        length: 1,
+    };
+    polls
 }
 
 /// The last answer of a trace.
@@ -247,8 +256,7 @@ fn changed_list() -> String {
 }
 
 fn shown() -> Vec<Shown> {
-    let with = |more: PollRecord| {
-        let mut polls = passed_to_6();
+    let with = |mut polls: Vec<PollRecord>, more: PollRecord| {
         polls.push(more);
         polls
     };
@@ -262,10 +270,10 @@ fn shown() -> Vec<Shown> {
         ),
         by_trace(
             "A2",
-            "CheckTokenPass, polled exactly one slot (400 us) after its token",
-            &with(poll(2666, &[])),
-            "0272180030000018",
-            "0370000000000018",
+            "AwaitDataResponse, polled exactly one slot (400 us) after its telegram",
+            &with(asked_9(), poll(8122, &[])),
+            "0460000000809014",
+            "0350000000000014",
         ),
         by_trace(
             "A3",
@@ -277,7 +285,7 @@ fn shown() -> Vec<Shown> {
         by_trace(
             "A4",
             "a short confirmation first in CheckTokenPass, log lines evaluated in the published build",
-            &with(poll(2300, &[Telegram::ShortConfirmation])),
+            &with(passed_to_6(), poll(1600, &[Telegram::ShortConfirmation])),
             "0320000001000018",
             "panic",
         ),
