@@ -25,7 +25,12 @@ fn read(path: &str) -> String {
 }
 
 fn main() {
-    for file in ["build.rs", "list.rs", "../build/replacements.rs", "../build/watch.rs"] {
+    for file in [
+        "build.rs",
+        "list.rs",
+        "../build/replacements.rs",
+        "../build/watch.rs",
+    ] {
         println!("cargo:rerun-if-changed={}", file);
     }
     let out = std::env::var("OUT_DIR").expect("cargo names a folder");
@@ -66,13 +71,16 @@ fn main() {
             let text = text
                 .replace("crate::", &format!("crate::copies::{}::", name))
                 .replace("../published/parameters.rs", "parameters.rs");
-            std::fs::write(folder.join(format!("{}.rs", file)), text).expect("a file can be written");
+            std::fs::write(folder.join(format!("{}.rs", file)), text)
+                .expect("a file can be written");
             if *file != "parameters" {
                 writeln!(root, "#[path = \"{}.rs\"]\npub mod {};", file, file).expect("text");
             }
         }
         root.push_str("pub mod station {\n    pub use super::active::{ConnectivityState, FdlActiveStation, Watched};\n}\n");
-        root.push_str("pub use baud::Baudrate;\npub use oracle::{debug_assert_address, Address};\n");
+        root.push_str(
+            "pub use baud::Baudrate;\npub use oracle::{debug_assert_address, Address};\n",
+        );
         std::fs::write(folder.join("mod.rs"), root).expect("a file can be written");
         writeln!(index, "#[path = \"{}/mod.rs\"]\nmod {};", name, name).expect("text");
         writeln!(calls, "    {}::trace::replay_trace,", name).expect("text");

@@ -372,7 +372,11 @@ pub const PLANTED: &[Planted] = &[
     planted("port", "i + 1 == pending.len()", "i == 0"),
     planted("port", "            said = Some(f(Telegram::of_record(telegram), i + 1 == pending.len()));", "            let one = f(Telegram::of_record(telegram), i + 1 == pending.len()); said = said.or(Some(one));"),
     planted("port", "        let first = self.pending().first()?;\n        self.consumed += 1;", "        let first = self.pending().first()?;"),
-    planted("port", "if high_prio_only { self.high } else { self.normal }", "if high_prio_only { self.normal } else { self.high }"),
+    planted(
+        "port",
+        "let decision = if high_prio_only {",
+        "let decision = if !high_prio_only {",
+    ),
     // Telegrams, baud rates and times.
     planted("fdl", "            Sent::Token { .. } => 3,", "            Sent::Token { .. } => 4,"),
     planted("fdl", "Sent::StatusRequest { .. } | Sent::StatusResponse { .. } => 6,", "Sent::StatusRequest { .. } | Sent::StatusResponse { .. } => 5,"),

@@ -11,7 +11,8 @@ pub use crate::ring::TokenRing;
 pub use crate::station::{ConnectivityState, FdlActiveStation, Watched};
 pub use parameters::{Parameters, ParametersBuilder};
 
-#[allow(dead_code)]
+/// The published `parameters.rs`.
+#[allow(dead_code, clippy::all)]
 pub mod parameters {
     include!("../published/parameters.rs");
 

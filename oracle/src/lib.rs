@@ -26,7 +26,7 @@ pub mod trace;
 
 /// The published `active.rs` as `build.rs` writes it.
 mod station {
-    #![allow(dead_code, unused_variables)]
+    #![allow(dead_code, unused_variables, clippy::all)]
     include!(concat!(env!("OUT_DIR"), "/station.rs"));
     pub use active::{ConnectivityState, FdlActiveStation, Watched};
 }
@@ -48,6 +48,7 @@ pub fn debug_assert_address(addr: Address) {
 pub mod cli;
 pub mod compare;
 pub mod coverage;
+pub mod ordinary;
 pub mod pipe;
 pub mod record_coverage;
 pub mod record_items;
@@ -55,7 +56,6 @@ pub mod records;
 pub mod ring;
 pub mod ring_calls;
 pub mod ring_coverage;
-pub mod ordinary;
 pub mod seed;
 pub mod speed;
 pub mod trace_compare;

@@ -67,8 +67,15 @@ impl Bus {
 
     /// What has come by now.
     fn heard(&mut self, now: u64) -> Vec<Telegram> {
-        let due = self.coming.iter().take_while(|(time, _)| *time <= now).count();
-        self.coming.drain(..due).map(|(_, telegram)| telegram).collect()
+        let due = self
+            .coming
+            .iter()
+            .take_while(|(time, _)| *time <= now)
+            .count();
+        self.coming
+            .drain(..due)
+            .map(|(_, telegram)| telegram)
+            .collect()
     }
 
     /// What follows on what the station sent.
@@ -116,13 +123,20 @@ pub fn ordinary_trace(entries: usize) -> (Vec<u8>, [u64; 9]) {
             continue;
         }
         now += PACE;
-        let first = if bus.asked < ASKS { ask } else { Decision::Declines };
+        let first = if bus.asked < ASKS {
+            ask
+        } else {
+            Decision::Declines
+        };
         let telegrams = bus.heard(now);
         let record = PollRecord {
             clock: now,
             transmitting: false,
             pending: 3 * telegrams.len() as u16,
-            decisions: vec![(first, Decision::Declines), (Decision::Declines, Decision::Declines)],
+            decisions: vec![
+                (first, Decision::Declines),
+                (Decision::Declines, Decision::Declines),
+            ],
             telegrams,
         };
         if let Answer::Done { state, sent, .. } = runner.poll(&record) {
@@ -151,7 +165,12 @@ mod tests {
         let (_, half) = ordinary_trace(10_000);
         for state in [2, 3, 5, 6, 7, 8] {
             assert!(half[state] > 50, "state {}: {:?}", state, half);
-            assert!(states[state] > half[state] + 50, "state {}: {:?}", state, states);
+            assert!(
+                states[state] > half[state] + 50,
+                "state {}: {:?}",
+                state,
+                states
+            );
         }
         assert_eq!((states[0], states[4]), (1, 0));
     }

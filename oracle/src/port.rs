@@ -1,9 +1,7 @@
 //! A port and applications that do what a poll record says and write down what the station asked of
 //! them. The answer's fields are taken from here.
 
-use crate::fdl::{
-    FdlActiveStation, FdlApplication, Telegram, TelegramTx, TelegramTxResponse,
-};
+use crate::fdl::{FdlActiveStation, FdlApplication, Telegram, TelegramTx, TelegramTxResponse};
 use crate::phy::ProfibusPhy;
 use crate::records::{Decision, Notice, PollRecord, Sent};
 use crate::time::Instant;
@@ -113,7 +111,11 @@ impl FdlApplication for RecordApplication {
         tx: TelegramTx,
         high_prio_only: bool,
     ) -> Option<TelegramTxResponse> {
-        let decision = if high_prio_only { self.high } else { self.normal };
+        let decision = if high_prio_only {
+            self.high
+        } else {
+            self.normal
+        };
         match decision {
             Decision::Declines => None,
             Decision::Sends { reply, length } => {

@@ -13,7 +13,11 @@ fn once(replay: Replay, trace: &[u8], entries: usize) -> (f64, u64, Vec<u8>) {
     let mut answers = vec![0; ANSWER * entries];
     let started = Instant::now();
     let number = replay(trace, &mut answers);
-    (entries as f64 / started.elapsed().as_secs_f64(), number, answers)
+    (
+        entries as f64 / started.elapsed().as_secs_f64(),
+        number,
+        answers,
+    )
 }
 
 /// The middle one, and how far the runs lie apart, in percent of it.

@@ -93,7 +93,11 @@ impl Header {
             (8, (self.factors.0 == 0) != (self.factors.1 == 0)),
             (14, self.zero != 0),
         ];
-        rules.iter().filter(|rule| rule.1).map(|rule| rule.0).collect()
+        rules
+            .iter()
+            .filter(|rule| rule.1)
+            .map(|rule| rule.0)
+            .collect()
     }
 
     /// Whether the slot bits are below the least for the baud code, if that code is one.

@@ -49,12 +49,17 @@ pub fn first_difference(expected: &Left, got: &Left) -> Option<usize> {
     if expected == got {
         return None;
     }
-    let answers = expected.buffer.chunks(ANSWER).zip(got.buffer.chunks(ANSWER));
+    let answers = expected
+        .buffer
+        .chunks(ANSWER)
+        .zip(got.buffer.chunks(ANSWER));
     let answered = expected.number.or(got.number).unwrap_or(0) as usize / 256;
-    Some(match answers.map(|(a, b)| a != b).position(|differs| differs) {
-        Some(entry) => entry + 1,
-        None => answered + 1,
-    })
+    Some(
+        match answers.map(|(a, b)| a != b).position(|differs| differs) {
+            Some(entry) => entry + 1,
+            None => answered + 1,
+        },
+    )
 }
 
 /// How long a difference is made shorter.
@@ -243,13 +248,19 @@ pub fn compare_traces(replay: Replay, seed: u64, count: u64) -> (String, bool) {
     }
     let (traces, entries) = (met.traces, met.entries);
     let (coverage, surprises) = met.finish();
-    let mut said = format!("traces: what the generated traces reached:\n{}", coverage.report());
+    let mut said = format!(
+        "traces: what the generated traces reached:\n{}",
+        coverage.report()
+    );
     let missed = coverage.missed(false);
     for point in missed.iter().take(NAMED) {
         said.push_str(&format!("traces: never reached: {}\n", point));
     }
     if missed.len() > NAMED {
-        said.push_str(&format!("traces: never reached: {} more\n", missed.len() - NAMED));
+        said.push_str(&format!(
+            "traces: never reached: {} more\n",
+            missed.len() - NAMED
+        ));
     }
     for surprise in surprises.iter().take(NAMED) {
         said.push_str(&format!("traces: said to be out of reach: {}\n", surprise));
@@ -282,7 +293,10 @@ pub fn main(name: &str, replay: Replay, words: &[String]) -> i32 {
             }
         }
         _ => {
-            eprintln!("{}: usage: {} SEED COUNT, two whole numbers, COUNT above 0", name, name);
+            eprintln!(
+                "{}: usage: {} SEED COUNT, two whole numbers, COUNT above 0",
+                name, name
+            );
             2
         }
     }

@@ -11,7 +11,7 @@ use crate::trace::{Entry, Header, Runner, ANSWER, HEADER};
 use crate::trace_items::{Trace, LAST_CLOCK};
 
 /// The states by document 01's numbers.
-pub const STATES: [&str; 9] = [
+const STATES: [&str; 9] = [
     "Offline",
     "ListenToken",
     "ActiveIdle",
@@ -22,6 +22,9 @@ pub const STATES: [&str; 9] = [
     "CheckTokenPass",
     "AwaitStatusResponse",
 ];
+
+/// For each state by its number, the numbers that belong to it.
+type OfStates = [(u8, &'static [u8]); 9];
 
 /// For each state, the states in which a poll can leave it.
 ///
@@ -43,7 +46,7 @@ pub const STATES: [&str; 9] = [
 ///   PassToken is not left standing.
 /// - AwaitStatusResponse takes a reply (PassToken), something else (ActiveIdle), or passes the token
 ///   at once when the slot has expired (CheckTokenPass, or UseToken if alone).
-pub const REACHED_BY_POLLS: [(u8, &[u8]); 9] = [
+const REACHED_BY_POLLS: OfStates = [
     (0, &[0, 1, 4]),
     (1, &[0, 1, 2, 4]),
     (2, &[1, 2, 3, 4]),
@@ -58,7 +61,7 @@ pub const REACHED_BY_POLLS: [(u8, &[u8]); 9] = [
 const OUTCOMES: [&str; 5] = ["none", "offline", "transmission", "bus", "delay"];
 
 /// For each state, the outcomes that a poll in it can have.
-const OUTCOMES_OF: [(u8, &[u8]); 9] = [
+const OUTCOMES_OF: OfStates = [
     (0, &[1, 2, 3, 4]),
     (1, &[2, 3, 4]),
     (2, &[2, 3, 4]),
@@ -79,7 +82,7 @@ const SENT: [&str; 5] = [
 ];
 
 /// For each state, what a poll in it can send.
-const SENT_OF: [(u8, &[u8]); 9] = [
+const SENT_OF: OfStates = [
     (0, &[0, 1]),
     (1, &[0, 1, 3]),
     (2, &[0, 1, 3]),
@@ -316,7 +319,7 @@ impl Default for Met {
 impl Met {
     pub fn new() -> Met {
         let mut coverage = Coverage::new();
-        let named = |of: &[(u8, &[u8]); 9], names: &[&str], link: &str| -> Vec<String> {
+        let named = |of: &OfStates, names: &[&str], link: &str| -> Vec<String> {
             let mut points = Vec::new();
             for (state, list) in of {
                 for to in *list {
@@ -343,10 +346,7 @@ impl Met {
         }
         coverage.group("refused entry", &refusals);
         coverage.group("command or transmitting", &commands);
-        coverage.group(
-            "refused header",
-            &[1, 10, 2, 3, 4, 5, 6, 7, 11, 8, 14, 17],
-        );
+        coverage.group("refused header", &[1, 10, 2, 3, 4, 5, 6, 7, 11, 8, 14, 17]);
         coverage.group("header at an edge", &header_edges());
         let two: Vec<String> = TWO_FAULTS
             .iter()
@@ -386,7 +386,12 @@ impl Met {
         for state in HEARING {
             for kind in KINDS {
                 for last in ["with more", "last"] {
-                    heard.push(format!("{}: {}, {}", STATES[usize::from(state)], kind, last));
+                    heard.push(format!(
+                        "{}: {}, {}",
+                        STATES[usize::from(state)],
+                        kind,
+                        last
+                    ));
                 }
             }
         }
@@ -423,8 +428,14 @@ impl Met {
         if bytes.len() < HEADER {
             self.coverage.hit("refused header", "17");
             let empty = bytes.is_empty();
-            self.coverage
-                .hit("ending", if empty { "17: empty trace" } else { "17: in the header" });
+            self.coverage.hit(
+                "ending",
+                if empty {
+                    "17: empty trace"
+                } else {
+                    "17: in the header"
+                },
+            );
             return;
         }
         let (head, mut rest) = bytes.split_at(HEADER);
@@ -433,7 +444,8 @@ impl Met {
         if header.refusal().is_some() {
             return;
         }
-        self.coverage.hit("applications", &header.applications.to_string());
+        self.coverage
+            .hit("applications", &header.applications.to_string());
         let mut runner = Runner::new(&header);
         let mut room = trace.room;
         let mut clock = None;
@@ -447,7 +459,8 @@ impl Met {
                 None => {
                     self.coverage.hit("ending", "17: in a poll record");
                     if rest[0] < 8 {
-                        self.coverage.hit("ending", "17: in a record of under 8 bytes");
+                        self.coverage
+                            .hit("ending", "17: in a record of under 8 bytes");
                     }
                     if room < ANSWER {
                         self.coverage.hit("ending", "17: no room for it either");
@@ -459,7 +472,11 @@ impl Met {
                 let command = !matches!(entry, Entry::Poll(_));
                 self.coverage.hit(
                     "ending",
-                    if command { "18: before a command" } else { "18: before a poll record" },
+                    if command {
+                        "18: before a command"
+                    } else {
+                        "18: before a poll record"
+                    },
                 );
                 if trace.room == 0 {
                     self.coverage.hit("ending", "18: a buffer of no bytes");
@@ -664,10 +681,8 @@ impl Met {
         self.pairs[f][t] += 1;
         self.outcomes[f][usize::from(outcome)] += 1;
         self.sent[f][usize::from(kind)] += 1;
-        let known = |table: &[(u8, &[u8]); 9], value: u8| table[f].1.contains(&value);
-        if !known(&REACHED_BY_POLLS, to)
-            || !known(&OUTCOMES_OF, outcome)
-            || !known(&SENT_OF, kind)
+        let known = |table: &OfStates, value: u8| table[f].1.contains(&value);
+        if !known(&REACHED_BY_POLLS, to) || !known(&OUTCOMES_OF, outcome) || !known(&SENT_OF, kind)
         {
             self.surprises.push(format!(
                 "{} -> {}, outcome {}, sent {}",
@@ -1014,7 +1029,10 @@ impl Met {
                 (false, false) => "UseToken: all decline at high priority",
                 (false, true) => "UseToken: hold time over, a cycle done",
             });
-            if held && w.first_app.map_or(false, |first| first != w.next_application) {
+            if held
+                && w.first_app
+                    .map_or(false, |first| first != w.next_application)
+            {
                 self.event("UseToken: a decline completes the cycle before all are asked");
             }
         }
@@ -1171,8 +1189,8 @@ impl Met {
         } = record.telegrams[0]
         {
             if destination == header.address && Some(source) == before.watched.awaited {
-                let kind = ["slave", "not ready", "without token", "in ring"]
-                    [usize::from(station_type)];
+                let kind =
+                    ["slave", "not ready", "without token", "in ring"][usize::from(station_type)];
                 let ok = if status == 0 { "Ok" } else { "not Ok" };
                 self.coverage
                     .hit("reply to a gap question", &format!("{}, {}", kind, ok));
@@ -1185,7 +1203,7 @@ impl Met {
 
     /// All points with their counts, and what was met although it is said to be out of reach.
     pub fn finish(mut self) -> (Coverage, Vec<String>) {
-        let tables: [(&str, &[(u8, &[u8]); 9], &[&str], &str); 3] = [
+        let tables: [(&str, &OfStates, &[&str], &str); 3] = [
             ("poll", &REACHED_BY_POLLS, &STATES, " -> "),
             ("outcome", &OUTCOMES_OF, &OUTCOMES, ": "),
             ("sent", &SENT_OF, &SENT, ": "),

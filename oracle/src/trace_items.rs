@@ -200,7 +200,11 @@ const FIELDS: u64 = 11;
 fn edge_header(seed: &mut Seed, header: &mut Header) {
     if seed.coin() {
         // the slot has an edge for each baud code
-        let field = if seed.one_in(3) { 2 } else { seed.below(FIELDS) };
+        let field = if seed.one_in(3) {
+            2
+        } else {
+            seed.below(FIELDS)
+        };
         let beyond = seed.coin();
         edge_field(seed, header, field, beyond);
     } else {
@@ -232,7 +236,10 @@ fn edge_field(seed: &mut Seed, header: &mut Header, field: u64, beyond: bool) {
         2 => {
             let code = usize::from(header.baud.min(10));
             let least = u32::from(crate::baud::LEAST_SLOT_BITS[code]);
-            header.slot = of(&[least, least, least + 1, 65535], &[least - 1, least - 1, 0]) as u16;
+            header.slot = of(
+                &[least, least, least + 1, 65535],
+                &[least - 1, least - 1, 0],
+            ) as u16;
         }
         3 => header.hsa = of(&[own + 1, 126], &[0, own, own, 127, 127, 255]) as u8,
         4 => header.rotation = of(&[256, 16_777_960], &[0, 255, 16_777_961, u32::MAX]),
@@ -349,7 +356,7 @@ impl Maker {
     fn near(&mut self, time: i64) -> u64 {
         let shift = match self.seed.below(8) {
             0 | 1 => -1,
-            2 | 3 | 4 => 0,
+            2..=4 => 0,
             5 | 6 => 1,
             _ => self.seed.below(200) as i64,
         };
@@ -359,7 +366,12 @@ impl Maker {
     /// A time soon after the last activity, before anything is over.
     fn soon(&mut self, watched: &Watched) -> u64 {
         let last = last_activity(watched).unwrap_or(self.clock as i64);
-        let span = if self.early { self.time(40) } else { self.slot() }.max(4);
+        let span = if self.early {
+            self.time(40)
+        } else {
+            self.slot()
+        }
+        .max(4);
         let step = match self.seed.below(4) {
             0 => 1,
             1 => self.seed.between(1, span / 2),
@@ -483,7 +495,11 @@ impl Maker {
 
     fn any_telegram(&mut self) -> Telegram {
         let own = self.header.address;
-        let destination = if self.seed.coin() { own } else { self.address() };
+        let destination = if self.seed.coin() {
+            own
+        } else {
+            self.address()
+        };
         let source = self.address();
         match self.seed.below(9) {
             0..=2 => Telegram::Token {
@@ -567,13 +583,21 @@ impl Maker {
         }
         match self.seed.below(20) {
             0..=8 if !self.others.is_empty() => {
-                let count = if self.others.len() > 8 { 8 } else { self.seed.between(1, 8) };
+                let count = if self.others.len() > 8 {
+                    8
+                } else {
+                    self.seed.between(1, 8)
+                };
                 self.circle_tokens(count)
             }
             9..=13 => {
                 let count = self.seed.below(3);
                 let mut heard = self.circle_tokens(count);
-                let source = if self.seed.one_in(3) { self.address() } else { previous };
+                let source = if self.seed.one_in(3) {
+                    self.address()
+                } else {
+                    previous
+                };
                 heard.push(Telegram::Request {
                     destination: own,
                     source,
@@ -612,7 +636,11 @@ impl Maker {
             source,
         };
         let count = self.seed.below(3);
-        let mut heard = if self.seed.coin() { self.circle_tokens(count) } else { Vec::new() };
+        let mut heard = if self.seed.coin() {
+            self.circle_tokens(count)
+        } else {
+            Vec::new()
+        };
         match self.seed.below(20) {
             0..=5 => heard.push(to_us(previous)),
             6..=8 => heard.push(to_us(watched.new_previous_station.unwrap_or(previous))),

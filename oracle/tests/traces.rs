@@ -147,7 +147,10 @@ fn example_11_second_collision_in_listen_token() {
     assert_eq!(answer, done(2));
     let activity = runner.station.watch().last_bus_activity;
     assert_eq!(activity, Some(Instant::from_micros(2000)));
-    assert_eq!(fresh(&runner).replace("Some(Instant { micros: 2000 })", "None"), new);
+    assert_eq!(
+        fresh(&runner).replace("Some(Instant { micros: 2000 })", "None"),
+        new
+    );
 }
 
 /// The trace of example 12.
@@ -183,17 +186,30 @@ fn replay_program(words: &[&str], input: &[u8]) -> (i32, String, String) {
     let _ = child.stdin.take().expect("its input").write_all(input);
     let output = child.wait_with_output().expect("it ends");
     let text = |bytes| String::from_utf8(bytes).expect("text");
-    (output.status.code().expect("a status"), text(output.stdout), text(output.stderr))
+    (
+        output.status.code().expect("a status"),
+        text(output.stdout),
+        text(output.stderr),
+    )
 }
 
 #[test]
 fn example_12_as_the_program_prints_it() {
     let trace = example_12();
-    assert_eq!(replay_program(&[], &trace), (0, EXAMPLE_12.to_string(), String::new()));
+    assert_eq!(
+        replay_program(&[], &trace),
+        (0, EXAMPLE_12.to_string(), String::new())
+    );
     let said = replay_program(&["--hex", &hex(&trace)], &[]);
     assert_eq!(said, (0, EXAMPLE_12.to_string(), String::new()));
-    assert_eq!(replay_program(&[], &trace[..17]).1, "0000000000000014\n1 0\n");
-    assert_eq!(replay_program(&[], &trace[..18]).1, "0000000000000014\n1 17\n");
+    assert_eq!(
+        replay_program(&[], &trace[..17]).1,
+        "0000000000000014\n1 0\n"
+    );
+    assert_eq!(
+        replay_program(&[], &trace[..18]).1,
+        "0000000000000014\n1 17\n"
+    );
     assert_eq!(replay_program(&[], &[200; 16]).1, "0 1\n");
     assert_eq!(replay_program(&[], &[]).1, "0 17\n");
 }
@@ -208,9 +224,21 @@ fn the_replay_program_reads_4096_bytes() {
 
 #[test]
 fn the_replay_program_refuses_bad_usage_in_one_line() {
-    for words in [vec!["--hex"], vec!["--hex", "0"], vec!["--hex", "zz"], vec!["--other"], vec!["no-such-file"], vec!["a", "b", "c"]] {
+    for words in [
+        vec!["--hex"],
+        vec!["--hex", "0"],
+        vec!["--hex", "zz"],
+        vec!["--other"],
+        vec!["no-such-file"],
+        vec!["a", "b", "c"],
+    ] {
         let (status, said, error) = replay_program(&words, &[]);
-        assert_eq!((status, said.as_str(), error.lines().count()), (2, "", 1), "{:?}", words);
+        assert_eq!(
+            (status, said.as_str(), error.lines().count()),
+            (2, "", 1),
+            "{:?}",
+            words
+        );
     }
 }
 
@@ -277,14 +305,32 @@ fn a_header_is_refused_exactly_where_the_published_builder_panics() {
     let mut tried = 0;
     for value in 0..=255u8 {
         for header in [
-            Header { address: value, ..good },
+            Header {
+                address: value,
+                ..good
+            },
             Header { gap: value, ..good },
             Header { hsa: value, ..good },
-            Header { retry: value, ..good },
-            Header { min_tsdr: value, ..good },
-            Header { slot: 100 + u16::from(value), ..good },
-            Header { rotation: 128 + u32::from(value), ..good },
-            Header { rotation: 16_777_960 - 128 + u32::from(value), ..good },
+            Header {
+                retry: value,
+                ..good
+            },
+            Header {
+                min_tsdr: value,
+                ..good
+            },
+            Header {
+                slot: 100 + u16::from(value),
+                ..good
+            },
+            Header {
+                rotation: 128 + u32::from(value),
+                ..good
+            },
+            Header {
+                rotation: 16_777_960 - 128 + u32::from(value),
+                ..good
+            },
         ] {
             let built = std::panic::catch_unwind(|| header.parameters()).is_ok();
             assert_eq!(built, header.refusal().is_none(), "{:?}", header);
@@ -321,7 +367,11 @@ fn wrong_calls_are_found() {
     // one entry too many
     let counts = |trace: &[u8], answers: &mut [u8]| {
         let number = replay_trace(trace, answers);
-        if number >= 256 { number + 256 } else { number }
+        if number >= 256 {
+            number + 256
+        } else {
+            number
+        }
     };
     // a byte behind the answers
     let tail = |trace: &[u8], answers: &mut [u8]| {
@@ -353,7 +403,14 @@ fn wrong_calls_are_found() {
 
 #[test]
 fn compare_traces_refuses_bad_usage_in_one_line() {
-    for words in [vec![], vec!["1"], vec!["1", "0"], vec!["x", "1"], vec!["1", "2", "3"], vec!["1", "-2"]] {
+    for words in [
+        vec![],
+        vec!["1"],
+        vec!["1", "0"],
+        vec!["x", "1"],
+        vec!["1", "2", "3"],
+        vec!["1", "-2"],
+    ] {
         let output = Command::new(env!("CARGO_BIN_EXE_compare_traces"))
             .args(&words)
             .output()

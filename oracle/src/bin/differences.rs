@@ -49,7 +49,10 @@ impl Shown {
 /// What the work gives, or the panic that ends it.
 fn tried(work: impl FnOnce() -> String) -> String {
     catch_unwind(AssertUnwindSafe(work)).unwrap_or_else(|payload| {
-        let message = match (payload.downcast_ref::<&str>(), payload.downcast_ref::<String>()) {
+        let message = match (
+            payload.downcast_ref::<&str>(),
+            payload.downcast_ref::<String>(),
+        ) {
             (Some(text), _) => text.to_string(),
             (_, Some(text)) => text.clone(),
             _ => "without a message".to_string(),
@@ -189,7 +192,10 @@ fn by_walk(
     Shown {
         number,
         words,
-        input: format!("own {}, others {:?}, HSA {}, next_gap_poll({})", own, others, hsa, from),
+        input: format!(
+            "own {}, others {:?}, HSA {}, next_gap_poll({})",
+            own, others, hsa, from
+        ),
         got,
         ours,
         published,
@@ -204,7 +210,11 @@ fn one_poll(station: &mut FdlActiveStation, record: &PollRecord) {
     for application in applications.iter_mut() {
         list.push(application);
     }
-    station.poll_multi(Instant::from_micros(record.clock as i64), &mut port, &mut list);
+    station.poll_multi(
+        Instant::from_micros(record.clock as i64),
+        &mut port,
+        &mut list,
+    );
 }
 
 /// What the published text does in any build; `ours` is what the proved code does.
@@ -364,11 +374,7 @@ fn main() {
         } else {
             "document 01's helpers"
         },
-        if CHECKED {
-            "checks armed"
-        } else {
-            "no checks"
-        }
+        if CHECKED { "checks armed" } else { "no checks" }
     );
     let mut other = 0;
     for s in shown() {

@@ -29,7 +29,10 @@ fn trace_of(words: &[String]) -> Result<Vec<u8>, String> {
             let mut input = std::io::stdin().take(READ_AT_MOST);
             match input.read_to_end(&mut trace) {
                 Ok(_) => Ok(trace),
-                Err(e) => Err(format!("replay_oracle: standard input cannot be read: {}", e)),
+                Err(e) => Err(format!(
+                    "replay_oracle: standard input cannot be read: {}",
+                    e
+                )),
             }
         }
         ["--hex", digits] => bytes_of_hex(digits)
