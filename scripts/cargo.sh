@@ -25,10 +25,11 @@ need_library() {
         echo "traces: not run: the static library of replay_trace is for x86-64, this machine is $machine"
         exit 3
     fi
-    if [ ! -f target/staticlib/libtrace.a ]; then
-        command -v rt >/dev/null 2>&1 || fail "target/staticlib/libtrace.a is not there, and 'rt', which builds it, is not on the PATH"
+    # built from the sources as they are, so that no older library is compared
+    if command -v rt >/dev/null 2>&1; then
         rt staticlib trace >/dev/null || fail "'rt staticlib trace' fails"
     fi
-    [ -f target/staticlib/libtrace.a ] || fail "target/staticlib/libtrace.a is not there: run 'rt staticlib trace'"
+    [ -f target/staticlib/libtrace.a ] ||
+        fail "target/staticlib/libtrace.a is not there, and 'rt', whose 'rt staticlib trace' makes it, is not on the PATH"
     export AMSULFEZD_STATICLIB_DIR=$PWD/target/staticlib
 }

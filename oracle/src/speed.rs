@@ -1,7 +1,8 @@
 //! Entries per second of two calls on one long ordinary trace, in one process.
 
-use crate::ordinary::ordinary_trace;
-use crate::trace::ANSWER;
+use crate::ordinary::{header, ordinary_trace};
+use crate::records::PollRecord;
+use crate::trace::{Entry, Runner, ANSWER, HEADER};
 use crate::trace_compare::Replay;
 use std::time::Instant;
 
@@ -18,6 +19,27 @@ fn once(replay: Replay, trace: &[u8], entries: usize) -> (f64, u64, Vec<u8>) {
         number,
         answers,
     )
+}
+
+/// The oracle's polls alone, with the records read beforehand and the answers not written: how much of
+/// its time is the published station's.
+fn station_alone(trace: &[u8]) -> f64 {
+    let header = header();
+    let mut rest = &trace[HEADER..];
+    let mut records = Vec::new();
+    while let Some((entry, after)) = Entry::first(rest) {
+        if let Entry::Poll(bytes) = entry {
+            records.extend(PollRecord::decode(header.applications, bytes));
+        }
+        rest = after;
+    }
+    let mut runner = Runner::new(&header);
+    runner.entry(Entry::Online);
+    let started = Instant::now();
+    for record in &records {
+        std::hint::black_box(runner.poll(record));
+    }
+    records.len() as f64 / started.elapsed().as_secs_f64()
 }
 
 /// The middle one, and how far the runs lie apart, in percent of it.
@@ -64,6 +86,12 @@ pub fn speed(names: [&str; 2], calls: [Replay; 2], entries: usize) -> Result<Str
         names[0],
         names[1],
         middles[0] / middles[1]
+    ));
+    let alone: Vec<f64> = (0..RUNS).map(|_| station_alone(&trace)).collect();
+    let (middle, spread) = middle_and_spread(&alone);
+    said.push_str(&format!(
+        "speed: the oracle's station alone, records read before, answers not written: middle {:.0} entries/s, spread {:.1} %\n",
+        middle, spread
     ));
     Ok(said)
 }
