@@ -263,7 +263,7 @@ pub fn compare_traces(replay: Replay, seed: u64, count: u64) -> (String, bool) {
         ));
     }
     for surprise in surprises.iter().take(NAMED) {
-        said.push_str(&format!("traces: said to be out of reach: {}\n", surprise));
+        said.push_str(&format!("traces: not as said: {}\n", surprise));
     }
     if missed.is_empty() {
         said.push_str(&format!(

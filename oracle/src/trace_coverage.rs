@@ -295,7 +295,7 @@ pub struct Met {
     times: [[[u64; 3]; 11]; 13],
     ring_sizes: [u64; 127],
     heard: [[[u64; 2]; 9]; 5],
-    /// What was met although it is said to be out of reach.
+    /// What was met although it is said to be out of reach, or against document 01's sentence on consumed.
     surprises: Vec<String>,
     /// Traces and entries walked.
     pub traces: u64,
@@ -635,6 +635,15 @@ impl Met {
         };
         let (from, to) = (before.watched.state, after.state);
         self.count_pair(from, to, outcome, &sent);
+        let told = consumed_as_document_01_says(&before.watched, record, outcome, &sent);
+        if usize::from(consumed) != told {
+            self.surprises.push(format!(
+                "a poll in {} takes {} telegrams, document 01 says {}",
+                STATES[usize::from(from)],
+                consumed,
+                told
+            ));
+        }
         let state = STATES[usize::from(from)];
         if record.transmitting {
             self.coverage.hit(
@@ -1243,6 +1252,30 @@ impl Met {
             }
         }
         (self.coverage, self.surprises)
+    }
+}
+
+/// "Consumed: none where a transmission is found going on (outcome 2, nothing sent). Else the two
+/// reply-waiting states the first telegram, if any; ListenToken and ActiveIdle all, but none in a poll
+/// that claims or has a request to answer; CheckTokenPass all, but none once the slot has expired; any
+/// other poll none." A claim and an expired slot are seen by the token that is then sent.
+fn consumed_as_document_01_says(
+    before: &Watched,
+    record: &PollRecord,
+    outcome: u8,
+    sent: &Sent,
+) -> usize {
+    let all = record.telegrams.len();
+    let sends_token = matches!(sent, Sent::Token { .. });
+    if !before.online || (outcome == 2 && *sent == Sent::Nothing) {
+        return 0;
+    }
+    match before.state {
+        5 | 8 => all.min(1),
+        0..=2 if sends_token || before.status_request.is_some() => 0,
+        7 if sends_token => 0,
+        0..=2 | 7 => all,
+        _ => 0,
     }
 }
 
