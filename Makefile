@@ -1,6 +1,6 @@
 # The commands of README.md. Each is a script under scripts/, which says on one line what it lacks.
-# TRACE=file on the command line reaches the scripts through the environment.
-.PHONY: test replay explain figures
+# TRACE=file, SEED=n and COUNT=m on the command line reach the scripts through the environment.
+.PHONY: test replay explain compare speed figures
 
 test:
 	@bash scripts/test.sh
@@ -10,6 +10,14 @@ replay:
 
 explain:
 	@bash scripts/explain.sh
+
+# m generated traces of seed n through the proved trace call and the published Rust: make compare SEED=n COUNT=m
+compare:
+	@bash scripts/compare_traces.sh
+
+# Entries per second of both on one long ordinary trace.
+speed:
+	@bash scripts/speed.sh
 
 figures:
 	@python3 scripts/figures.py

@@ -111,3 +111,21 @@ c_host() {
     mkdir -p "$(dirname "$output")"
     "${compile[@]}" "$@" target/staticlib/libtrace.a -o "$output" || fail "the C host's $(basename "$output") does not build"
 }
+
+# build_oracle WORD..: builds a part of oracle/ into target/oracle; the words are cargo's.
+build_oracle() {
+    CARGO_TARGET_DIR=target/oracle cargo build --offline --quiet --manifest-path oracle/Cargo.toml "$@" ||
+        fail "oracle/ does not build ($*)"
+}
+
+# The proved library is there and named for cargo, made from the sources as they are, so that no older one is compared.
+# Status 3 on a machine that cannot link it, after one line.
+need_library() {
+    machine=$(uname -m)
+    if [ "$machine" != x86_64 ]; then
+        echo "traces: not run: the static library of replay_trace is for x86-64, this machine is $machine"
+        exit 3
+    fi
+    build_staticlib
+    export AMSULFEZD_STATICLIB_DIR=$PWD/target/staticlib
+}

@@ -1,7 +1,7 @@
 #!/usr/bin/env bash
 # Compares the proved code with Rust: the settings with the published parameters.rs, the ring and the records, as the
-# programs ring_replay and records_show run them, with the models of oracle/.
-# SEED, RING_SEQUENCES and RECORD_ITEMS in the environment change what is generated.
+# programs ring_replay and records_show run them, with the models of oracle/, and the trace call with the published
+# active.rs. SEED, RING_SEQUENCES, RECORD_ITEMS and TRACES in the environment change what is generated.
 set -u
 cd "$(dirname "$0")/.."
 me=compare
@@ -10,14 +10,14 @@ me=compare
 seed=${SEED:-1}
 sequences=${RING_SEQUENCES:-20000}
 items=${RECORD_ITEMS:-80000}
+traces=${TRACES:-20000}
 
 for program in ring_replay records_show; do
     [ -f "target/bin/$program" ] || fail "target/bin/$program is not there: run 'rt check $program' first"
 done
 
 need cargo cargo
-CARGO_TARGET_DIR=target/oracle cargo build --release --offline --quiet --manifest-path oracle/Cargo.toml ||
-    fail "the models of oracle/ do not build"
+build_oracle --release
 
 # That the comparison can fail: models with planted errors, each of which must be reported.
 tests=$(CARGO_TARGET_DIR=target/oracle cargo test --release --offline --quiet --manifest-path oracle/Cargo.toml 2>&1) || {
@@ -38,3 +38,9 @@ target/oracle/release/compare_ring "$seed" "$sequences" -- "${runner[@]}" target
     fail "the ring is not the model's, or was not compared (seed $seed)"
 target/oracle/release/compare_records "$seed" "$items" -- "${runner[@]}" target/bin/records_show ||
     fail "the records are not the model's, or were not compared (seed $seed)"
+
+# The whole station: the proved trace call and the published active.rs in one process. Where the machine cannot link
+# the static library (status 3) this is said and nothing else is lost.
+SEED=$seed COUNT=$traces bash scripts/compare_traces.sh
+status=$?
+[ "$status" -eq 0 ] || [ "$status" -eq 3 ] || fail "the trace call is not the published station's (seed $seed)"

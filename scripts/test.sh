@@ -4,13 +4,11 @@
 set -u
 cd "$(dirname "$0")/.."
 
-fail() {
-    echo "make test: $*" >&2
-    exit 1
-}
+me="make test"
+. scripts/common.sh
 
-command -v rt >/dev/null 2>&1 || fail "the Rattle toolchain's command 'rt' is not on the PATH"
-
+need_rt
+need python3 python3
 rt fmt --check || fail "a file is not in the formatter's layout: run 'rt fmt'"
 
 log=$(mktemp) || fail "no temporary file could be made"
@@ -23,6 +21,7 @@ verdict=$(tail -n 1 "$log")
 [ "$status" -eq 0 ] || { echo "$verdict"; fail "rt ci ended with status $status"; }
 [[ "$verdict" =~ ^[1-9][0-9]*\ passed,\ 0\ failed$ ]] || fail "rt ci's last line is not a verdict: $verdict"
 
+python3 scripts/functions.py --check || fail "docs/FUNCTIONS.md is not what the sources say"
 bash scripts/compare.sh || fail "the comparison with Rust did not hold"
 bash scripts/hosts.sh || fail "the hosts' tests did not hold"
 

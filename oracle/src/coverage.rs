@@ -54,12 +54,17 @@ impl Coverage {
 
     /// Counts a point that was named.
     pub fn hit(&mut self, group: &str, point: &str) {
+        self.hit_times(group, point, 1);
+    }
+
+    /// Counts a point that was named and met so many times.
+    pub fn hit_times(&mut self, group: &str, point: &str, times: u64) {
         match self
             .counts
             .get_mut(group)
             .and_then(|points| points.get_mut(point))
         {
-            Some(count) => *count += 1,
+            Some(count) => *count += times,
             None => panic!("no coverage point '{}' in group '{}'", point, group),
         }
     }

@@ -3,30 +3,28 @@
 //! Everything is read from and written to a string of bits, most significant bit first, one field
 //! after the other in the order in which document 01 lists them. There are no masks here.
 
+/// What a bit is worth at each place of its byte, from the left.
+const PLACES: [u8; 8] = [128, 64, 32, 16, 8, 4, 2, 1];
+
 /// Bits read from the left.
-struct BitReader {
-    bits: Vec<bool>,
+struct BitReader<'a> {
+    bytes: &'a [u8],
     at: usize,
 }
 
-impl BitReader {
-    fn new(bytes: &[u8]) -> Self {
-        let mut bits = Vec::new();
-        for byte in bytes {
-            for place in [128, 64, 32, 16, 8, 4, 2, 1] {
-                bits.push(byte / place % 2 == 1);
-            }
-        }
-        BitReader { bits, at: 0 }
+impl<'a> BitReader<'a> {
+    fn new(bytes: &'a [u8]) -> Self {
+        BitReader { bytes, at: 0 }
     }
 
     /// The next field of this width.
     fn take(&mut self, width: usize) -> u64 {
         let mut value = 0;
-        for &bit in &self.bits[self.at..self.at + width] {
-            value = value * 2 + bit as u64;
+        for _ in 0..width {
+            let bit = self.bytes[self.at / 8] / PLACES[self.at % 8] % 2;
+            value = value * 2 + u64::from(bit);
+            self.at += 1;
         }
-        self.at += width;
         value
     }
 
@@ -39,28 +37,31 @@ impl BitReader {
 /// Bits written from the left.
 #[derive(Default)]
 struct BitWriter {
-    bits: Vec<bool>,
+    bytes: Vec<u8>,
+    at: usize,
 }
 
 impl BitWriter {
     fn put(&mut self, width: usize, value: u64) {
-        let mut digits = Vec::new();
+        let mut digits = [0; 64];
         let mut rest = value;
-        for _ in 0..width {
-            digits.push(rest % 2 == 1);
+        for digit in digits[..width].iter_mut().rev() {
+            *digit = (rest % 2) as u8;
             rest /= 2;
         }
         assert_eq!(rest, 0, "{} does not fit into {} bits", value, width);
-        digits.reverse();
-        self.bits.extend(digits);
+        for digit in &digits[..width] {
+            if self.at % 8 == 0 {
+                self.bytes.push(0);
+            }
+            self.bytes[self.at / 8] += digit * PLACES[self.at % 8];
+            self.at += 1;
+        }
     }
 
-    fn bytes(&self) -> Vec<u8> {
-        assert_eq!(self.bits.len() % 8, 0);
-        self.bits
-            .chunks(8)
-            .map(|eight| eight.iter().fold(0, |byte, &bit| byte * 2 + bit as u8))
-            .collect()
+    fn bytes(self) -> Vec<u8> {
+        assert_eq!(self.at % 8, 0);
+        self.bytes
     }
 }
 

@@ -3,8 +3,6 @@
 //! Addresses are walked one by one; nothing here is clever. The names are those that the Rust
 //! station calls.
 
-use std::collections::BTreeSet;
-
 pub type Address = u8;
 
 /// The highest address: "125 followed by 0".
@@ -14,7 +12,8 @@ pub const LAST: Address = 125;
 #[derive(Debug, Clone, PartialEq, Eq)]
 pub struct TokenRing {
     own: Address,
-    members: BTreeSet<Address>,
+    /// For each address whether it is in the set.
+    members: [bool; LAST as usize + 1],
     laps: u8,
     ready: bool,
 }
@@ -54,12 +53,14 @@ impl TokenRing {
     /// "Fresh: own only, 0, no." An own address above 125 is refused long before (refusal 1).
     pub fn new(own: Address) -> Self {
         assert!(own <= LAST, "own address {} is above {}", own, LAST);
-        TokenRing {
+        let mut ring = TokenRing {
             own,
-            members: BTreeSet::from([own]),
+            members: [false; LAST as usize + 1],
             laps: 0,
             ready: false,
-        }
+        };
+        ring.members[own as usize] = true;
+        ring
     }
 
     pub fn own(&self) -> Address {
@@ -69,7 +70,7 @@ impl TokenRing {
     /// "Next: first member going up from own, 125 followed by 0; own if alone."
     pub fn next_station(&self) -> Address {
         let mut address = up(self.own);
-        while address != self.own && !self.members.contains(&address) {
+        while address != self.own && !self.members[address as usize] {
             address = up(address);
         }
         address
@@ -78,7 +79,7 @@ impl TokenRing {
     /// "Previous: the same going down."
     pub fn previous_station(&self) -> Address {
         let mut address = down(self.own);
-        while address != self.own && !self.members.contains(&address) {
+        while address != self.own && !self.members[address as usize] {
             address = down(address);
         }
         address
@@ -91,12 +92,12 @@ impl TokenRing {
         if source > LAST || destination > LAST {
             return;
         }
-        let before = self.members.clone();
-        self.members.insert(source);
-        self.members.insert(destination);
+        let before = self.members;
+        self.members[source as usize] = true;
+        self.members[destination as usize] = true;
         for address in strictly_between(source, destination) {
             if address != self.own {
-                self.members.remove(&address);
+                self.members[address as usize] = false;
             }
         }
         if self.members != before {
@@ -118,14 +119,14 @@ impl TokenRing {
     /// "Set-next adds." The set is one of addresses 0..125, so a number above adds nothing.
     pub fn set_next_station(&mut self, address: Address) {
         if address <= LAST {
-            self.members.insert(address);
+            self.members[address as usize] = true;
         }
     }
 
     /// "Remove takes out any but own."
     pub fn remove_station(&mut self, address: Address) {
-        if address != self.own {
-            self.members.remove(&address);
+        if address != self.own && address <= LAST {
+            self.members[address as usize] = false;
         }
     }
 
@@ -138,20 +139,20 @@ impl TokenRing {
     }
 
     pub fn member(&self, address: Address) -> bool {
-        self.members.contains(&address)
+        address <= LAST && self.members[address as usize]
     }
 
     /// The members, lowest first.
     pub fn members(&self) -> impl Iterator<Item = Address> + '_ {
-        self.members.iter().copied()
+        (0..=LAST).filter(|address| self.members[*address as usize])
     }
 
     pub fn size(&self) -> usize {
-        self.members.len()
+        self.members().count()
     }
 
     pub fn alone(&self) -> bool {
-        self.members.len() == 1
+        self.size() == 1
     }
 
     /// "Gap walk from a: candidate a + 1, or 0 if that is ≥ HSA. It is polled exactly if it lies

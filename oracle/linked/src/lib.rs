@@ -1,0 +1,42 @@
+//! The proved `replay_trace` as a Rust host calls it. This is the one place with unsafe code.
+
+mod proved {
+    extern "C" {
+        /// The call of the static library; its contract is document 01's "Trace".
+        pub fn replay_trace(
+            trace: *const u8,
+            trace_len: usize,
+            answers: *mut u8,
+            answers_len: usize,
+        ) -> u64;
+    }
+}
+
+/// Replays a trace by the proved call.
+pub fn replay_trace(trace: &[u8], answers: &mut [u8]) -> u64 {
+    // Safety: both are whole slices, and the call keeps to the two lengths that it is given.
+    unsafe {
+        proved::replay_trace(
+            trace.as_ptr(),
+            trace.len(),
+            answers.as_mut_ptr(),
+            answers.len(),
+        )
+    }
+}
+
+/// A trace of zero bytes but for its first ones, whose pages the machine has to hand out only when they
+/// are touched; `None` if it does not give so many. It is never given back.
+pub fn long_trace(first: &[u8], length: usize) -> Option<&'static [u8]> {
+    let layout = std::alloc::Layout::array::<u8>(length).ok()?;
+    // Safety: the layout is not empty, the memory is zeroed and stays for the rest of the run.
+    let trace = unsafe {
+        let start = std::alloc::alloc_zeroed(layout);
+        if start.is_null() {
+            return None;
+        }
+        std::slice::from_raw_parts_mut(start, length)
+    };
+    trace[..first.len()].copy_from_slice(first);
+    Some(trace)
+}

@@ -1,0 +1,91 @@
+//! Writes a copy of the oracle's station for each planted error: one module each, in one crate.
+
+#[path = "../build/replacements.rs"]
+#[allow(dead_code)]
+mod replacements;
+
+#[path = "list.rs"]
+#[allow(dead_code)]
+mod list;
+
+use std::fmt::Write;
+use std::path::Path;
+
+/// Files that lean on nothing of the crate: copied only where the error stands in them.
+const ALONE: [&str; 3] = ["records", "ring", "dp"];
+/// Files that lean on each other: copied for each error.
+const TOGETHER: [&str; 6] = ["time", "baud", "fdl", "phy", "port", "trace"];
+
+fn read(path: &str) -> String {
+    println!("cargo:rerun-if-changed={}", path);
+    match std::fs::read_to_string(path) {
+        Ok(text) => text,
+        Err(e) => panic!("{}: {}", path, e),
+    }
+}
+
+fn main() {
+    for file in [
+        "build.rs",
+        "list.rs",
+        "../build/replacements.rs",
+        "../build/watch.rs",
+    ] {
+        println!("cargo:rerun-if-changed={}", file);
+    }
+    let out = std::env::var("OUT_DIR").expect("cargo names a folder");
+    let active = replacements::station_text(&read("../published/active.rs"), false)
+        .expect("the published active.rs takes document 01's helpers");
+    let mut sources = vec![
+        ("active", active),
+        ("parameters", read("../published/parameters.rs")),
+    ];
+    for name in TOGETHER.iter().chain(&ALONE) {
+        sources.push((*name, read(&format!("../src/{}.rs", name))));
+    }
+    let mut index = String::new();
+    let mut calls = String::from("pub const CALLS: &[fn(&[u8], &mut [u8]) -> u64] = &[\n");
+    for (i, error) in list::PLANTED.iter().enumerate() {
+        let name = format!("error_{}", i + 1);
+        let folder = Path::new(&out).join(&name);
+        std::fs::create_dir_all(&folder).expect("a folder can be made");
+        let mut root = String::new();
+        for (file, text) in &sources {
+            let text = if *file == error.file {
+                match replacements::replace_once(text, error.old, error.new) {
+                    Ok(text) => text,
+                    Err(count) => panic!(
+                        "planted error {}: its text stands {} times in {}, not once:\n{}",
+                        i + 1,
+                        count,
+                        file,
+                        error.old
+                    ),
+                }
+            } else if ALONE.contains(file) {
+                writeln!(root, "pub use oracle::{};", file).expect("text");
+                continue;
+            } else {
+                text.clone()
+            };
+            let text = text
+                .replace("crate::", &format!("crate::copies::{}::", name))
+                .replace("../published/parameters.rs", "parameters.rs");
+            std::fs::write(folder.join(format!("{}.rs", file)), text)
+                .expect("a file can be written");
+            if *file != "parameters" {
+                writeln!(root, "#[path = \"{}.rs\"]\npub mod {};", file, file).expect("text");
+            }
+        }
+        root.push_str("pub mod station {\n    pub use super::active::{ConnectivityState, FdlActiveStation, Watched};\n}\n");
+        root.push_str(
+            "pub use baud::Baudrate;\npub use oracle::{debug_assert_address, Address};\n",
+        );
+        std::fs::write(folder.join("mod.rs"), root).expect("a file can be written");
+        writeln!(index, "#[path = \"{}/mod.rs\"]\nmod {};", name, name).expect("text");
+        writeln!(calls, "    {}::trace::replay_trace,", name).expect("text");
+    }
+    calls.push_str("];\n");
+    index.push_str(&calls);
+    std::fs::write(Path::new(&out).join("index.rs"), index).expect("a file can be written");
+}

@@ -1,0 +1,389 @@
+//! Shows the differences of docs/DIFFERENCES.md by runs. For each trace it prints the answers of this
+//! build, and holds them to the list: built as usual, the answers by document 01's rules; built with the
+//! feature `published_helpers`, those of the published helpers. Status 1 if one is not as listed.
+#![forbid(unsafe_code)]
+
+use oracle::dp::{DpMaster, Options, Peripheral};
+use oracle::fdl::{parameters, FdlActiveStation, FdlApplication, ParametersBuilder};
+use oracle::port::{RecordApplication, RecordPort};
+use oracle::records::{Decision, PollRecord, Telegram};
+use oracle::time::{Duration, Instant};
+use oracle::trace::{replay_trace, Header, ANSWER};
+use oracle::trace_compare::hex;
+use oracle::Baudrate;
+use std::panic::{catch_unwind, AssertUnwindSafe};
+
+/// Whether this build has the published helpers.
+const PUBLISHED: bool = cfg!(feature = "published_helpers");
+/// Whether overflow is checked and debug assertions are armed in this build.
+const CHECKED: bool = cfg!(debug_assertions);
+
+/// A difference, with what this build answers and what each build should answer.
+struct Shown {
+    number: &'static str,
+    words: &'static str,
+    /// The trace in hex, or the call.
+    input: String,
+    got: String,
+    /// By document 01's rules, and by the published text.
+    ours: &'static str,
+    published: &'static str,
+}
+
+impl Shown {
+    fn expected(&self) -> &'static str {
+        if PUBLISHED {
+            self.published
+        } else {
+            self.ours
+        }
+    }
+
+    /// A panic may have any message.
+    fn as_listed(&self) -> bool {
+        self.got == self.expected()
+            || (self.expected() == "panic" && self.got.starts_with("panic: "))
+    }
+}
+
+/// What the work gives, or the panic that ends it.
+fn tried(work: impl FnOnce() -> String) -> String {
+    catch_unwind(AssertUnwindSafe(work)).unwrap_or_else(|payload| {
+        let message = match (
+            payload.downcast_ref::<&str>(),
+            payload.downcast_ref::<String>(),
+        ) {
+            (Some(text), _) => text.to_string(),
+            (_, Some(text)) => text.clone(),
+            _ => "without a message".to_string(),
+        };
+        format!("panic: {}", message)
+    })
+}
+
+/// Address 5, 500 kbaud, slot 200, rotation 32436, gap wait 1, HSA 126, one application.
+fn header() -> Header {
+    Header {
+        address: 5,
+        baud: 6,
+        slot: 200,
+        rotation: 32436,
+        gap: 1,
+        hsa: 126,
+        retry: 1,
+        min_tsdr: 11,
+        applications: 1,
+        factors: (0, 0),
+        zero: 0,
+    }
+}
+
+fn poll(clock: u64, telegrams: &[Telegram]) -> PollRecord {
+    PollRecord {
+        clock,
+        transmitting: false,
+        pending: 0,
+        decisions: vec![(Decision::Declines, Decision::Declines)],
+        telegrams: telegrams.to_vec(),
+    }
+}
+
+/// Online, then these polls.
+fn trace(header: Header, polls: &[PollRecord]) -> Vec<u8> {
+    let mut bytes = header.write().to_vec();
+    bytes.push(0);
+    for record in polls {
+        let record = record.encode();
+        bytes.push(record.len() as u8);
+        bytes.extend_from_slice(&record);
+    }
+    bytes
+}
+
+fn token(source: u8, destination: u8) -> Telegram {
+    Telegram::Token {
+        destination,
+        source,
+    }
+}
+
+/// Silent polls at these times.
+fn silent(times: &[u64]) -> Vec<PollRecord> {
+    times.iter().map(|time| poll(*time, &[])).collect()
+}
+
+/// The polls of a station that hears 6 alone in the ring and its question, answers, gets the token and
+/// passes it at 1500: it is in CheckTokenPass. Between 5 and 6 there is no gap.
+fn passed_to_6() -> Vec<PollRecord> {
+    let request = Telegram::Request {
+        destination: 5,
+        source: 6,
+        status_request: true,
+    };
+    vec![
+        poll(1000, &[token(6, 6), token(6, 6), request]),
+        poll(1100, &[]),
+        poll(1300, &[token(6, 5)]),
+        poll(1400, &[]),
+        poll(1500, &[]),
+    ]
+}
+
+/// The polls of a station that claims the token and asks station 9 at 7700: AwaitDataResponse.
+fn asked_9() -> Vec<PollRecord> {
+    let mut polls = silent(&[1000, 7400, 7540, 7700]);
+    polls[3].decisions[0].0 = Decision::Sends {
+        reply: Some(9),
+        length: 1,
+    };
+    polls
+}
+
+/// The last answer of a trace.
+fn last_answer(trace: &[u8]) -> String {
+    let mut answers = vec![0; ANSWER * trace.len()];
+    let last = (replay_trace(trace, &mut answers) / 256) as usize - 1;
+    hex(&answers[ANSWER * last..ANSWER * (last + 1)])
+}
+
+/// A difference that the last answer of a trace shows.
+fn by_trace(
+    number: &'static str,
+    words: &'static str,
+    polls: &[PollRecord],
+    ours: &'static str,
+    published: &'static str,
+) -> Shown {
+    let trace = trace(header(), polls);
+    Shown {
+        number,
+        words,
+        input: hex(&trace),
+        got: tried(|| last_answer(&trace)),
+        ours,
+        published,
+    }
+}
+
+/// A step of the gap walk on a station that has heard these others.
+fn by_walk(
+    number: &'static str,
+    words: &'static str,
+    (own, hsa, others, from): (u8, u8, &[u8], u8),
+    ours: &'static str,
+    published: &'static str,
+) -> Shown {
+    let mut station = FdlActiveStation::new(
+        Header {
+            address: own,
+            hsa,
+            ..header()
+        }
+        .parameters(),
+    );
+    station.set_online();
+    for other in others {
+        one_poll(&mut station, &poll(1000, &[token(*other, *other)]));
+    }
+    let got = tried(|| match station.gap_walk_from(from) {
+        None => "waits".to_string(),
+        Some(address) => format!("polls {}", address),
+    });
+    Shown {
+        number,
+        words,
+        input: format!(
+            "own {}, others {:?}, HSA {}, next_gap_poll({})",
+            own, others, hsa, from
+        ),
+        got,
+        ours,
+        published,
+    }
+}
+
+/// One poll of the published station with this record's applications.
+fn one_poll(station: &mut FdlActiveStation, record: &PollRecord) {
+    let mut port = RecordPort::new(record);
+    let mut applications = RecordApplication::all(record);
+    let mut list: Vec<&mut dyn FdlApplication> = Vec::new();
+    for application in applications.iter_mut() {
+        list.push(application);
+    }
+    station.poll_multi(
+        Instant::from_micros(record.clock as i64),
+        &mut port,
+        &mut list,
+    );
+}
+
+/// What the published text does in any build; `ours` is what the proved code does.
+fn by_call(
+    number: &'static str,
+    words: &'static str,
+    call: impl FnOnce() -> String,
+    checked: &'static str,
+    unchecked: &'static str,
+) -> Shown {
+    let expected = if CHECKED { checked } else { unchecked };
+    Shown {
+        number,
+        words,
+        input: "a call of the published text".to_string(),
+        got: tried(call),
+        ours: expected,
+        published: expected,
+    }
+}
+
+fn builder() -> ParametersBuilder {
+    ParametersBuilder::new(5, Baudrate::B500000)
+}
+
+/// The factors of so many milliseconds, by the private function of the published file.
+fn factors(millis: u64) -> String {
+    format!("{:?}", parameters::factors(Duration::from_millis(millis)))
+}
+
+/// Two applications, the second one's turn; then a poll with one application only.
+fn changed_list() -> String {
+    let mut station = FdlActiveStation::new(header().parameters());
+    station.set_online();
+    let two = |clock, first, second| PollRecord {
+        decisions: vec![(first, Decision::Declines), (second, Decision::Declines)],
+        ..poll(clock, &[])
+    };
+    let sends = Decision::Sends {
+        reply: None,
+        length: 1,
+    };
+    for clock in [1000, 7400, 7540] {
+        one_poll(&mut station, &two(clock, Decision::Declines, sends));
+    }
+    one_poll(&mut station, &two(7700, Decision::Declines, sends));
+    one_poll(&mut station, &poll(7900, &[]));
+    format!("next application {}", station.next_application())
+}
+
+fn shown() -> Vec<Shown> {
+    let with = |mut polls: Vec<PollRecord>, more: PollRecord| {
+        polls.push(more);
+        polls
+    };
+    vec![
+        by_trace(
+            "A1",
+            "ClaimToken, polled exactly one pause (66 us) after its last activity",
+            &silent(&[1000, 7400, 7532]),
+            "0232140030000014",
+            "0440000000000014",
+        ),
+        by_trace(
+            "A2",
+            "AwaitDataResponse, polled exactly one slot (400 us) after its telegram",
+            &with(asked_9(), poll(8122, &[])),
+            "0460000000809014",
+            "0350000000000014",
+        ),
+        by_trace(
+            "A3",
+            "the first PassToken after a claim",
+            &silent(&[1000, 7400, 7540, 7700, 7800]),
+            "0232140030000014",
+            "0284180060000014",
+        ),
+        by_trace(
+            "A4",
+            "a short confirmation first in CheckTokenPass, log lines evaluated in the published build",
+            &with(passed_to_6(), poll(1600, &[Telegram::ShortConfirmation])),
+            "0320000001000018",
+            "panic",
+        ),
+        by_call(
+            "A5",
+            "set_passive",
+            || {
+                FdlActiveStation::new(header().parameters()).set_passive();
+                "done".to_string()
+            },
+            "panic",
+            "panic",
+        ),
+        by_call(
+            "A6",
+            "the second of two applications has its turn, then a poll with one application",
+            changed_list,
+            "panic",
+            "panic",
+        ),
+        by_walk("R1", "a lone station", (5, 126, &[], 4), "waits", "polls 5"),
+        by_walk("R1a", "next above HSA", (5, 10, &[20], 9), "waits", "polls 0"),
+        by_walk("R1b", "a walk from beyond HSA", (1, 5, &[], 9), "polls 0", "polls 10"),
+        by_walk("R1c", "next below own, walk up to own", (5, 126, &[2], 4), "waits", "polls 5"),
+        by_call(
+            "S2",
+            "slot_bits(199) at 500 kbaud, and what the builder then holds",
+            || {
+                let mut b = builder();
+                let refused = catch_unwind(AssertUnwindSafe(|| {
+                    b.slot_bits(199);
+                }));
+                format!("panic {}, slot bits {}", refused.is_err(), b.build().slot_bits)
+            },
+            "panic true, slot bits 199",
+            "panic true, slot bits 199",
+        ),
+        by_call(
+            "S3",
+            "watchdog_factors of 42949670420 ms",
+            || factors(42_949_670_420),
+            "panic",
+            "Some(Ok((255, 0)))",
+        ),
+        by_call(
+            "S3",
+            "watchdog_factors of 42949672950 ms",
+            || factors(42_949_672_950),
+            "panic",
+            "Some(Ok((2, 0)))",
+        ),
+        by_call(
+            "S4",
+            "build_verified with a max Tsdr of 65521 and 200 slot bits",
+            || {
+                let peripheral = Peripheral(Options { max_tsdr: 65521 });
+                builder().build_verified(&DpMaster(vec![peripheral]));
+                "yes".to_string()
+            },
+            "panic",
+            "yes",
+        ),
+    ]
+}
+
+fn main() {
+    if std::env::args().len() > 1 {
+        eprintln!("differences: usage: differences, without a word");
+        std::process::exit(2);
+    }
+    std::panic::set_hook(Box::new(|_| {}));
+    println!(
+        "differences: {}, {}",
+        if PUBLISHED {
+            "the published helpers"
+        } else {
+            "document 01's helpers"
+        },
+        if CHECKED { "checks armed" } else { "no checks" }
+    );
+    let mut other = 0;
+    for s in shown() {
+        println!("{}: {}\n    {}\n    {}", s.number, s.words, s.input, s.got);
+        if !s.as_listed() {
+            println!("    LISTED: {}", s.expected());
+            other += 1;
+        }
+    }
+    println!("differences: {} answers are not as listed", other);
+    std::process::exit(if other == 0 { 0 } else { 1 });
+}

@@ -1,0 +1,270 @@
+//! Document 01, "Trace": the header, the entries, and the call that replays them.
+
+use crate::baud::{Baudrate, LEAST_SLOT_BITS};
+use crate::fdl::{FdlActiveStation, FdlApplication, Parameters, ParametersBuilder};
+use crate::port::{RecordApplication, RecordPort};
+use crate::records::{Answer, Notice, PollRecord, Sent};
+use crate::time::Instant;
+
+/// The header's length in bytes.
+pub const HEADER: usize = 16;
+
+/// The longest trace: "is above 2^32 bytes" is refused.
+pub const LONGEST: u64 = 1 << 32;
+
+/// The bytes of one answer.
+pub const ANSWER: usize = 8;
+
+/// The header's fields as given: "address 8, baud 8, slot 16, rotation 32, gap 8, HSA 8, retry 8, min
+/// Tsdr 8, applications 8, factors 8 + 8 (both zero or neither), zero 8".
+#[derive(Debug, Clone, Copy, PartialEq, Eq)]
+pub struct Header {
+    pub address: u8,
+    pub baud: u8,
+    pub slot: u16,
+    pub rotation: u32,
+    pub gap: u8,
+    pub hsa: u8,
+    pub retry: u8,
+    pub min_tsdr: u8,
+    pub applications: u8,
+    pub factors: (u8, u8),
+    pub zero: u8,
+}
+
+impl Header {
+    pub fn read(bytes: &[u8; HEADER]) -> Header {
+        let b = bytes;
+        Header {
+            address: b[0],
+            baud: b[1],
+            slot: u16::from_be_bytes([b[2], b[3]]),
+            rotation: u32::from_be_bytes([b[4], b[5], b[6], b[7]]),
+            gap: b[8],
+            hsa: b[9],
+            retry: b[10],
+            min_tsdr: b[11],
+            applications: b[12],
+            factors: (b[13], b[14]),
+            zero: b[15],
+        }
+    }
+
+    pub fn write(&self) -> [u8; HEADER] {
+        let slot = self.slot.to_be_bytes();
+        let rotation = self.rotation.to_be_bytes();
+        [
+            self.address,
+            self.baud,
+            slot[0],
+            slot[1],
+            rotation[0],
+            rotation[1],
+            rotation[2],
+            rotation[3],
+            self.gap,
+            self.hsa,
+            self.retry,
+            self.min_tsdr,
+            self.applications,
+            self.factors.0,
+            self.factors.1,
+            self.zero,
+        ]
+    }
+
+    /// The number of the refusal: that of the first fault.
+    pub fn refusal(&self) -> Option<u8> {
+        self.faults().first().copied()
+    }
+
+    /// The numbers of all faults in document 01's order "1, 10, 2, 3, 4, 5, 6, 7, 11, 8, 14".
+    pub fn faults(&self) -> Vec<u8> {
+        let rules = [
+            (1, self.address > 125),
+            (10, self.baud > 10),
+            (2, self.slot_too_small()),
+            (3, self.hsa <= self.address || self.hsa > 126),
+            (4, self.rotation < 256 || self.rotation > 16_777_960),
+            (5, self.gap < 1 || self.gap > 100),
+            (6, self.retry < 1 || self.retry > 15),
+            (7, self.min_tsdr < 11),
+            (11, self.applications < 1 || self.applications > 8),
+            (8, (self.factors.0 == 0) != (self.factors.1 == 0)),
+            (14, self.zero != 0),
+        ];
+        rules
+            .iter()
+            .filter(|rule| rule.1)
+            .map(|rule| rule.0)
+            .collect()
+    }
+
+    /// Whether the slot bits are below the least for the baud code, if that code is one.
+    fn slot_too_small(&self) -> bool {
+        match LEAST_SLOT_BITS.get(usize::from(self.baud)) {
+            Some(least) => self.slot < *least,
+            None => false,
+        }
+    }
+
+    /// The settings of an accepted header, made by the published builder. "HSA does not set rotation
+    /// here": the rotation is set after it.
+    pub fn parameters(&self) -> Parameters {
+        let baudrate = Baudrate::of_code(self.baud).expect("an accepted baud code");
+        let mut parameters = ParametersBuilder::new(self.address, baudrate)
+            .slot_bits(self.slot)
+            .highest_station_address(self.hsa)
+            .token_rotation_bits(self.rotation)
+            .gap_wait_rotations(self.gap)
+            .max_retry_limit(self.retry)
+            .min_tsdr(self.min_tsdr)
+            .build();
+        if self.factors != (0, 0) {
+            parameters.watchdog_factors = Some(self.factors);
+        }
+        parameters
+    }
+}
+
+/// "byte 0 online, 1 offline, 2 passive, any L ≥ 3 a poll record of L bytes"
+#[derive(Debug, Clone, Copy, PartialEq, Eq)]
+pub enum Entry<'a> {
+    Online,
+    Offline,
+    Passive,
+    Poll(&'a [u8]),
+}
+
+impl<'a> Entry<'a> {
+    /// The first entry of these bytes and what follows it; `None` if they end inside it.
+    pub fn first(bytes: &'a [u8]) -> Option<(Entry<'a>, &'a [u8])> {
+        let (&kind, rest) = bytes.split_first()?;
+        match kind {
+            0 => Some((Entry::Online, rest)),
+            1 => Some((Entry::Offline, rest)),
+            2 => Some((Entry::Passive, rest)),
+            length => {
+                let length = usize::from(length);
+                if rest.len() < length {
+                    return None;
+                }
+                let (record, rest) = rest.split_at(length);
+                Some((Entry::Poll(record), rest))
+            }
+        }
+    }
+}
+
+/// A station with its number of applications, which "is fixed for life".
+pub struct Runner {
+    pub station: FdlActiveStation,
+    pub applications: u8,
+}
+
+impl Runner {
+    /// A fresh station for an accepted header.
+    pub fn new(header: &Header) -> Runner {
+        Runner {
+            station: FdlActiveStation::new(header.parameters()),
+            applications: header.applications,
+        }
+    }
+
+    /// Does what the entry says and gives its answer.
+    pub fn entry(&mut self, entry: Entry) -> Answer {
+        match entry {
+            Entry::Online => {
+                self.station.set_online();
+                self.done(0, Sent::Nothing, 0, Notice::Nothing)
+            }
+            Entry::Offline => {
+                self.station.set_offline();
+                self.done(0, Sent::Nothing, 0, Notice::Nothing)
+            }
+            Entry::Passive => self.refused(16),
+            Entry::Poll(bytes) => match PollRecord::decode(self.applications, bytes) {
+                Ok(record) => self.poll(&record),
+                Err(refused) => self.refused(refused.number),
+            },
+        }
+    }
+
+    /// Polls the published station with a port and applications that do what the record says.
+    pub fn poll(&mut self, record: &PollRecord) -> Answer {
+        let now = Instant::from_micros(record.clock as i64);
+        let mut port = RecordPort::new(record);
+        let mut applications = RecordApplication::all(record);
+        let mut list: Vec<&mut dyn FdlApplication> = Vec::with_capacity(applications.len());
+        for application in applications.iter_mut() {
+            list.push(application);
+        }
+        let outcome = self.station.poll_done(now, &mut port, &mut list);
+        let mut notice = Notice::Nothing;
+        for application in &applications {
+            if application.notice != Notice::Nothing {
+                assert_eq!(notice, Notice::Nothing, "two notices in one poll");
+                notice = application.notice;
+            }
+        }
+        self.done(outcome, port.sent, port.consumed as u8, notice)
+    }
+
+    fn done(&self, outcome: u8, sent: Sent, consumed: u8, notice: Notice) -> Answer {
+        Answer::Done {
+            outcome,
+            state: self.station.state_number(),
+            sent,
+            consumed,
+            notice,
+            next_application: self.station.next_application() as u8,
+            next_station: self.station.inspect_token_ring().next_station(),
+        }
+    }
+
+    fn refused(&self, number: u8) -> Answer {
+        Answer::Refused {
+            number,
+            state: self.station.state_number(),
+            next_application: self.station.next_application() as u8,
+            next_station: self.station.inspect_token_ring().next_station(),
+        }
+    }
+}
+
+/// Replays a trace: "Each entry's answer goes into the next 8 bytes of the caller's buffer. The call
+/// returns entries answered × 256 + ending number."
+pub fn replay_trace(trace: &[u8], answers: &mut [u8]) -> u64 {
+    let (entries, ending) = replay(trace, answers);
+    entries * 256 + u64::from(ending)
+}
+
+/// The entries answered, and the ending number.
+fn replay(trace: &[u8], answers: &mut [u8]) -> (u64, u8) {
+    if trace.len() as u64 > LONGEST || trace.len() < HEADER {
+        return (0, 17);
+    }
+    let (head, mut rest) = trace.split_at(HEADER);
+    let header = Header::read(head.try_into().expect("16 bytes"));
+    if let Some(number) = header.refusal() {
+        return (0, number);
+    }
+    let mut runner = Runner::new(&header);
+    let mut room = answers;
+    let mut answered = 0;
+    while !rest.is_empty() {
+        let (entry, after) = match Entry::first(rest) {
+            Some(found) => found,
+            None => return (answered, 17),
+        };
+        if room.len() < ANSWER {
+            return (answered, 18);
+        }
+        let (place, after_place) = room.split_at_mut(ANSWER);
+        place.copy_from_slice(&runner.entry(entry).encode());
+        room = after_place;
+        rest = after;
+        answered += 1;
+    }
+    (answered, 0)
+}
