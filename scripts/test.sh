@@ -9,7 +9,9 @@ me="make test"
 
 need_rt
 need python3 python3
+
 rt fmt --check || fail "a file is not in the formatter's layout: run 'rt fmt'"
+python3 scripts/functions.py --check || fail "docs/FUNCTIONS.md is not what the sources say"
 
 log=$(mktemp) || fail "no temporary file could be made"
 trap 'rm -f "$log"' EXIT
@@ -21,7 +23,6 @@ verdict=$(tail -n 1 "$log")
 [ "$status" -eq 0 ] || { echo "$verdict"; fail "rt ci ended with status $status"; }
 [[ "$verdict" =~ ^[1-9][0-9]*\ passed,\ 0\ failed$ ]] || fail "rt ci's last line is not a verdict: $verdict"
 
-python3 scripts/functions.py --check || fail "docs/FUNCTIONS.md is not what the sources say"
 bash scripts/compare.sh || fail "the comparison with Rust did not hold"
 bash scripts/hosts.sh || fail "the hosts' tests did not hold"
 
