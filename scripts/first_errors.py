@@ -1,6 +1,6 @@
 #!/usr/bin/env python3
-"""Prints, for each must-fail edit of the crates named (all crates without names), the first error that the check gives
-on a copy of the tree with that edit. The reviewer sees from it that each edit fails by a fact that no longer holds, and
+"""Prints, for each must-fail edit of the crates named (CRATE, or CRATE/EDIT for one; all crates without names), the first
+error that the check gives on a copy of the tree with that edit. The reviewer sees from it that each edit fails by a fact that no longer holds, and
 not by a name that a proof file misses. Proved libraries are taken from target/, so run 'rt check' before."""
 import os
 import re
@@ -56,12 +56,15 @@ def main():
         fail("the Rattle toolchain's command 'rt' is not on the PATH")
     if not os.path.isdir("target"):
         fail("nothing is proved yet: run 'rt check' first")
-    crates = sys.argv[1:] or sorted(os.listdir("crates"))
-    for crate in crates:
+    for word in sys.argv[1:] or sorted(os.listdir("crates")):
+        crate, _, one = word.partition("/")
         folder = os.path.join("crates", crate, "must-fail")
         if not os.path.isdir(os.path.join("crates", crate)):
             fail(f"there is no crate {crate}")
-        for name in sorted(os.listdir(folder)) if os.path.isdir(folder) else []:
+        edits = sorted(os.listdir(folder)) if os.path.isdir(folder) else []
+        if one and one + ".edit" not in edits:
+            fail(f"{crate} has no edit {one}")
+        for name in [one + ".edit"] if one else edits:
             print(f"{crate}/{name}: {first_error(crate, os.path.join(folder, name))[:300]}", flush=True)
 
 
