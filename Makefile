@@ -1,6 +1,6 @@
 # The commands of README.md. Each is a script under scripts/, which says on one line what it lacks.
-# TRACE=file on the command line reaches the scripts through the environment.
-.PHONY: test replay explain
+# TRACE=file and OUT=file on the command line reach the scripts through the environment.
+.PHONY: test replay explain picture
 
 test:
 	@bash scripts/test.sh
@@ -10,3 +10,6 @@ replay:
 
 explain:
 	@bash scripts/explain.sh
+
+picture:
+	@bash scripts/picture.sh
