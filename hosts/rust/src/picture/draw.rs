@@ -495,7 +495,12 @@ impl Bus<'_> {
         }
         if gap.class() != "bar" {
             let path = format!("M{} {}V{}", column.x, row.top, self.rows.bottom);
-            self.svg.path("gap", &path);
+            let class = if gap.micros < 0 {
+                "gap gap-back"
+            } else {
+                "gap"
+            };
+            self.svg.path(class, &path);
         }
     }
 

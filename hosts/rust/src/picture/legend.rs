@@ -24,6 +24,7 @@ text{fill:#222}
 .long{fill:#e07b00}
 .back{fill:#d00000}
 .gap{stroke:#e07b00;stroke-dasharray:2 3;fill:none}
+.gap-back{stroke:#d00000}
 .block{stroke:#fff}
 .Offline{fill:#c4c4c4}
 .ListenToken{fill:#d3e9fb}
@@ -43,7 +44,7 @@ text{fill:#222}
 .request{color:#7a5230}
 .response{color:#00796b}
 .confirmation{color:#5c8a00}
-.unread .line,.refused .line{stroke-dasharray:4 3}
+.unread .line,.refused .line{stroke-dasharray:3 2}
 .refused{opacity:.55}
 .own-address{color:#d00000}
 .mark{fill:#d00000}
