@@ -116,7 +116,7 @@ c_host() {
 # trace: the proved program's, or, for a trace that it does not read whole, the proved library's.
 find_answers() {
     need cargo cargo
-    host_cargo build --bin "$1" || fail "the program $1 of hosts/rust does not build"
+    (unset AMSULFEZD_STATICLIB_DIR && host_cargo build --bin "$1") || fail "the program $1 of hosts/rust does not build"
     if [ "$size" -le "$largest" ]; then
         build_replay
         answers=$("${runner[@]}" target/bin/replay <"$trace") || fail "the program replay did not run"

@@ -444,7 +444,8 @@ fn is_readable(name: &str, picture: &Element) {
             place
         );
         for other in &places[..index] {
-            assert!(!place.overlaps(other), "{}: {:?} {:?}", name, place, other);
+            let apart = !place.overlaps(other);
+            assert!(apart, "{}: {} covers {}", name, place.words, other.words);
         }
     }
     for rectangle in picture.find(&|element| element.name == "rect") {
@@ -597,11 +598,27 @@ impl Long {
     }
 }
 
-/// The long trace with the answers that the proved library gave.
+/// The long trace with the answers that the proved library gave. Both are stored, so that make picture draws them too.
 fn long_replay() -> Replay {
-    let file = package().join("tests/pictures/long.answers");
-    let answers = std::fs::read_to_string(file).expect("the answers");
-    replay_of("long.trace", long_trace(), &answers)
+    let folder = package().join("tests/pictures");
+    let answers = std::fs::read_to_string(folder.join("long.answers")).expect("the answers");
+    let trace = std::fs::read(folder.join("long.trace")).expect("the trace");
+    replay_of("long.trace", trace, &answers)
+}
+
+/// After a change the wanted trace is left in the folder of temporary files, and the example `replay_file` prints its
+/// answers.
+#[test]
+fn the_long_trace_is_the_stored_one() {
+    let wanted = long_trace();
+    if long_replay().trace != wanted {
+        let file = std::env::temp_dir().join("long.trace");
+        std::fs::write(&file, wanted).expect("the file is written");
+        panic!(
+            "tests/pictures/long.trace is not the trace made here, which is now in {}",
+            file.display()
+        );
+    }
 }
 
 #[test]
@@ -761,18 +778,9 @@ fn no_room_is_marked() {
 #[cfg(linked)]
 #[test]
 fn the_long_traces_answers_are_the_proved_librarys() {
-    let trace = long_trace();
-    let (run, buffer) = amsulfezd_host::replay::replay_whole(&trace).expect("a run");
-    let words: Vec<u64> = amsulfezd_host::answer::answers(&buffer)
-        .map(|answer| answer.expect("an answer").to_word())
-        .collect();
-    let stored = std::fs::read_to_string(package().join("tests/pictures/long.answers"));
-    assert_eq!(to_text(&words, &run), stored.expect("the answers"));
-}
-
-#[test]
-fn dump_long() {
-    if let Ok(path) = std::env::var("DUMP_LONG") {
-        std::fs::write(path, long_trace()).unwrap();
-    }
+    let replay = long_replay();
+    let (run, buffer) = amsulfezd_host::replay::replay_whole(&replay.trace).expect("a run");
+    let answers = amsulfezd_host::run::from_buffer(&buffer, &run).expect("answers");
+    assert_eq!(run, replay.run);
+    assert_eq!(answers, replay.answers);
 }

@@ -21,7 +21,7 @@ pub fn draw(name: &str, explained: &Explanation, ending: Option<Refusal>) -> Str
         .collect();
     let columns = Columns::of(&arrows);
     let mut svg = Svg::default();
-    let mut bottom = draw_heading(&mut svg, name, explained, columns.width);
+    let mut bottom = draw_heading(&mut svg, name, explained, columns.text_width());
     if !explained.lines.is_empty() {
         let rows = Rows::of(own, bottom, &explained.lines, &arrows, &columns);
         let mut bus = Bus {
@@ -37,13 +37,13 @@ pub fn draw(name: &str, explained: &Explanation, ending: Option<Refusal>) -> Str
         if let Some(refusal) = ending {
             bus.draw_ending(refusal, &explained.ending);
         }
-        bottom = draw_legend(&mut svg, rows.bottom + 8, columns.width);
+        bottom = draw_legend(&mut svg, rows.bottom + 8, columns.text_width());
     }
     bottom = draw_text(
         &mut svg,
         "footer",
         bottom + 6,
-        columns.width,
+        columns.text_width(),
         &explained.ending,
     );
     whole(svg, name, columns.width, bottom + MARGIN)
@@ -83,7 +83,7 @@ fn draw_heading(svg: &mut Svg, name: &str, explained: &Explanation, width: Px) -
         bottom = draw_text(svg, "settings", bottom, width, &settings(header));
     }
     let accepted = || explained.lines.iter().filter_map(accepted_clock);
-    if let (Some(first), Some(last)) = (accepted().next(), accepted().last()) {
+    if let (Some(first), Some(last)) = (accepted().next(), accepted().next_back()) {
         let words = format!(
             "First poll at {}, last poll at {}",
             clock_words(first),
@@ -94,7 +94,7 @@ fn draw_heading(svg: &mut Svg, name: &str, explained: &Explanation, width: Px) -
     bottom + 10
 }
 
-/// A text in lines of the picture's width; gives where it ends.
+/// A text in lines of this width; gives where it ends.
 fn draw_text(svg: &mut Svg, class: &str, top: Px, width: Px, words: &str) -> Px {
     let mut bottom = top;
     for line in wrapped(words, HEADING, width - 2 * MARGIN) {
@@ -494,7 +494,8 @@ impl Bus<'_> {
             );
         }
         if gap.class() != "bar" {
-            let path = format!("M{} {}V{}", column.x, row.top, self.rows.bottom);
+            let top = row.top + SMALL + 5;
+            let path = format!("M{} {}V{}", column.x, top, self.rows.bottom);
             let class = if gap.micros < 0 {
                 "gap gap-back"
             } else {

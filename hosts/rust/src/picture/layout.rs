@@ -29,6 +29,8 @@ const ARROW: Px = 24;
 /// this far.
 const BETWEEN_GUTTERS: Px = 1000;
 const SCREEN: Px = 2200;
+/// The heading and the legend are not wider, so that they are seen at once.
+const WIDEST_TEXT: Px = 1500;
 /// The width of a gutter, which has room for three digits, and of the place of the ending's mark.
 pub const GUTTER: Px = 40;
 /// The distance of lanes: between these two, the less the more lanes there are.
@@ -134,6 +136,11 @@ impl Columns {
     /// Where the rows and lanes begin.
     pub fn start(&self) -> Px {
         LEFT
+    }
+
+    /// How wide the heading and the legend may be.
+    pub fn text_width(&self) -> Px {
+        self.width.min(WIDEST_TEXT)
     }
 
     /// Whether a horizontal text of so many small characters fits into every column.

@@ -120,7 +120,7 @@ const LINE: Px = 20;
 /// The width of a sample.
 const SAMPLE: Px = 22;
 
-/// Draws the legend from `top` on in lines of the picture's width, and gives where it ends.
+/// Draws the legend from `top` on in lines of this width, and gives where it ends.
 pub fn draw_legend(svg: &mut Svg, top: Px, width: Px) -> Px {
     svg.open("g", "legend", &[]);
     let (mut x, mut y) = (MARGIN, top);
