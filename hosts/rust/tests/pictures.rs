@@ -346,6 +346,7 @@ fn shows_the_run(replay: &Replay) -> Element {
             touched.extend([from, to]);
         }
         has_words(element, index + 1, line);
+        has_clock(element, &entry, answer);
     }
     let own = header.address.to_string();
     touched.retain(|name| *name != own);
@@ -419,6 +420,20 @@ fn has_words(entry: &Element, number: usize, line: &str) {
         for mark in entry.with_class(class) {
             assert!(mark.title().expect("words").contains(rest[2]));
         }
+    }
+}
+
+/// A clock that is written is the record's, faint if the record was refused.
+fn has_clock(drawn: &Element, entry: &Entry, answer: &Answer) {
+    for clock in drawn.with_class("clock") {
+        let written = clock.text.replace(',', "");
+        let record = match entry {
+            Entry::Poll(record) => record,
+            other => panic!("{:?} has no clock", other),
+        };
+        let wanted = Poll::clock_of(record).expect("a record with a clock");
+        assert_eq!(written, wanted.to_string());
+        assert_eq!(clock.has_class("faint"), answer.refusal.is_some());
     }
 }
 
@@ -670,6 +685,65 @@ fn ten_entries_have_every_label() {
         9
     );
     assert!(picture.number("width") <= 1400);
+}
+
+/// The time since the poll before: long gaps and a clock that goes back are marked, labels that have no room are left
+/// out, and a command or a refused record between two polls changes nothing.
+#[test]
+fn gaps_are_marked() {
+    let mut trace = TraceBuilder::new(Header::new(5, 6, 1));
+    let mut clock = 1000;
+    for entry in 1..=199 {
+        match entry {
+            50 | 51 => clock += 1_000_000,
+            100 => clock -= 3,
+            120 => clock += 12_000_000,
+            150 => clock += 9,
+            160 => clock += 10,
+            _ => clock += 1,
+        }
+        trace.poll(&Poll::at(clock)).expect("a poll");
+    }
+    trace.offline();
+    trace.record(&[0xff; 8]).expect("a record that fits");
+    trace.poll(&Poll::at(clock)).expect("a poll");
+    let answers = "0100000000000014\n".repeat(199)
+        + "0000000000000014\n6800000000000014\n0100000000000014\n202 0\n";
+    let picture = shows_the_run(&replay_of("gaps", trace.into_bytes(), &answers));
+    is_readable("gaps", &picture);
+    let entries = picture.with_class("entry");
+    let mut marks = Vec::new();
+    for (index, entry) in entries.iter().enumerate() {
+        for class in ["long", "back"] {
+            for bar in entry.find(&|part| part.name == "rect" && part.has_class(class)) {
+                let label = text_in(entry, class);
+                marks.push((index + 1, class, bar.number("height"), label));
+            }
+        }
+    }
+    assert_eq!(
+        marks,
+        [
+            (50, "long", 28, "+1,000 ms".to_string()),
+            (51, "long", 28, "".to_string()),
+            (100, "back", 4, "-3".to_string()),
+            (120, "long", 32, "+12 s".to_string()),
+            (160, "long", 8, "+10".to_string()),
+        ]
+    );
+    let bar = |entry: usize| entries[entry - 1].with_class("bar").len();
+    assert_eq!((bar(1), bar(2), bar(150)), (0, 1, 1));
+    assert_eq!((bar(200), bar(201), bar(202)), (0, 0, 1));
+    let lines = picture.with_class("gap").len();
+    assert_eq!(lines, 5, "a line through the lanes for each");
+}
+
+/// The text with this class, empty if there is none.
+fn text_in(element: &Element, class: &str) -> String {
+    let texts = element.find(&|part| part.name == "text" && part.has_class(class));
+    texts
+        .first()
+        .map_or(String::new(), |text| text.text.clone())
 }
 
 /// Every address at once, and eight telegrams in a poll: a lane for each, and room for each arrow.

@@ -440,7 +440,7 @@ impl Bus<'_> {
             .rectangle("column", column.x, top, column.width, bottom - top);
     }
 
-    /// An entry's number with its guide.
+    /// An entry's number.
     fn draw_number(&mut self, column: &Column, number: usize) {
         let x = column.middle();
         let base = self.rows.entry.base(SMALL);
@@ -590,7 +590,8 @@ impl Bus<'_> {
         } else {
             arrow_shape(self.svg, x, from, to);
         }
-        if slot >= 24 {
+        let needed = if from == to { 34 } else { 24 };
+        if slot >= needed {
             let (aside, y) = if from == to {
                 (10, from - 4)
             } else if from < to {

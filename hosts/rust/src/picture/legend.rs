@@ -16,7 +16,6 @@ text{fill:#222}
 .head,.tail{fill:currentColor}
 .lane{stroke:#c8c8c8;fill:none}
 .own-lane{stroke:#555;fill:none}
-.tenth{stroke:#e4e4e4;fill:none}
 .column{fill:#1b4fa8;fill-opacity:0}
 .column:hover{fill-opacity:.09}
 .busy{fill:#888;fill-opacity:.3}
