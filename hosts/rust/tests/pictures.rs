@@ -780,6 +780,17 @@ fn the_name_is_escaped() {
     assert_eq!(text_of(&picture, "name"), Some(wanted.to_string()));
 }
 
+/// A name that is longer than the picture is wide is cut, but whole in the picture's title.
+#[test]
+fn a_long_name_is_cut() {
+    let mut replay = stored_replay("example12");
+    replay.name = "n".repeat(255);
+    let picture = shows_the_run(&replay);
+    is_readable("long name", &picture);
+    assert_eq!(picture.title(), Some(&replay.name[..]));
+    assert!(text_of(&picture, "name").expect("a name").ends_with("n..."));
+}
+
 /// The checker of well-formed files finds each fault.
 #[test]
 fn the_checker_finds_faults() {

@@ -1,11 +1,15 @@
 //! The parts of the picture.
 
 use super::arrows::{arrows, Arrow, Place};
+use super::axis::{
+    accepted_clock, clock_words, entry_step, gaps, second_words, seconds, take, Gap,
+};
 use super::layout::{
     Column, Columns, Row, Rows, GUTTER, HEADING, LABEL, LONGEST_COMMAND, MARGIN, NAME, SMALL, TINY,
 };
 use super::legend::{draw_legend, STYLE};
-use super::svg::{text_width, wrapped, Anchor, Px, Svg};
+use super::shapes::{arrow_shape, loop_shape, notice_shape, pending_shape, refusal_shape};
+use super::svg::{shortened, text_width, wrapped, Anchor, Px, Svg};
 use crate::answer::{Notice, Outcome, Sent, State};
 use crate::explain::{settings, thousands, Explanation, Line};
 use crate::refusal::Refusal;
@@ -77,7 +81,8 @@ fn whole(drawn: Svg, name: &str, width: Px, height: Px) -> String {
 /// The trace's name, its settings and the times of its first and last poll; gives where they end.
 fn draw_heading(svg: &mut Svg, name: &str, explained: &Explanation, width: Px) -> Px {
     let top = MARGIN + NAME;
-    svg.text("name", MARGIN, top, NAME, Anchor::Start, name);
+    let short = shortened(name, NAME, width - 2 * MARGIN);
+    svg.text("name", MARGIN, top, NAME, Anchor::Start, &short);
     let mut bottom = top + 4;
     if let Some(header) = &explained.header {
         bottom = draw_text(svg, "settings", bottom, width, &settings(header));
@@ -104,43 +109,6 @@ fn draw_text(svg: &mut Svg, class: &str, top: Px, width: Px, words: &str) -> Px 
     bottom
 }
 
-/// The clock of a poll that was accepted.
-fn accepted_clock(line: &Line) -> Option<u64> {
-    line.clock.filter(|_| line.answer.refusal.is_none())
-}
-
-/// A clock as explain writes it, and in hours, minutes and seconds.
-fn clock_words(clock: u64) -> String {
-    format!(
-        "{} us ({}.{:06})",
-        thousands(clock),
-        second_words(clock / 1_000_000),
-        clock % 1_000_000
-    )
-}
-
-/// Seconds as hours, minutes and seconds.
-fn second_words(seconds: u64) -> String {
-    format!(
-        "{}:{:02}:{:02}",
-        seconds / 3600,
-        seconds / 60 % 60,
-        seconds % 60
-    )
-}
-
-/// For each entry the whole seconds of the clock of the last accepted poll up to it; none before the first.
-fn seconds(lines: &[Line]) -> Vec<Option<u64>> {
-    let mut last = None;
-    lines
-        .iter()
-        .map(|line| {
-            last = accepted_clock(line).or(last);
-            last.map(|clock| clock / 1_000_000)
-        })
-        .collect()
-}
-
 /// All that explain says of an entry.
 fn entry_words(number: usize, line: &Line) -> String {
     let clock = match line.clock {
@@ -155,158 +123,6 @@ fn entry_words(number: usize, line: &Line) -> String {
         line.state_words(),
         line.did
     )
-}
-
-/// The time between two polls.
-#[derive(Debug, Clone, Copy)]
-struct Gap {
-    /// Microseconds; below zero if the clock went back.
-    micros: i64,
-    /// At least ten times the median.
-    long: bool,
-}
-
-impl Gap {
-    /// The style of its bar and of its label.
-    fn class(&self) -> &'static str {
-        if self.micros < 0 {
-            "back"
-        } else if self.long {
-            "long"
-        } else {
-            "bar"
-        }
-    }
-
-    /// Its label: microseconds if they are few.
-    fn words(&self) -> String {
-        let micros = self.micros.unsigned_abs();
-        let size = match micros {
-            0..=99_999 => thousands(micros),
-            100_000..=9_999_999 => format!("{} ms", thousands(micros / 1000)),
-            10_000_000..=9_999_999_999 => format!("{} s", thousands(micros / 1_000_000)),
-            _ => format!("{} h", thousands(micros / 3_600_000_000)),
-        };
-        format!("{}{}", if self.micros < 0 { "-" } else { "+" }, size)
-    }
-
-    /// The height of its bar: four pixels for each digit up to the eighth.
-    fn height(&self) -> Px {
-        match self.micros.unsigned_abs() {
-            0 => 0,
-            micros => 4 * micros.to_string().len().min(8) as Px,
-        }
-    }
-}
-
-/// For each entry the time since the last accepted poll before it. A refused record changes nothing and is passed over.
-fn gaps(lines: &[Line]) -> Vec<Option<Gap>> {
-    let mut before = None;
-    let mut all = Vec::new();
-    for line in lines {
-        let clock = accepted_clock(line);
-        let gap = match (before, clock) {
-            (Some(before), Some(clock)) => Some(clock as i64 - before as i64),
-            _ => None,
-        };
-        all.push(gap);
-        before = clock.or(before);
-    }
-    let mut forward: Vec<i64> = all.iter().flatten().copied().filter(|&g| g > 0).collect();
-    forward.sort_unstable();
-    let median = forward.get(forward.len().saturating_sub(1) / 2).copied();
-    all.into_iter()
-        .map(|gap| {
-            gap.map(|micros| Gap {
-                micros,
-                long: median.map_or(false, |median| micros >= 10 * median),
-            })
-        })
-        .collect()
-}
-
-/// A label that has its place: from where to where.
-type Taken = (Px, Px);
-
-/// Takes the place of a text around `x` if no text is there yet.
-fn take(taken: &mut Vec<Taken>, x: Px, words: &str) -> bool {
-    let half = text_width(words.chars().count(), SMALL) / 2 + 2;
-    let (from, to) = (x - half, x + half);
-    let free = taken.iter().all(|&(start, end)| to <= start || end <= from);
-    if free {
-        taken.push((from, to));
-    }
-    free
-}
-
-/// The step between labelled entries, so that their numbers have room in columns of this width.
-fn entry_step(count: usize, base: Px) -> usize {
-    let needed = text_width(count.to_string().len(), SMALL) + 6;
-    let steps = [1, 2, 5, 10, 20, 50, 100];
-    let fitting = steps.iter().find(|&&step| step as Px * base >= needed);
-    *fitting.unwrap_or(&200)
-}
-
-/// The line of an arrow straight from one lane to another, with its tail and its head.
-pub fn arrow_shape(svg: &mut Svg, x: Px, from: Px, to: Px) {
-    let down = if from < to { 1 } else { -1 };
-    let neck = to - 6 * down;
-    svg.path("line", &format!("M{} {}V{}", x, from, neck));
-    svg.path(
-        "tail",
-        &format!("M{} {}h4v{}h-4z", x - 2, from - 2 * down, 4 * down),
-    );
-    head_shape(svg, x, to, down);
-}
-
-/// An arrow's head at a point, downwards or upwards.
-fn head_shape(svg: &mut Svg, x: Px, y: Px, down: Px) {
-    let path = format!("M{} {}l-4 {}h8z", x, y, -7 * down);
-    svg.path("head", &path);
-}
-
-/// An arrow from a lane to itself.
-fn loop_shape(svg: &mut Svg, x: Px, y: Px, width: Px, height: Px) {
-    let path = format!(
-        "M{} {}C{} {} {} {} {} {}",
-        x - 2,
-        y,
-        x - width,
-        y - height,
-        x + width,
-        y - height,
-        x + 1,
-        y - 5
-    );
-    svg.path("line", &path);
-    head_shape(svg, x + 1, y, 1);
-}
-
-/// The sign of a notice around a point: a tick for a reply, a cross for a timeout.
-pub fn notice_shape(svg: &mut Svg, reply: bool, x: Px, y: Px) {
-    let path = if reply {
-        format!("M{} {}l3 4l4 -8", x - 3, y)
-    } else {
-        format!("M{} {}l6 7m0 -7l-6 7", x - 3, y - 3)
-    };
-    svg.path("line", &path);
-}
-
-/// The mark of a refusal around a point, with its number; turned where the column is narrow.
-pub fn refusal_shape(svg: &mut Svg, x: Px, y: Px, number: &str, width: Px) {
-    let across = text_width(number.len(), TINY);
-    if across + 4 <= width {
-        svg.rectangle("mark", x - across / 2 - 2, y - 7, across + 4, 14);
-        svg.text("number", x, y + 3, TINY, Anchor::Middle, number);
-    } else {
-        svg.rectangle("mark", x - 4, y - 7, 8, 14);
-        svg.text("number", x + 3, y + across / 2, TINY, Anchor::Up, number);
-    }
-}
-
-/// The sign of bytes that are no telegram yet, around a point.
-pub fn pending_shape(svg: &mut Svg, x: Px, y: Px) {
-    svg.path("pending", &format!("M{} {}l3 3l3 -3l-3 -3z", x - 3, y));
 }
 
 /// The part of the picture that has columns.

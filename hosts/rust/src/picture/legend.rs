@@ -1,8 +1,8 @@
 //! The styles, and the legend that shows them.
 
 use super::arrows::{Kind, KINDS};
-use super::draw::{arrow_shape, notice_shape, pending_shape, refusal_shape};
 use super::layout::{LABEL, MARGIN};
+use super::shapes::{arrow_shape, notice_shape, pending_shape, refusal_shape};
 use super::svg::{text_width, Anchor, Px, Svg};
 use crate::answer::State;
 

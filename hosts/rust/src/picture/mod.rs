@@ -10,15 +10,19 @@
 //! | `svg` | elements and text of an SVG file, escaped |
 //! | `arrows` | the telegrams of an entry as arrows between places on the bus |
 //! | `layout` | where each column, row and lane stands |
+//! | `axis` | clocks, the gaps between polls, and which labels have room |
+//! | `shapes` | arrows and marks |
 //! | `draw` | the parts of the picture |
 //! | `legend` | the styles, and the legend that shows them |
 //!
 //! Nothing is worked out anew: a picture is made from the trace and the answers that the proved program or library gave.
 
 mod arrows;
+mod axis;
 mod draw;
 mod layout;
 mod legend;
+mod shapes;
 mod svg;
 
 use crate::explain::{Explanation, NotThisTrace};

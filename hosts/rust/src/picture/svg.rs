@@ -1,7 +1,7 @@
 //! Elements and text of an SVG file.
 
 /// Lengths and places, in pixels.
-pub type Px = i32;
+pub type Px = i64;
 
 /// Writes elements one after the other.
 #[derive(Default)]
@@ -147,6 +147,18 @@ pub fn text_width(characters: usize, size: Px) -> Px {
     (characters as Px * size * 602 + 999) / 1000
 }
 
+/// A text that is not wider than this: what is too long is cut and ends with three dots.
+pub fn shortened(text: &str, size: Px, width: Px) -> String {
+    if text_width(text.chars().count(), size) <= width {
+        return text.to_string();
+    }
+    let mut short = text.to_string();
+    while !short.is_empty() && text_width(short.chars().count() + 3, size) > width {
+        short.pop();
+    }
+    short + "..."
+}
+
 /// A text in lines of at most this width, broken between words.
 pub fn wrapped(text: &str, size: Px, width: Px) -> Vec<String> {
     let mut lines: Vec<String> = Vec::new();
@@ -174,6 +186,13 @@ mod tests {
             escaped("a<b> & \"c\"\u{1}\u{ffff}→"),
             "a&lt;b&gt; &amp; &quot;c&quot;\u{fffd}\u{fffd}→"
         );
+    }
+
+    #[test]
+    fn a_long_text_is_cut() {
+        let width = text_width(8, 10);
+        assert_eq!(shortened("12345678", 10, width), "12345678");
+        assert_eq!(shortened("123456789", 10, width), "12345...");
     }
 
     #[test]
