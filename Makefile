@@ -1,6 +1,6 @@
 # The commands of README.md. Each is a script under scripts/, which says on one line what it lacks.
-# TRACE=file, SEED=n and COUNT=m on the command line reach the scripts through the environment.
-.PHONY: test replay explain compare speed figures
+# TRACE=file, OUT=file, SEED=n and COUNT=m on the command line reach the scripts through the environment.
+.PHONY: test replay explain picture compare speed figures
 
 test:
 	@bash scripts/test.sh
@@ -10,6 +10,9 @@ replay:
 
 explain:
 	@bash scripts/explain.sh
+
+picture:
+	@bash scripts/picture.sh
 
 # m generated traces of seed n through the proved trace call and the published Rust: make compare SEED=n COUNT=m
 compare:

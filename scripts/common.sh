@@ -128,4 +128,32 @@ need_library() {
     fi
     build_staticlib
     export AMSULFEZD_STATICLIB_DIR=$PWD/target/staticlib
+
+# find_answers PROGRAM: builds the program of hosts/rust that is to read them, and sets `answers` to the answers to the
+# trace: the proved program's, or, for a trace that it does not read whole, the proved library's.
+find_answers() {
+    need cargo cargo
+    (unset AMSULFEZD_STATICLIB_DIR && host_cargo build --bin "$1") || fail "the program $1 of hosts/rust does not build"
+    if [ "$size" -le "$largest" ]; then
+        build_replay
+        answers=$("${runner[@]}" target/bin/replay <"$trace") || fail "the program replay did not run"
+    else
+        need_rt
+        find_runner
+        answers=$(answers_of_library) || exit 1
+    fi
+}
+
+# Prints the answers to a trace that the program replay does not read whole.
+answers_of_library() {
+    build_staticlib
+    if [ "$machine" = x86_64 ]; then
+        AMSULFEZD_STATICLIB_DIR=$PWD/target/staticlib host_cargo build --example replay_file ||
+            fail "the Rust host does not build"
+        target/hosts-linked/release/examples/replay_file "$trace"
+    else
+        need_c_compiler
+        c_host target/hosts/c/replay_file hosts/c/replay_file.c
+        "${emulator[@]}" target/hosts/c/replay_file "$trace"
+    fi
 }

@@ -51,6 +51,35 @@ test_rust() {
     echo "Rust host: $(awk '/^test result: ok/ { n += $4 } END { print n + 0 }' <<<"$said") tests hold, $1"
 }
 
+# picture TRACE OUT: what make picture prints.
+picture() {
+    TRACE=$1 OUT=$2 bash scripts/picture.sh 2>&1
+}
+
+# make picture draws each stored picture anew, byte for byte, from the proved program's answers, and 500 entries from the
+# proved library's; a trace that is not there is said on one line; no other file is left.
+test_pictures() {
+    local folder=target/hosts/pictures stored name out said count=0
+    rm -rf "$folder" && mkdir -p "$folder" || fail "$folder could not be made"
+    for stored in hosts/rust/tests/pictures/*.svg; do
+        name=$(basename "$stored" .svg)
+        out=$folder/$name.svg
+        said=$(picture "traces/$name.trace" "$out") && [ "$said" = "$out" ] ||
+            fail "make picture TRACE=traces/$name.trace says: $said"
+        cmp "$stored" "$out" || fail "make picture draws traces/$name.trace otherwise than it is stored"
+        count=$((count + 1))
+    done
+    out=$folder/long.svg
+    said=$(picture hosts/rust/tests/pictures/long.trace "$out") && [ "$said" = "$out" ] ||
+        fail "make picture does not draw the long trace: $said"
+    [ "$(grep -c '<g class="entry"' "$out")" -eq 500 ] || fail "the picture of the long trace does not have 500 entries"
+    said=$(picture "$folder/nosuch.trace" "$folder/nosuch.svg") && fail "make picture draws a trace that is not there"
+    [ "$said" = "make picture: there is no file $folder/nosuch.trace" ] || fail "make picture of no trace says: $said"
+    said=$(picture traces/night.trace "$folder/nosuch/night.svg") && fail "make picture draws into no folder"
+    [ "$(find "$folder" -type f | wc -l)" -eq $((count + 1)) ] || fail "make picture left other files in $folder"
+    echo "Pictures: $count drawn as they are stored, and one of 500 entries"
+}
+
 find_runner
 need cargo cargo
 need_c_compiler
@@ -69,3 +98,5 @@ else
     test_rust "without the library"
     echo "hosts: not run on this machine ($machine): the Rust host's calls of the proved library, which is for x86-64"
 fi
+
+test_pictures

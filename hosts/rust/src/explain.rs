@@ -10,17 +10,83 @@ use std::fmt;
 
 /// Explains a run: the settings, a line for each entry, and how it ended.
 pub fn explain(trace: &[u8], answers: &[Answer], run: &Run) -> Result<String, NotThisTrace> {
-    let header = Header::from_bytes(trace);
-    let mut text = match &header {
+    let explained = Explanation::of(trace, answers, run)?;
+    let settings = match &explained.header {
         Some(header) => format!("{}\n\n", settings(header)),
         None => String::new(),
     };
-    if let Some(header) = header {
-        text.push_str(&table(&rows(trace, &header, answers)?));
+    Ok(format!(
+        "{}{}{}\n",
+        settings,
+        table(&explained.lines),
+        explained.ending
+    ))
+}
+
+/// A run in words.
+#[derive(Debug, Clone)]
+pub struct Explanation<'a> {
+    /// None if the trace ends inside it.
+    pub header: Option<Header>,
+    /// For each entry that was answered.
+    pub lines: Vec<Line<'a>>,
+    /// How the run ended.
+    pub ending: String,
+}
+
+impl<'a> Explanation<'a> {
+    /// The words for a trace and its answers.
+    pub fn of(
+        trace: &'a [u8],
+        answers: &[Answer],
+        run: &Run,
+    ) -> Result<Explanation<'a>, NotThisTrace> {
+        let header = Header::from_bytes(trace);
+        let lines = match &header {
+            Some(header) => lines(trace, header, answers)?,
+            None => Vec::new(),
+        };
+        check_ending(trace, answers, run)?;
+        Ok(Explanation {
+            header,
+            lines,
+            ending: ending(run, trace),
+        })
     }
-    check_ending(trace, answers, run)?;
-    text.push_str(&ending(run, trace));
-    Ok(text)
+}
+
+/// An entry with its answer, and the words for both.
+#[derive(Debug, Clone)]
+pub struct Line<'a> {
+    pub entry: Entry<'a>,
+    /// What a poll record says, if it has a poll record's length. A refused record's is not what the station took in.
+    pub poll: Option<Poll>,
+    /// The state before the entry.
+    pub before: State,
+    pub answer: Answer,
+    /// The clock of a poll record, refused or not.
+    pub clock: Option<u64>,
+    /// What came: a command, or what the port reported.
+    pub came: String,
+    /// What the station did, and why.
+    pub did: String,
+}
+
+impl Line<'_> {
+    /// The clock in words; nothing where there is none.
+    pub fn clock_words(&self) -> String {
+        self.clock
+            .map_or(String::new(), |clock| format!("{} us", thousands(clock)))
+    }
+
+    /// The state, or the two states between which the entry led.
+    pub fn state_words(&self) -> String {
+        if self.before == self.answer.state {
+            format!("{:?}", self.answer.state)
+        } else {
+            format!("{:?} → {:?}", self.before, self.answer.state)
+        }
+    }
 }
 
 /// The answers given are not those of the trace given.
@@ -86,14 +152,6 @@ fn counted(count: usize, what: &str) -> String {
     format!("{} {}{}", count, what, plural)
 }
 
-/// The parts of a line.
-struct Row {
-    clock: String,
-    came: String,
-    state: String,
-    did: String,
-}
-
 /// What was known before an entry.
 struct Before {
     state: State,
@@ -101,94 +159,102 @@ struct Before {
     next_station: u8,
 }
 
-/// A row for each answer.
-fn rows(trace: &[u8], header: &Header, answers: &[Answer]) -> Result<Vec<Row>, NotThisTrace> {
+/// A line for each answer.
+fn lines<'a>(
+    trace: &'a [u8],
+    header: &Header,
+    answers: &[Answer],
+) -> Result<Vec<Line<'a>>, NotThisTrace> {
     let mut before = Before {
         state: State::Offline,
         next_application: 0,
         next_station: header.address,
     };
-    let mut rows = Vec::new();
+    let mut lines = Vec::new();
     for (entry, answer) in entries(trace).zip(answers) {
-        let row = row(&entry, header, &before, answer)
-            .ok_or_else(|| NotThisTrace(format!("entry {} has another form", rows.len() + 1)))?;
-        rows.push(row);
+        let line = line(entry, header, &before, answer)
+            .ok_or_else(|| NotThisTrace(format!("entry {} has another form", lines.len() + 1)))?;
+        lines.push(line);
         before = Before {
             state: answer.state,
             next_application: answer.next_application,
             next_station: answer.next_station,
         };
     }
-    Ok(rows)
+    Ok(lines)
 }
 
-/// The row of one entry; none if the answer cannot be this entry's.
-fn row(entry: &Entry, header: &Header, before: &Before, answer: &Answer) -> Option<Row> {
-    let (clock, came, did) = match *entry {
+/// The line of one entry; none if the answer cannot be this entry's.
+fn line<'a>(
+    entry: Entry<'a>,
+    header: &Header,
+    before: &Before,
+    answer: &Answer,
+) -> Option<Line<'a>> {
+    let record = match entry {
+        Entry::Poll(record) => record,
+        _ => &[],
+    };
+    let poll = Poll::from_bytes(record, usize::from(header.applications));
+    let (came, did) = match entry {
         Entry::Cut(_) => return None,
-        Entry::Online => (None, "command: online".to_string(), online(answer)),
+        Entry::Online => ("command: online".to_string(), online(answer)),
         Entry::Offline => (
-            None,
             "command: offline".to_string(),
             "is offline: a fresh station".to_string(),
         ),
-        Entry::Passive => (
-            None,
-            "command: passive".to_string(),
-            refused(answer.refusal?),
-        ),
-        Entry::Poll(record) => match answer.refusal {
+        Entry::Passive => ("command: passive".to_string(), refused(answer.refusal?)),
+        Entry::Poll(_) => match answer.refusal {
             Some(refusal) => (
-                Poll::clock_of(record),
                 format!("record of {}", counted(record.len(), "byte")),
                 refused(refusal),
             ),
             None => {
-                let poll = Poll::from_bytes(record, usize::from(header.applications))?;
-                let did = did(header.address, before, &poll, answer);
-                (Some(poll.clock), came(&poll), did)
+                let poll = poll.as_ref()?;
+                (came(poll), did(header.address, before, poll, answer))
             }
         },
     };
-    Some(Row {
-        clock: clock.map_or(String::new(), |clock| format!("{} us", thousands(clock))),
+    Some(Line {
+        entry,
+        poll,
+        before: before.state,
+        answer: *answer,
+        clock: Poll::clock_of(record),
         came,
-        state: if before.state == answer.state {
-            format!("{:?}", answer.state)
-        } else {
-            format!("{:?} → {:?}", before.state, answer.state)
-        },
         did: did + &changes(before, answer),
     })
 }
 
-/// Rows as lines with columns.
-fn table(rows: &[Row]) -> String {
+/// The lines with their parts in columns.
+fn table(lines: &[Line]) -> String {
     /// A longer text than this is not waited for.
     const WIDEST: usize = 52;
-    let width = |of: fn(&Row) -> &String| {
-        let lengths = rows.iter().map(|row| of(row).chars().count());
+    let width = |of: fn(&Line) -> String| {
+        let lengths = lines.iter().map(|line| of(line).chars().count());
         lengths
             .filter(|&length| length <= WIDEST)
             .max()
             .unwrap_or(0)
     };
-    let (clock, came, state) = (width(|r| &r.clock), width(|r| &r.came), width(|r| &r.state));
+    let clock = width(|line| line.clock_words());
+    let came = width(|line| line.came.clone());
+    let state = width(|line| line.state_words());
     let mut text = String::new();
-    for (index, row) in rows.iter().enumerate() {
+    for (index, line) in lines.iter().enumerate() {
         text.push_str(&format!(
             "{:4}  {:>clock$}  {:came$}  {:state$}  {}\n",
             index + 1,
-            row.clock,
-            row.came,
-            row.state,
-            row.did,
+            line.clock_words(),
+            line.came,
+            line.state_words(),
+            line.did,
             clock = clock,
             came = came,
             state = state
         ));
     }
-    if !rows.is_empty() {
+    if !lines.is_empty() {
         text.push('\n');
     }
     text
@@ -196,7 +262,7 @@ fn table(rows: &[Row]) -> String {
 
 /// What the port reported.
 fn came(poll: &Poll) -> String {
-    let mut parts: Vec<String> = poll.telegrams.iter().map(telegram).collect();
+    let mut parts: Vec<String> = poll.telegrams.iter().map(telegram_words).collect();
     if poll.pending != 0 {
         parts.push(format!(
             "{} pending",
@@ -213,7 +279,7 @@ fn came(poll: &Poll) -> String {
 }
 
 /// A telegram in words.
-fn telegram(telegram: &Telegram) -> String {
+pub fn telegram_words(telegram: &Telegram) -> String {
     match *telegram {
         Telegram::Token {
             source,
@@ -310,10 +376,8 @@ fn did(own: u8, before: &Before, poll: &Poll, answer: &Answer) -> String {
             reply_from,
             length,
         } => format!(
-            "sent application {}'s telegram ({}{}); {}",
-            application,
-            counted(usize::from(length), "byte"),
-            if high { ", high priority" } else { "" },
+            "sent {}; {}",
+            application_words(application, high, length),
             if answer.state == State::AwaitDataResponse {
                 format!("waits for the reply of {}", reply_from)
             } else {
@@ -326,6 +390,16 @@ fn did(own: u8, before: &Before, poll: &Poll, answer: &Answer) -> String {
         text.push_str(&format!("; {} not looked at", counted(unread, "telegram")));
     }
     text
+}
+
+/// An application's telegram in words.
+pub fn application_words(application: u8, high: bool, length: u8) -> String {
+    format!(
+        "application {}'s telegram ({}{})",
+        application,
+        counted(usize::from(length), "byte"),
+        if high { ", high priority" } else { "" }
+    )
 }
 
 /// Why and to whom the token was sent.
@@ -523,27 +597,27 @@ fn ending(run: &Run, trace: &[u8]) -> String {
     let number = run.ending_number();
     match run.ending {
         None => format!(
-            "The trace was read to its end; entries answered: {}. Ending number {}.\n",
+            "The trace was read to its end; entries answered: {}. Ending number {}.",
             run.entries, number
         ),
         Some(Refusal::Cut) if Header::from_bytes(trace).is_none() => format!(
-            "The trace ends inside its header: nothing is answered. Ending number {}.\n",
+            "The trace ends inside its header: nothing is answered. Ending number {}.",
             number
         ),
         Some(Refusal::Cut) => format!(
-            "The trace ends inside entry {}, which gets no answer; answers before it, which stand: {}. Ending number {}.\n",
+            "The trace ends inside entry {}, which gets no answer; answers before it, which stand: {}. Ending number {}.",
             run.entries + 1,
             run.entries,
             number
         ),
         Some(Refusal::NoRoom) => format!(
-            "There was no room for the answer to entry {}; answers before it, which stand: {}. Ending number {}.\n",
+            "There was no room for the answer to entry {}; answers before it, which stand: {}. Ending number {}.",
             run.entries + 1,
             run.entries,
             number
         ),
         Some(refusal) => format!(
-            "The header is refused with {}{}; no entry is looked at. Ending number {}.\n",
+            "The header is refused with {}{}; no entry is looked at. Ending number {}.",
             refusal,
             refusal.rule().map_or(String::new(), |rule| format!(": {}", rule)),
             number

@@ -9,6 +9,8 @@
 //! | [`run`] | what the call returns, and the text that the program `replay` prints |
 //! | [`replay`] | the call itself, safe; only where the static library is linked |
 //! | [`explain`] | one line in words for each entry |
+//! | [`picture`] | a trace and its answers as a picture |
+//! | [`from_replay`] | the programs that read a trace and its answers and print a text |
 //!
 //! Nothing here knows what a station does. Records are written and read, answers are read, and every answer comes
 //! from the proved program or library.
@@ -19,6 +21,8 @@
 pub mod answer;
 mod bits;
 pub mod explain;
+pub mod from_replay;
+pub mod picture;
 pub mod record;
 pub mod refusal;
 #[cfg(linked)]

@@ -1,34 +1,20 @@
 //! The explanations: stored outputs, which were checked by reading, and answers that are not the trace's.
 
+mod common;
+
 use amsulfezd_host::explain::explain as explained;
 use amsulfezd_host::record::{Poll, Telegram};
 use amsulfezd_host::run::from_text;
 use amsulfezd_host::trace::{Header, TraceBuilder};
-use std::io::Write;
-use std::path::{Path, PathBuf};
-use std::process::{Command, Output, Stdio};
+use common::{fails_with, package, printed, refuses_bad_input, run, trace};
+use std::path::Path;
+use std::process::Output;
 
-fn package() -> PathBuf {
-    PathBuf::from(env!("CARGO_MANIFEST_DIR"))
-}
-
-fn trace(name: &str) -> PathBuf {
-    package().join("../../traces").join(name)
-}
+const PROGRAM: &str = env!("CARGO_BIN_EXE_explain");
 
 /// Runs the program on a trace with this text as its answers.
 fn explain(trace: &Path, answers: &[u8]) -> Output {
-    let mut program = Command::new(env!("CARGO_BIN_EXE_explain"))
-        .arg(trace)
-        .stdin(Stdio::piped())
-        .stdout(Stdio::piped())
-        .stderr(Stdio::piped())
-        .spawn()
-        .expect("explain starts");
-    let mut input = program.stdin.take().expect("its input");
-    input.write_all(answers).expect("its input is taken");
-    drop(input);
-    program.wait_with_output().expect("explain ends")
+    run(PROGRAM, trace, answers)
 }
 
 /// Each stored output is what explain prints of the trace of that name and its expected answers.
@@ -50,50 +36,31 @@ fn stored_outputs() {
         "headers/17-cut",
         "headers/accepted-limits",
     ] {
-        let answers = std::fs::read(trace(&format!("{}.answers", name))).expect("the answers");
-        let output = explain(&trace(&format!("{}.trace", name)), &answers);
-        assert!(output.status.success(), "{}", name);
         let stored = package()
             .join("tests/explained")
             .join(format!("{}.txt", name.replace('/', "-")));
         let expected = std::fs::read_to_string(&stored).expect("the stored output");
-        let printed = String::from_utf8(output.stdout).expect("text");
-        assert_eq!(printed, expected, "{}", name);
+        assert_eq!(printed(PROGRAM, name), expected, "{}", name);
         count += 1;
     }
     let stored = std::fs::read_dir(package().join("tests/explained")).expect("the folder");
     assert_eq!(stored.count(), count, "every stored output is compared");
 }
 
-/// One line, and a status that says that it failed.
-fn fails_with(output: &Output, words: &str) {
-    let said = String::from_utf8_lossy(&output.stderr).to_string();
-    assert!(!output.status.success(), "{}", said);
-    assert!(output.stdout.is_empty(), "nothing is explained");
-    assert_eq!(said.lines().count(), 1, "{}", said);
-    assert!(
-        said.starts_with("explain: ") && said.contains(words),
-        "{}",
-        said
-    );
-}
-
 #[test]
 fn answers_of_another_trace_are_found() {
-    let of_night = std::fs::read(trace("night.answers")).expect("the answers");
     fails_with(
-        &explain(&trace("example12.trace"), &of_night),
-        "not this trace's: entries answered: 36",
-    );
-    fails_with(
+        "explain",
         &explain(&trace("cut-entry.trace"), b"0 0\n"),
         "one cut short: yes",
     );
     fails_with(
+        "explain",
         &explain(&trace("headers/17-cut.trace"), b"0 0\n"),
         "not this trace's",
     );
     fails_with(
+        "explain",
         &explain(
             &trace("refused-entries.trace"),
             b"0000000000000014\n0310000000000014\n2 18\n",
@@ -133,15 +100,5 @@ fn no_room_is_explained() {
 
 #[test]
 fn bad_input_is_one_line() {
-    fails_with(&explain(&trace("nosuch.trace"), b""), "nosuch.trace");
-    fails_with(&explain(&trace("example12.trace"), b""), "no line");
-    fails_with(
-        &explain(&trace("example12.trace"), b"hello\n1 0\n"),
-        "16 hexadecimal digits",
-    );
-    let usage = Command::new(env!("CARGO_BIN_EXE_explain"))
-        .stdin(Stdio::null())
-        .output()
-        .expect("explain runs");
-    fails_with(&usage, "usage: explain TRACE");
+    refuses_bad_input("explain", PROGRAM);
 }
