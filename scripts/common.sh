@@ -128,6 +128,7 @@ need_library() {
     fi
     build_staticlib
     export AMSULFEZD_STATICLIB_DIR=$PWD/target/staticlib
+}
 
 # find_answers PROGRAM: builds the program of hosts/rust that is to read them, and sets `answers` to the answers to the
 # trace: the proved program's, or, for a trace that it does not read whole, the proved library's.
