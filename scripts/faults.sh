@@ -52,7 +52,7 @@ expect "replay on 4,096 bytes, 4,080 of them online" "$({ printf "$header" && he
 expect "replay on 4,097 bytes, the last one ignored" "$({ printf "$header" && head -c 4081 /dev/zero; } | replay)" "4080 0"
 expect "replay on 4,110 bytes, cut inside a poll record" \
     "$({ printf "$header" && head -c 4079 /dev/zero && printf '\x0e' && head -c 14 /dev/zero; } | replay)" "4079 17"
-replay <traces/example12.trace >&-
-echo "faults: replay with its output closed ends with status $?"
+said=$(replay 2>&1 <traces/example12.trace >&-)
+expect "replay with its output closed" "$said" "replay: the answers could not all be written"
 replay <traces/example12.trace | head -n 1 >/dev/null
 echo "faults: replay whose reader goes away ends with status ${PIPESTATUS[0]}"

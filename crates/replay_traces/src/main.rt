@@ -15,7 +15,9 @@ fn replay_file(name: &[u8]) {
     libc::close(fd);
     io::write_all(STDOUT_FILENO, name);
     io::write_all(STDOUT_FILENO, b"\n");
-    replay_print::replay(&bytes[..n]);
+    if !replay_print::replay(&bytes[..n]) {
+        os::fail(b"the answers could not all be written");
+    }
 }
 
 // Replays the file that an argument names.
