@@ -42,7 +42,7 @@ use Rattle.silence.specs.Times.{Slotted, slotted, counted-free, counted-
 use Rattle.silence.specs.Phases.{Phase, starting, checking, holding, next, todo, Under, todo-next, tokens-length}
 use Rattle.silence.specs.OnePoll.{At, Turn, sends, stays, quietStep, not-counted, not-counted-busy}
 use Rattle.silence.specs.Theorem.{stationOf, clockOf, poll-is, poll-at, turn-at, counted-on, one-less, held-place, started, silence}
-use Rattle.silence.specs.Letter.{polls, sentIn, wanted, askedSent, Asks, fourTokens, LetterTheorem}
+use Rattle.silence.specs.Letter.{polls, sentIn, wanted, askedSent, inHoldTime, Asks, fourTokens, LetterTheorem}
 
 -- a step that sends this, leaves this end of hold, and passes the token on if it sends nothing
 record Sends (out : Sent) (end : HoldEnd) (x : Step) : Type 0 where
@@ -201,11 +201,12 @@ asks-now : (p : Parameters) (n : ℕ) (c : Core) (r : Ring) (bytes : List ℕ) (
 unfolding polledOf answerOf
 asks-now p n c r bytes x s is g =
     let sent = ap (λ (y : Polled). y .answer .sent) is in
+    let in-hold : inHoldTime (stationOf p n c r) bytes ≡ holdsOf (clockOf bytes) (x .step .core .«end_token_hold_time») = ap (λ (y : Polled). holdsOf (clockOf bytes) (y .station .core .«end_token_hold_time»)) is in
     record {
       since = s .1 .since;
       holds = s .1 .held;
       high = g .high;
-      when = ap (λ (y : Polled). holdsOf (clockOf bytes) (y .station .core .«end_token_hold_time»)) is ∙ g .when;
+      when = in-hold ∙ g .when;
       asks = sent ∙ g .asks;
       on = λ e. ap (λ (y : Polled). stateNumber (y .station .core .state)) is ∙ g .on (sym sent ∙ e);
     }

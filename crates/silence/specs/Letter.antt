@@ -47,8 +47,8 @@ askedSent bytes n turn high =
     let asked = askedOf bytes n turn application.None high in
     cond (asked .sends) (wanted (decisionAt bytes n (asked .application) high) (asked .application) high) Nothing
 
--- The poll comes within the hold time. do_use_token sets the end of hold for a new token before it looks at it, so it is the end that
--- the station has after the poll.
+-- The poll comes within the hold time. do_use_token first sets the end of hold, if the token's time is not that of the last token, and
+-- then looks at it; so it is the end that the station has after the poll.
 abbrev pub inHoldTime : Station → List ℕ → Bool
 inHoldTime s bytes = holdsOf (record { 0 = headOf bytes .clock }) (pollOf s bytes .station .core .«end_token_hold_time»)
 
