@@ -1,6 +1,6 @@
 -- The proof of the letter's case: a station that holds a new token asks its applications by the next counted poll.
 use Prim.Native.Nat.{ℕ, zero, suc, _+_, _<_, _≤_}
-use mathlib.Core.Bool.{Bool, true, false, cond}
+use mathlib.Core.Bool.{Bool, true, false, cond, not}
 use mathlib.Core.Path.{_≡_, refl, sym, ap, subst, _∙_}
 use mathlib.Core.List.{List, [], _∷_, _++_, append-nil}
 use lib.ListN.{length}
@@ -18,20 +18,21 @@ use Rattle.telegrams.specs.declared.Decision.{Decision}
 use Rattle.telegrams.specs.declared.Decision.the-variants as decision
 use Rattle.records.specs.Records.{headOf, decisionAt}
 use Rattle.answers.specs.declared.Sent.{Sent}
-use Rattle.answers.specs.declared.Sent.the-variants.{Nothing}
+use Rattle.answers.specs.declared.Sent.the-variants.{Nothing, Application}
 use Rattle.answers.specs.declared.Outcome.the-variants as outcome
 use Rattle.station.specs.declared.Activity.{Activity}
 use Rattle.station.specs.declared.Activity.the-variants as activity
 use Rattle.station.specs.declared.UseTokenData.{UseTokenData}
 use Rattle.station.specs.declared.State.{State}
 use Rattle.station.specs.declared.State.the-variants.{UseToken}
+use Rattle.station.specs.declared.HoldEnd.{HoldEnd}
 use Rattle.station.specs.declared.Core.{Core}
 use Rattle.station.specs.declared.Station.{Station}
 use Rattle.station.specs.declared.Step.{Step}
 use Rattle.station.specs.declared.Waited.{Waited}
 use Rattle.station.specs.declared.RingStep.{RingStep}
-use Rattle.station.specs.Parts.{withState, withActivity, withTokenTimes, withNextApplication}
-use Rattle.station.specs.Steps.{withTokenTime, markedAt, busyOf, pauseOf, doneOf, transmitOf}
+use Rattle.station.specs.Parts.{withState, withActivity, withTokenTimes, withNextApplication, stateNumber}
+use Rattle.station.specs.Steps.{withTokenTime, toPassToken, toAwaitDataResponse, markedAt, busyOf, pauseOf, doneOf, transmitOf}
 use Rattle.holding.specs.declared.Asked.{Asked}
 use Rattle.holding.specs.Holding.{declinesAt, usePassOf, appTransmitOf, askedFrom, askedOf, holdEndOf, holdsOf, useAppsAfter, useAppsOf, useTokenAfter, useTokenTimed, useTokenOf}
 use Rattle.polling.specs.declared.Polled.{Polled}
@@ -40,26 +41,52 @@ use Rattle.silence.specs.Silence.{AllQuiet, told, sentUntil, countedIn, 
 use Rattle.silence.specs.Times.{Slotted, slotted, counted-free, counted-paused}
 use Rattle.silence.specs.Phases.{Phase, starting, checking, holding, next, todo, Under, todo-next, tokens-length}
 use Rattle.silence.specs.OnePoll.{At, Turn, sends, stays, quietStep, not-counted, not-counted-busy}
-use Rattle.silence.specs.Theorem.{stationOf, clockOf, poll-is, poll-at, turn-at, is-holding, counted-on, one-less, held-place, started, silence}
-use Rattle.silence.specs.Letter.{polls, sentIn, wanted, askedSent, Asks, fourTokens, LetterTheorem}
+use Rattle.silence.specs.Theorem.{stationOf, clockOf, poll-is, poll-at, turn-at, counted-on, one-less, held-place, started, silence}
+use Rattle.silence.specs.Letter.{polls, sentIn, wanted, askedSent, inHoldTime, Asks, fourTokens, LetterTheorem}
+
+-- a step that sends this, leaves this end of hold, and passes the token on if it sends nothing
+record Sends (out : Sent) (end : HoldEnd) (x : Step) : Type 0 where
+  pub sent : x .sent ≡ out
+  pub end-same : x .core .«end_token_hold_time» ≡ end
+  pub on : x .sent ≡ Nothing → stateNumber (x .core .state) ≡ 6
+
+-- a telegram is not nothing
+not-nothing : {A : Type 0} (address a : ℕ) (high : Bool) (length : ℕ) → Application address a high length ≡ Nothing → A
+not-nothing address a high length e = let z : _≡_ {A = ℕ} 0 1 = cc in absurd (omega arith)
 
 -- what an application's decision leads to is what it wants
-transmit-sent : (p : Parameters) (c : Core) (now : Micros) (held : UseTokenData) (d : Decision) (high : Bool) → appTransmitOf p c now held d high .sent ≡ wanted d (c .«next_application») high
-unfolding appTransmitOf usePassOf doneOf transmitOf
-transmit-sent p c now held decision.Decline high = refl
-transmit-sent p c now held (decision.Send length) high = refl
-transmit-sent p c now held (decision.SendExpectReply address length) high = refl
+transmit-sent : (p : Parameters) (c : Core) (now : Micros) (held : UseTokenData) (d : Decision) (high : Bool) → Sends (wanted d (c .«next_application») high) (c .«end_token_hold_time») (appTransmitOf p c now held d high)
+unfolding appTransmitOf usePassOf doneOf transmitOf toPassToken toAwaitDataResponse withState withActivity
+transmit-sent p c now held decision.Decline high = record { sent = refl; end-same = refl; on = λ e. refl }
+transmit-sent p c now held (decision.Send length) high = record { sent = refl; end-same = refl; on = λ e. not-nothing _ _ _ _ e }
+transmit-sent p c now held (decision.SendExpectReply address length) high = record { sent = refl; end-same = refl; on = λ e. not-nothing _ _ _ _ e }
+
+-- nobody sends
+pass-sent : (c : Core) → Sends Nothing (c .«end_token_hold_time») (usePassOf c)
+unfolding usePassOf doneOf toPassToken withState
+pass-sent c = record { sent = refl; end-same = refl; on = λ e. refl }
 
 -- once the applications were asked
-apps-after : (p : Parameters) (c : Core) (now : Micros) (held : UseTokenData) (bytes : List ℕ) (n : ℕ) (high : Bool) (a : Asked) → useAppsAfter p c now held bytes n high a .sent ≡ cond (a .sends) (wanted (decisionAt bytes n (a .application) high) (a .application) high) Nothing
-unfolding useAppsAfter usePassOf doneOf withState withNextApplication
+apps-after : (p : Parameters) (c : Core) (now : Micros) (held : UseTokenData) (bytes : List ℕ) (n : ℕ) (high : Bool) (a : Asked) → Sends (cond (a .sends) (wanted (decisionAt bytes n (a .application) high) (a .application) high) Nothing) (c .«end_token_hold_time») (useAppsAfter p c now held bytes n high a)
+unfolding useAppsAfter withState withNextApplication
 apps-after p c now held bytes n high a =
-    cases (a .sends) (λ e. rw e (transmit-sent p _ now _ (decisionAt bytes n (a .application) high) high)) (λ e. rw e)
+    cases (a .sends) (λ e. rw e (transmit-sent p _ now _ (decisionAt bytes n (a .application) high) high)) (λ e. rw e (pass-sent _))
 
 -- a new token: the applications are asked from the one whose turn it is
-apps-sent : (p : Parameters) (c : Core) (now since : Micros) (bytes : List ℕ) (n : ℕ) (high : Bool) → useAppsOf p c now (withTokenTime since) bytes n high .sent ≡ askedSent bytes n (c .«next_application») high
+apps-sent : (p : Parameters) (c : Core) (now since : Micros) (bytes : List ℕ) (n : ℕ) (high : Bool) → Sends (askedSent bytes n (c .«next_application») high) (c .«end_token_hold_time») (useAppsOf p c now (withTokenTime since) bytes n high)
 unfolding useAppsOf askedSent withTokenTime
 apps-sent p c now since bytes n high = apps-after p c now _ bytes n high _
+
+-- a step that asks the n applications from the one whose turn it is: what Asks says of a poll
+record AsksStep (now : Micros) (bytes : List ℕ) (n turn : ℕ) (x : Step) : Type 0 where
+  pub high : Bool
+  pub when : holdsOf now (x .core .«end_token_hold_time») ≡ not high
+  pub asks : x .sent ≡ askedSent bytes n turn high
+  pub on : x .sent ≡ Nothing → stateNumber (x .core .state) ≡ 6
+
+asks-step : (now : Micros) (bytes : List ℕ) (n turn : ℕ) (high : Bool) (end : HoldEnd) (x : Step) → holdsOf now end ≡ not high → Sends (askedSent bytes n turn high) end x → AsksStep now bytes n turn x
+asks-step now bytes n turn high end x h g =
+    record { high = high; when = ap (λ (y : HoldEnd). holdsOf now y) (g .end-same) ∙ h; asks = g .sent; on = g .on }
 
 -- the end of hold is set: all that is looked at here stays
 record Same (c d : Core) : Type 0 where
@@ -75,21 +102,21 @@ hold-same p c token =
     (λ e. rw e (record { same-on = refl; same-state = refl; same-next = refl; same-activity = refl }))
 
 -- once the pause is over the applications are asked, before that the station waits
-use-over : (p : Parameters) (c : Core) (now since : Micros) (bytes : List ℕ) (n : ℕ) (w : Waited) → w .over ≡ true → (high : Bool) × (useTokenAfter p c now (withTokenTime since) false bytes n w .sent ≡ askedSent bytes n (c .«next_application») high)
+use-over : (p : Parameters) (c : Core) (now since : Micros) (bytes : List ℕ) (n : ℕ) (w : Waited) → w .over ≡ true → AsksStep now bytes n (c .«next_application») (useTokenAfter p c now (withTokenTime since) false bytes n w)
 unfolding useTokenAfter withActivity
 use-over p c now since bytes n w e =
     cases (holdsOf now (c .«end_token_hold_time»))
-    (λ h. (false, rw (e, h) (apps-sent p (withActivity c (activity.At (w .last))) now since bytes n false)))
-    (λ h. (true, rw (e, h) (apps-sent p (withActivity c (activity.At (w .last))) now since bytes n true)))
+    (λ h. rw (e, h) (asks-step now bytes n _ false _ _ h (apps-sent p (withActivity c (activity.At (w .last))) now since bytes n false)))
+    (λ h. rw (e, h) (asks-step now bytes n _ true _ _ h (apps-sent p (withActivity c (activity.At (w .last))) now since bytes n true)))
 
 use-waits : (p : Parameters) (c : Core) (now since : Micros) (bytes : List ℕ) (n : ℕ) (w : Waited) → w .over ≡ false → useTokenAfter p c now (withTokenTime since) false bytes n w ≡ doneOf (withActivity c (activity.At (w .last))) outcome.Delay
 unfolding useTokenAfter
 use-waits p c now since bytes n w e = rw e
 
 -- one silent poll of a station that holds a new token, with whether it is counted
-data HoldTurn (p : Parameters) (n : ℕ) (c : Core) (bytes : List ℕ) (counts : Bool) (x : RingStep) : Type 0 where
-  asking : (high : Bool) → x .step .sent ≡ askedSent bytes n (c .«next_application») high → HoldTurn p n c bytes counts x
-  waiting : counts ≡ false → x .step .sent ≡ Nothing → At holding p (x .step .core) (x .ring) → HoldTurn p n c bytes counts x
+data HoldTurn (p : Parameters) (n : ℕ) (c : Core) (now : Micros) (bytes : List ℕ) (counts : Bool) (x : RingStep) : Type 0 where
+  asking : AsksStep now bytes n (c .«next_application») (x .step) → HoldTurn p n c now bytes counts x
+  waiting : counts ≡ false → x .step .sent ≡ Nothing → At holding p (x .step .core) (x .ring) → HoldTurn p n c now bytes counts x
 
 module _ (p : Parameters) (w : Slotted p) (c : Core) (r : Ring) (now : Micros) (bytes : List ℕ) (n : ℕ) (s : At holding p c r) where
   abbrev counts : Bool
@@ -117,12 +144,12 @@ module _ (p : Parameters) (w : Slotted p) (c : Core) (r : Ring) (now : Micros) (
   known-pause : paused .over ≡ pauseOf p (c .«last_bus_activity») now .over
   known-pause = ap (λ (a : Activity). pauseOf p a now .over) (hold-same p c (s .1 .since) .same-activity)
 
-  over-hold : paused .over ≡ true → HoldTurn p n c bytes counts (record { step = useTokenOf p c now (withTokenTime (s .1 .since)) false bytes n; ring = r })
+  over-hold : paused .over ≡ true → HoldTurn p n c now bytes counts (record { step = useTokenOf p c now (withTokenTime (s .1 .since)) false bytes n; ring = r })
   over-hold e =
-      let u = use-over p timed now (s .1 .since) bytes n paused e in
-      asking (u .0) (ap (λ (x : Step). x .sent) timed-use ∙ u .1 ∙ ap (λ (a : ℕ). askedSent bytes n a (u .0)) (hold-same p c (s .1 .since) .same-next))
+      asking (subst (λ (a : ℕ). AsksStep now bytes n a (useTokenOf p c now (withTokenTime (s .1 .since)) false bytes n)) (hold-same p c (s .1 .since) .same-next)
+      (subst (λ (x : Step). AsksStep now bytes n (timed .«next_application») x) (sym timed-use) (use-over p timed now (s .1 .since) bytes n paused e)))
 
-  waits-hold : paused .over ≡ false → HoldTurn p n c bytes counts (record { step = useTokenOf p c now (withTokenTime (s .1 .since)) false bytes n; ring = r })
+  waits-hold : paused .over ≡ false → HoldTurn p n c now bytes counts (record { step = useTokenOf p c now (withTokenTime (s .1 .since)) false bytes n; ring = r })
   unfolding doneOf withActivity
   waits-hold e =
       let same = hold-same p c (s .1 .since) in
@@ -130,7 +157,7 @@ module _ (p : Parameters) (w : Slotted p) (c : Core) (r : Ring) (now : Micros) (
       waiting (not-counted counts (pauseOf p (c .«last_bus_activity») now .over) (counted-paused p w (c .«last_bus_activity») now) (sym known-pause ∙ e)) (ap (λ (x : Step). x .sent) is)
       (still (useTokenOf p c now (withTokenTime (s .1 .since)) false bytes n .core) (ap (λ (x : Step). x .core .online) is ∙ same .same-on) (ap (λ (x : Step). x .core .state) is ∙ same .same-state))
 
-  hold-turn : HoldTurn p n c bytes counts (quietStep p c r now bytes n)
+  hold-turn : HoldTurn p n c now bytes counts (quietStep p c r now bytes n)
   unfolding quietStep doneOf withActivity
   hold-turn =
       cases (busyOf (c .«last_bus_activity») now)
@@ -169,10 +196,25 @@ found-later p n c r bytes later x out is f =
       asks = subst (λ (y : Station). Asks y (f .asking)) on (f .asks);
     }
 
+-- a poll that leads to a step that asks is one that asks
+asks-now : (p : Parameters) (n : ℕ) (c : Core) (r : Ring) (bytes : List ℕ) (x : RingStep) → At holding p c r → pollOf (stationOf p n c r) bytes ≡ polledOf p n x → AsksStep (clockOf bytes) bytes n (c .«next_application») (x .step) → Asks (stationOf p n c r) bytes
+unfolding polledOf answerOf
+asks-now p n c r bytes x s is g =
+    let sent = ap (λ (y : Polled). y .answer .sent) is in
+    let in-hold : inHoldTime (stationOf p n c r) bytes ≡ holdsOf (clockOf bytes) (x .step .core .«end_token_hold_time») = ap (λ (y : Polled). holdsOf (clockOf bytes) (y .station .core .«end_token_hold_time»)) is in
+    record {
+      since = s .1 .since;
+      holds = s .1 .held;
+      high = g .high;
+      when = in-hold ∙ g .when;
+      asks = sent ∙ g .asks;
+      on = λ e. ap (λ (y : Polled). stateNumber (y .station .core .state)) is ∙ g .on (sym sent ∙ e);
+    }
+
 -- or it is the first
-found-now : (p : Parameters) (n : ℕ) (c : Core) (r : Ring) (bytes : List ℕ) (later : List (List ℕ)) (x : RingStep) (high : Bool) → At holding p c r → pollOf (stationOf p n c r) bytes ≡ polledOf p n x → x .step .sent ≡ askedSent bytes n (c .«next_application») high → Found p [] (stationOf p n c r) (bytes ∷ later)
-unfolding polls sentIn polledOf answerOf
-found-now p n c r bytes later x high s is e =
+found-now : (p : Parameters) (n : ℕ) (c : Core) (r : Ring) (bytes : List ℕ) (later : List (List ℕ)) (x : RingStep) → At holding p c r → pollOf (stationOf p n c r) bytes ≡ polledOf p n x → AsksStep (clockOf bytes) bytes n (c .«next_application») (x .step) → Found p [] (stationOf p n c r) (bytes ∷ later)
+unfolding polls sentIn
+found-now p n c r bytes later x s is g =
     record {
       before = [];
       asking = bytes;
@@ -180,7 +222,7 @@ found-now p n c r bytes later x high s is e =
       are = refl;
       sent = refl;
       place = s;
-      asks = record { holds = is-holding p n c r s; high = high; asks = ap (λ (y : Polled). y .answer .sent) is ∙ e };
+      asks = asks-now p n c r bytes x s is g;
     }
 
 -- a poll that is not counted leaves as many to come
@@ -198,8 +240,8 @@ abbrev countsAt : Parameters → Core → List ℕ → Bool
 countsAt p c bytes = slotAfter (c .«last_bus_activity») (headOf bytes .clock) (slotTimeOf p .0)
 
 -- one poll of a station that holds a new token, and what is found from where it leads
-held-poll : (p : Parameters) (n : ℕ) (c : Core) (r : Ring) (bytes : List ℕ) (later : List (List ℕ)) (x : RingStep) → At holding p c r → pollOf (stationOf p n c r) bytes ≡ polledOf p n x → HoldTurn p n c bytes (countsAt p c bytes) x → 1 ≤ countedIn (stationOf p n c r) (bytes ∷ later) → ((d : Core) (t : Ring) → At holding p d t → 1 ≤ countedIn (stationOf p n d t) later → Found p [] (stationOf p n d t) later) → Found p [] (stationOf p n c r) (bytes ∷ later)
-held-poll p n c r bytes later x s is (asking high e) l then = found-now p n c r bytes later x high s is e
+held-poll : (p : Parameters) (n : ℕ) (c : Core) (r : Ring) (bytes : List ℕ) (later : List (List ℕ)) (x : RingStep) → At holding p c r → pollOf (stationOf p n c r) bytes ≡ polledOf p n x → HoldTurn p n c (clockOf bytes) bytes (countsAt p c bytes) x → 1 ≤ countedIn (stationOf p n c r) (bytes ∷ later) → ((d : Core) (t : Ring) → At holding p d t → 1 ≤ countedIn (stationOf p n d t) later → Found p [] (stationOf p n d t) later) → Found p [] (stationOf p n c r) (bytes ∷ later)
+held-poll p n c r bytes later x s is (asking g) l then = found-now p n c r bytes later x s is g
 held-poll p n c r bytes later x s is (waiting f e to) l then =
     let left = uncounted (countsAt p c bytes) 1 _ f (rw (counted-on p n c r bytes later x is) at l) in
     subst (λ (y : Sent). Found p (told y ++ []) (stationOf p n c r) (bytes ∷ later)) e

@@ -5,18 +5,22 @@
 -- three tokens to the neighbour and one to itself, the neighbour is out of the ring, and the station holds the token. By the fifth
 -- it has asked its applications, which are the cabinets.
 use Prim.Native.Nat.{ℕ, _≤_}
-use mathlib.Core.Bool.{Bool, true, false, cond}
+use mathlib.Core.Bool.{Bool, true, false, cond, not}
 use mathlib.Core.Path.{_≡_}
 use mathlib.Core.List.{List, [], _∷_, _++_}
+use Rattle.bit_times.specs.declared.Micros.{Micros}
 use Rattle.ring.specs.Ring.{has, others}
 use Rattle.telegrams.specs.declared.Decision.{Decision}
 use Rattle.telegrams.specs.declared.Decision.the-variants as decision
-use Rattle.records.specs.Records.{decisionAt}
+use Rattle.records.specs.Records.{headOf, decisionAt}
 use Rattle.answers.specs.declared.Sent.{Sent}
 use Rattle.answers.specs.declared.Sent.the-variants.{Nothing, Token, Application}
 use Rattle.station.specs.declared.OptionApplication.the-variants as application
+use Rattle.station.specs.declared.State.the-variants.{UseToken}
 use Rattle.station.specs.declared.Station.{Station}
-use Rattle.holding.specs.Holding.{askedOf}
+use Rattle.station.specs.Parts.{stateNumber}
+use Rattle.station.specs.Steps.{withTokenTime}
+use Rattle.holding.specs.Holding.{askedOf, holdsOf}
 use Rattle.polling.specs.Polling.{pollOf}
 use Rattle.silence.specs.Silence.{Start, AllQuiet, holdsToken, until, told, sentUntil, countedIn}
 
@@ -43,12 +47,24 @@ askedSent bytes n turn high =
     let asked = askedOf bytes n turn application.None high in
     cond (asked .sends) (wanted (decisionAt bytes n (asked .application) high) (asked .application) high) Nothing
 
--- a poll in which the station holds the token and asks its applications: within the hold time for their normal telegrams, after it
--- for those of high priority
+-- The poll comes within the hold time. do_use_token first sets the end of hold, if the token's time is not that of the last token, and
+-- then looks at it; so it is the end that the station has after the poll.
+abbrev pub inHoldTime : Station → List ℕ → Bool
+inHoldTime s bytes = holdsOf (record { 0 = headOf bytes .clock }) (pollOf s bytes .station .core .«end_token_hold_time»)
+
+-- A poll in which the station holds a new token and asks its applications. The other thing that a silent poll with a new token can do
+-- is to wait, for a transmission to end or for the pause: then nothing is sent and the state stays UseToken, which `on` rules out.
 pub record Asks (s : Station) (bytes : List ℕ) : Type 0 where
-  pub holds : holdsToken s ≡ true
+  -- it holds the token since this time (UseToken), and has not asked anyone with it yet
+  pub since : Micros
+  pub holds : s .core .state ≡ UseToken (withTokenTime since) false
+  -- it asks for normal telegrams within the hold time, for those of high priority after it
   pub high : Bool
+  pub when : inHoldTime s bytes ≡ not high
+  -- it sends what the applications want
   pub asks : pollOf s bytes .answer .sent ≡ askedSent bytes (s .applications) (s .core .«next_application») high
+  -- if that is nothing, all have declined and the token is to be passed on: the state is PassToken, number 6
+  pub on : pollOf s bytes .answer .sent ≡ Nothing → stateNumber (pollOf s bytes .station .core .state) ≡ 6
 
 -- three tokens to the neighbour, then one to itself
 abbrev pub fourTokens : ℕ → ℕ → List Sent

@@ -143,7 +143,8 @@ pub record Silence (s : Station) (records : List (List ℕ)) : Type 0 where
   -- Removals: each station is taken out after its third token, when the next token goes out. So with tokens 1 to 3 sent nobody is
   -- out, with 4 to 6 the first is, .. and in the end, with 3k + 1, all are. (With none sent, 0 - 1 is 0.)
   pub removes : others (until s records .«token_ring») ≡ drop ((length (sentUntil s records) - 1) / 3) (others (s .«token_ring»))
-  -- The bound: it holds the token by the (3k+1)th counted poll.
+  -- The bound: it holds the token by the (3k+1)th counted poll. (Counted polls after the token is held count too; applied to the
+  -- shortest run with 3k + 1 of them, it says "by".)
   pub bound : 3 * length (others (s .«token_ring»)) + 1 ≤ countedIn s records → holdsToken (until s records) ≡ true
 
 -- the theorem

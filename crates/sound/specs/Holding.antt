@@ -24,14 +24,14 @@ use Rattle.holding.specs.Holding.{declinesAt, firstOr, validResponse, holdsOf, 
 use Rattle.sound.specs.Keeps.{ReplyLow, Below, StepGood, either, decision-low, waited-good, state-good, rx-good, idle-good, await-data-good, pass-good, done-good, transmit-good}
 
 -- what asking ends with is one of the n applications
-record AskedGood (n : ℕ) (a : Asked) : Type 0 where
+pub record AskedGood (n : ℕ) (a : Asked) : Type 0 where
   pub asked : a .application < n
 
 turn-good : (a n : ℕ) → a < n → turnOf a n < n
 unfolding turnOf
 turn-good a n l = cases (ltb (a + 1) n) (λ e. rw e (ltb-true (a + 1) n e)) (λ e. rw e (omega arith))
 
-asked-good : (k : ℕ) (bytes : List ℕ) (n a : ℕ) (first : OptionApplication) (high : Bool) → a < n → AskedGood n (askedFrom k bytes n a first high)
+pub asked-good : (k : ℕ) (bytes : List ℕ) (n a : ℕ) (first : OptionApplication) (high : Bool) → a < n → AskedGood n (askedFrom k bytes n a first high)
 unfolding askedFrom
 asked-good zero bytes n a first high l = record { asked = l }
 asked-good (suc k) bytes n a first high l =
@@ -65,7 +65,7 @@ apps-good : (p : Parameters) (n : ℕ) (c : Core) (now : Micros) (held : UseToke
 unfolding useAppsOf askedOf
 apps-good p n c now held bytes high b = apps-after-good p n c now held bytes high _ (asked-good n bytes n _ _ high (b .below)) b
 
-hold-good : (p : Parameters) (n : ℕ) (c : Core) (token : Micros) → Below n c → Below n (holdEndOf p c token)
+pub hold-good : (p : Parameters) (n : ℕ) (c : Core) (token : Micros) → Below n c → Below n (holdEndOf p c token)
 unfolding holdEndOf withTokenTimes
 hold-good p n c token b = either (Below n) (eqb (c .«last_token_time» .0) (token .0)) _ _ b (record { below = b .below; addressed = b .addressed; gap-addressed = b .gap-addressed })
 

@@ -23,7 +23,7 @@ use Rattle.sound.specs.Keeps.{GapAddressed, RingGood, Below, Good, eithe
 use Rattle.sound.specs.Listening.{received-all-good, consumed-good}
 
 -- do_pass_token: the gap's turn
-advanced-good : (p : Parameters) (r : Ring) (s : GapState) → RingGood p r → GapAddressed (gapAdvanced p r s)
+pub advanced-good : (p : Parameters) (r : Ring) (s : GapState) → RingGood p r → GapAddressed (gapAdvanced p r s)
 unfolding gapAdvanced
 advanced-good p r (Waiting count) g = either GapAddressed (ltb (p .«gap_wait_rotations») count) _ _ (gap-low r _ _ (g .sound)) tt
 advanced-good p r (DoPoll current) g = gap-low r _ _ (g .sound)

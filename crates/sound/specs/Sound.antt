@@ -76,7 +76,7 @@ connected-on-good (PassToken x a) n c b = b
 connected-on-good (CheckTokenPass a) n c b = b
 connected-on-good (AwaitStatusResponse a) n c b = b
 
-connected-good : (n : ℕ) (c : Core) → Below n c → Below n (connectedOf c)
+pub connected-good : (n : ℕ) (c : Core) → Below n c → Below n (connectedOf c)
 unfolding connectedOf
 connected-good n c b = connected-on-good (c .state) n c b
 
@@ -103,17 +103,17 @@ poll-online-good p n c r now t pending bytes count b g =
     either (Good p n) (ongoingOf (c .«last_bus_activity») now t) _ _ (record { good-step = done-good n _ _ (waited-good n c _ b); good-ring = g })
     (dispatch-good p n _ r now bytes count (bus-good n c now pending b) g)
 
-poll-inner-good : (p : Parameters) (n : ℕ) (c : Core) (r : Ring) (now : Micros) (t : Bool) (pending : ℕ) (bytes : List ℕ) (count : ℕ) → Below n c → RingGood p r → Good p n (pollInner p c r now t pending bytes n count)
+pub poll-inner-good : (p : Parameters) (n : ℕ) (c : Core) (r : Ring) (now : Micros) (t : Bool) (pending : ℕ) (bytes : List ℕ) (count : ℕ) → Below n c → RingGood p r → Good p n (pollInner p c r now t pending bytes n count)
 unfolding pollInner
 poll-inner-good p n c r now t pending bytes count b g =
     either (Good p n) (c .online) _ _ (poll-online-good p n _ r now t pending bytes count (connected-good n c b) g)
     (record { good-step = done-good n c _ b; good-ring = g })
 
 -- a sound station's parts, and a sound station made of them
-part-core : (s : Station) → SoundStation s → Below (s .applications) (s .core)
+pub part-core : (s : Station) → SoundStation s → Below (s .applications) (s .core)
 part-core s w = record { below = w .next-one; addressed = w .addresses; gap-addressed = w .gap-address }
 
-part-ring : (s : Station) → SoundStation s → RingGood (s .p) (s .«token_ring»)
+pub part-ring : (s : Station) → SoundStation s → RingGood (s .p) (s .«token_ring»)
 part-ring s w = record { sound = w .ring-sound; own = w .own-is }
 
 polled-sound : (s : Station) (x : RingStep) → SoundStation s → Good (s .p) (s .applications) x → SoundStation (polledOf (s .p) (s .applications) x .station)
