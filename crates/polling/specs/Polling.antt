@@ -72,8 +72,8 @@ pollInner p c ring now transmitting pending bytes n count =
     (record { step = doneOf c outcome.Offline; ring = ring })
 
 -- document 01: the answer of an entry that is not refused, with the state, next application and next station after it
-unfoldable pub answerOf : RingStep → Answer
-answerOf s =
+unfoldable pub stepAnswer : RingStep → Answer
+stepAnswer s =
     record {
       refusal = 0;
       outcome = s .step .outcome;
@@ -88,7 +88,7 @@ answerOf s =
 -- the station after a step, and the answer
 unfoldable pub polledOf : Parameters → ℕ → RingStep → Polled
 polledOf p n s =
-    record { station = record { core = s .step .core; «token_ring» = s .ring; p = p; applications = n }; answer = answerOf s }
+    record { station = record { core = s .step .core; «token_ring» = s .ring; p = p; applications = n }; answer = stepAnswer s }
 
 -- a refused entry: the station is unchanged
 unfoldable pub refusedPoll : Station → ℕ → Polled

@@ -4,7 +4,7 @@
 ghost use mathlib.Core.Path.{_≡_};
 ghost use Prim.Native.Nat.{_<_, _^_};
 ghost use denote.Ref.{now as contents};
-ghost use Rattle.polling.specs.Polling.{connectedOf, dispatchOf, pollOnline, pollInner, answerOf, polledOf, refusedPoll, acceptedPoll, pollOf, onlineOf, offlineOf, passiveOf};
+ghost use Rattle.polling.specs.Polling.{connectedOf, dispatchOf, pollOnline, pollInner, stepAnswer, polledOf, refusedPoll, acceptedPoll, pollOf, onlineOf, offlineOf, passiveOf};
 use answers::Answer;
 use answers::Outcome;
 use bit_times::Micros;
@@ -198,7 +198,7 @@ fn poll_inner(
 
 // The answer of an entry that is not refused.
 fn answer_of(stepped: RingStep) -> Answer
-    ensures { λ r. ⌜ r ≡ answerOf stepped ⌝ }
+    ensures { λ r. ⌜ r ≡ stepAnswer stepped ⌝ }
 {
     let ring = stepped.ring;
     let step = stepped.step;

@@ -7,7 +7,7 @@ use Rattle.fields.specs.Fields.{fieldOf, beFrom, loadOf}
 use Rattle.telegrams.specs.Words.{telegramOf, zeroOr14, telegramRefusal, decisionOf, lengthRefusal, decisionRefusal}
 use Rattle.telegrams.specs.declared.Telegram.the-variants.{Token}
 use Rattle.telegrams.specs.declared.Decision.the-variants.{Decline, SendExpectReply}
-use Rattle.records.specs.Records.{headOf, decisionAt, telegramAt, entryRefusal, firstRefusal, recordRefusal}
+use Rattle.records.specs.Records.{headOf, decisionAt, telegramAt, entryRefusal, wordsRefusal, recordRefusal}
 
 -- clock 1000, 5 pending bytes; the argument is 8 × the telegram count
 abbrev start : ℕ → List ℕ
@@ -39,5 +39,5 @@ pub examples :
     × (recordRefusal (start 0 ++ asked (128 ∷ 0 ∷ 0 ∷ [])) 1 ≡ 15)
     × (recordRefusal (start 0 ++ asked (128 ∷ 0 ∷ 1 ∷ [])) 1 ≡ 14)
     × (recordRefusal (start 8 ++ asked none ++ token 1) 1 ≡ 14)
-unfolding headOf decisionAt telegramAt entryRefusal firstRefusal recordRefusal telegramOf zeroOr14 telegramRefusal decisionOf lengthRefusal decisionRefusal fieldOf beFrom loadOf
+unfolding headOf decisionAt telegramAt entryRefusal wordsRefusal recordRefusal telegramOf zeroOr14 telegramRefusal decisionOf lengthRefusal decisionRefusal fieldOf beFrom loadOf
 examples = (refl, refl, refl, refl, refl, refl, refl, refl, refl, refl, refl, refl)

@@ -11,34 +11,34 @@ use borrow.Author.Tests.{eq-eqb, ne-eqb, lt-ltb, le-ltb, ltb-false, eqb-true, eq
 use borrow.Table.Steps.{cases}
 use lib.ListN.{length}
 use lib.Dec.{eqb, ltb}
-use Rattle.fields.specs.Fields.{bitOf, loadOf}
+use Rattle.fields.specs.Fields.{bitNumber, loadOf}
 use Rattle.fields.specs.Widths.{field-below}
 use Rattle.fields.specs.Laws.{bit-below}
 use Rattle.telegrams.specs.Words.{telegramWord, decisionWord, TelegramFits, DecisionFits}
 use Rattle.telegrams.specs.Laws.{never, telegram-fits, telegram-written, decision-written}
-use Rattle.records.specs.Records.{headOf, countOf, decisionWordAt, telegramWordAt, decisionAt, telegramAt, entryRefusal, firstRefusal, recordRefusal}
+use Rattle.records.specs.Records.{headOf, countOf, decisionWordAt, telegramWordAt, decisionAt, telegramAt, entryRefusal, wordsRefusal, recordRefusal}
 
 -- none of the first k, and that of k not either: none of the first k + 1
-pub none-more : (g : ℕ → ℕ) (k : ℕ) → firstRefusal g k ≡ 0 → g k ≡ 0 → firstRefusal g (k + 1) ≡ 0
-unfolding firstRefusal
-none-more g k p q = rw (add-one, eq-eqb (firstRefusal g k) 0 p, q)
+pub none-more : (g : ℕ → ℕ) (k : ℕ) → wordsRefusal g k ≡ 0 → g k ≡ 0 → wordsRefusal g (k + 1) ≡ 0
+unfolding wordsRefusal
+none-more g k p q = rw (add-one, eq-eqb (wordsRefusal g k) 0 p, q)
 
 -- none of the first i, and that of i is one: it is the first of any k above i
-pub first-is : (g : ℕ → ℕ) (i k : ℕ) → i < k → firstRefusal g i ≡ 0 → (g i ≡ 0 → ⊥) → firstRefusal g k ≡ g i
-unfolding firstRefusal
+pub first-is : (g : ℕ → ℕ) (i k : ℕ) → i < k → wordsRefusal g i ≡ 0 → (g i ≡ 0 → ⊥) → wordsRefusal g k ≡ g i
+unfolding wordsRefusal
 first-is g i zero h p q = omega arith
 first-is g i (suc k) h p q =
     ⊎-elim
-    (λ (e : i ≡ k). rw (← e, eq-eqb (firstRefusal g i) 0 p))
-    (λ (l : i < k). let e = first-is g i k l p q in rw (ne-eqb (firstRefusal g k) 0 (λ z. q (sym e ∙ z)), e))
+    (λ (e : i ≡ k). rw (← e, eq-eqb (wordsRefusal g i) 0 p))
+    (λ (l : i < k). let e = first-is g i k l p q in rw (ne-eqb (wordsRefusal g k) 0 (λ z. q (sym e ∙ z)), e))
     (eq-or-lt-of-le {n = i} {m = k} (omega arith))
 
 -- none among the first k: none at any place below k
-none-at : (g : ℕ → ℕ) (k i : ℕ) → firstRefusal g k ≡ 0 → i < k → g i ≡ 0
-unfolding firstRefusal
+none-at : (g : ℕ → ℕ) (k i : ℕ) → wordsRefusal g k ≡ 0 → i < k → g i ≡ 0
+unfolding wordsRefusal
 none-at g zero i p h = omega arith
 none-at g (suc k) i p h =
-    cases (eqb (firstRefusal g k) 0)
+    cases (eqb (wordsRefusal g k) 0)
     (λ a.
     ⊎-elim
     (λ (e : i ≡ k). rw e (rw a at p))
@@ -79,13 +79,13 @@ good s n h =
 
 module _ {s : List ℕ} {n : ℕ} (g : Good s n) where
   -- a decision of an accepted record is what its word was written from
-  pub good-decision : (a : ℕ) (high : Bool) → a < n → (decisionWord (decisionAt s n a high) ≡ decisionWordAt s (2 * a + bitOf high)) × DecisionFits (decisionAt s n a high)
+  pub good-decision : (a : ℕ) (high : Bool) → a < n → (decisionWord (decisionAt s n a high) ≡ decisionWordAt s (2 * a + bitNumber high)) × DecisionFits (decisionAt s n a high)
   unfolding decisionAt entryRefusal
   good-decision a high h =
       let b = bit-below high in
-      let l : 2 * a + bitOf high < 2 * n = omega arith in
-      let m : 2 * a + bitOf high < 2 * n + headOf s .telegrams = omega arith in
-      rw (lt-ltb a n h) (decision-written (decisionWordAt s (2 * a + bitOf high)) (rw (lt-ltb _ _ l) at (g .entries (2 * a + bitOf high) m)))
+      let l : 2 * a + bitNumber high < 2 * n = omega arith in
+      let m : 2 * a + bitNumber high < 2 * n + headOf s .telegrams = omega arith in
+      rw (lt-ltb a n h) (decision-written (decisionWordAt s (2 * a + bitNumber high)) (rw (lt-ltb _ _ l) at (g .entries (2 * a + bitNumber high) m)))
 
   -- a telegram of an accepted record is what its word was written from
   pub good-telegram : (j : ℕ) → j < headOf s .telegrams → (telegramWord (telegramAt s n j) ≡ telegramWordAt s n j) × TelegramFits (telegramAt s n j)

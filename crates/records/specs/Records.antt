@@ -4,7 +4,7 @@ use mathlib.Core.List.{List}
 use mathlib.Core.Bool.{Bool, cond}
 use lib.ListN.{length}
 use lib.Dec.{eqb, ltb}
-use Rattle.fields.specs.Fields.{fieldOf, bitAt, bitOf, loadOf}
+use Rattle.fields.specs.Fields.{fieldOf, bitAt, bitNumber, loadOf}
 use Rattle.telegrams.specs.Words.{telegramOf, telegramRefusal, decisionOf, decisionRefusal}
 use Rattle.telegrams.specs.declared.Telegram.{Telegram}
 use Rattle.telegrams.specs.declared.Telegram.the-variants.{ShortConfirmation}
@@ -36,7 +36,7 @@ telegramWordAt s n j = loadOf s (8 + 6 * n + 4 * j) 4
 
 -- the decision of application a of n; none past the last
 unfoldable pub decisionAt : List ℕ → ℕ → ℕ → Bool → Decision
-decisionAt s n a high = cond (ltb a n) (decisionOf (decisionWordAt s (2 * a + bitOf high))) Decline
+decisionAt s n a high = cond (ltb a n) (decisionOf (decisionWordAt s (2 * a + bitNumber high))) Decline
 
 -- telegram j after n applications; past the end a short confirmation
 unfoldable pub telegramAt : List ℕ → ℕ → ℕ → Telegram
@@ -47,13 +47,13 @@ unfoldable pub entryRefusal : List ℕ → ℕ → ℕ → ℕ
 entryRefusal s n i = cond (ltb i (2 * n)) (decisionRefusal (decisionWordAt s i)) (telegramRefusal (telegramWordAt s n (i - 2 * n)))
 
 -- the first that is not 0 among the refusals of entries 0, 1, .. k - 1, or 0
-unfoldable pub firstRefusal : (ℕ → ℕ) → ℕ → ℕ
-firstRefusal refusal zero = 0
-firstRefusal refusal (suc k) = cond (eqb (firstRefusal refusal k) 0) (refusal k) (firstRefusal refusal k)
+unfoldable pub wordsRefusal : (ℕ → ℕ) → ℕ → ℕ
+wordsRefusal refusal zero = 0
+wordsRefusal refusal (suc k) = cond (eqb (wordsRefusal refusal k) 0) (refusal k) (wordsRefusal refusal k)
 
 -- under 8 bytes 12; a count above 8 is 13; a length other than 8 + 6 n + 4 times the count 12; then left to right
 unfoldable pub recordRefusal : List ℕ → ℕ → ℕ
 recordRefusal s n =
     cond (ltb (length s) 8) 12
     (cond (ltb 8 (countOf s)) 13
-    (cond (eqb (length s) (8 + 6 * n + 4 * countOf s)) (firstRefusal (entryRefusal s n) (2 * n + countOf s)) 12))
+    (cond (eqb (length s) (8 + 6 * n + 4 * countOf s)) (wordsRefusal (entryRefusal s n) (2 * n + countOf s)) 12))

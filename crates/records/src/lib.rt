@@ -3,8 +3,8 @@
 // its end. Leans on `fields` for the bits and on `telegrams` for the words.
 ghost use mathlib.Core.Path.{_≡_};
 ghost use Prim.Native.Nat.{_+_, _*_, _<_};
-ghost use Rattle.fields.specs.Fields.{fieldOf, bitOf};
-ghost use Rattle.records.specs.Records.{headOf, entryRefusal, firstRefusal, recordRefusal, decisionAt, telegramAt};
+ghost use Rattle.fields.specs.Fields.{fieldOf, bitNumber};
+ghost use Rattle.records.specs.Records.{headOf, entryRefusal, wordsRefusal, recordRefusal, decisionAt, telegramAt};
 use fields::bit;
 use fields::field;
 use fields::field_byte;
@@ -47,7 +47,7 @@ pub fn read_head(bytes: &[u8]) -> Head
 
 // Where a decision stands.
 fn decision_place(application: u8, high: bool) -> usize
-    ensures { λ r. ⌜ r ≡ 8 + 3 * (2 * application + bitOf high) ⌝ }
+    ensures { λ r. ⌜ r ≡ 8 + 3 * (2 * application + bitNumber high) ⌝ }
 {
     if high {
         return 8 + 3 * (2 * (application as usize) + 1);
@@ -97,7 +97,7 @@ fn entry_refusal(bytes: &[u8], applications: u8, entry: usize) -> u8
 
 // The first refusal among a record's entries from the left.
 fn entries_refusal(bytes: &[u8], applications: u8, telegrams: u8) -> u8
-    ensures { λ r. ⌜ r ≡ firstRefusal (entryRefusal (now (bytes .entry)) applications) (2 * applications + telegrams) ⌝ }
+    ensures { λ r. ⌜ r ≡ wordsRefusal (entryRefusal (now (bytes .entry)) applications) (2 * applications + telegrams) ⌝ }
 {
     let n = 2 * (applications as usize) + telegrams as usize;
     let mut entry: usize = 0;

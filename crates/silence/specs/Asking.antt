@@ -36,7 +36,7 @@ use Rattle.station.specs.Steps.{withTokenTime, toPassToken, toAwaitDataResponse
 use Rattle.holding.specs.declared.Asked.{Asked}
 use Rattle.holding.specs.Holding.{declinesAt, usePassOf, appTransmitOf, askedFrom, askedOf, holdEndOf, holdsOf, useAppsAfter, useAppsOf, useTokenAfter, useTokenTimed, useTokenOf}
 use Rattle.polling.specs.declared.Polled.{Polled}
-use Rattle.polling.specs.Polling.{connectedOn, connectedOf, dispatchOn, dispatchOf, polledOf, answerOf, pollOf}
+use Rattle.polling.specs.Polling.{connectedOn, connectedOf, dispatchOn, dispatchOf, polledOf, stepAnswer, pollOf}
 use Rattle.silence.specs.Silence.{AllQuiet, told, sentUntil, countedIn, slotAfter, tokens}
 use Rattle.silence.specs.Times.{Slotted, slotted, counted-free, counted-paused}
 use Rattle.silence.specs.Phases.{Phase, starting, checking, holding, next, todo, Under, todo-next, tokens-length}
@@ -180,7 +180,7 @@ unfolding polls polledOf
 polls-on p n c r bytes later x is = ap (λ (y : Polled). polls (y .station) later) is
 
 sent-in-on : (p : Parameters) (n : ℕ) (c : Core) (r : Ring) (bytes : List ℕ) (later : List (List ℕ)) (x : RingStep) → pollOf (stationOf p n c r) bytes ≡ polledOf p n x → sentIn (stationOf p n c r) (bytes ∷ later) ≡ told (x .step .sent) ++ sentIn (stationOf p n (x .step .core) (x .ring)) later
-unfolding sentIn polledOf answerOf
+unfolding sentIn polledOf stepAnswer
 sent-in-on p n c r bytes later x is = ap (λ (y : Polled). told (y .answer .sent) ++ sentIn (y .station) later) is
 
 found-later : (p : Parameters) (n : ℕ) (c : Core) (r : Ring) (bytes : List ℕ) (later : List (List ℕ)) (x : RingStep) (out : List Sent) → pollOf (stationOf p n c r) bytes ≡ polledOf p n x → Found p out (stationOf p n (x .step .core) (x .ring)) later → Found p (told (x .step .sent) ++ out) (stationOf p n c r) (bytes ∷ later)
@@ -198,7 +198,7 @@ found-later p n c r bytes later x out is f =
 
 -- a poll that leads to a step that asks is one that asks
 asks-now : (p : Parameters) (n : ℕ) (c : Core) (r : Ring) (bytes : List ℕ) (x : RingStep) → At holding p c r → pollOf (stationOf p n c r) bytes ≡ polledOf p n x → AsksStep (clockOf bytes) bytes n (c .«next_application») (x .step) → Asks (stationOf p n c r) bytes
-unfolding polledOf answerOf
+unfolding polledOf stepAnswer
 asks-now p n c r bytes x s is g =
     let sent = ap (λ (y : Polled). y .answer .sent) is in
     let in-hold : inHoldTime (stationOf p n c r) bytes ≡ holdsOf (clockOf bytes) (x .step .core .«end_token_hold_time») = ap (λ (y : Polled). holdsOf (clockOf bytes) (y .station .core .«end_token_hold_time»)) is in

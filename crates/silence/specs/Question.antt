@@ -23,7 +23,7 @@ use Rattle.station.specs.Parts.{withActivity, withGap}
 use Rattle.station.specs.Steps.{pauseOf, transmitOf}
 use Rattle.passing.specs.Passing.{gapAdvanced, passPollOn, passPoll, passAfter, passTokenOf}
 use Rattle.polling.specs.declared.Polled.{Polled}
-use Rattle.polling.specs.Polling.{polledOf, answerOf, pollOf}
+use Rattle.polling.specs.Polling.{polledOf, stepAnswer, pollOf}
 use Rattle.silence.specs.Silence.{asksOn, gapDue, online, Quiet, slotAfter, counted}
 use Rattle.silence.specs.Times.{Slotted, slotted, counted-free, counted-paused}
 use Rattle.silence.specs.OnePoll.{quietStep, dispatch-pass}
@@ -51,7 +51,7 @@ pass-step p w c r now bytes n gap state e =
 
 -- with a question due, a counted poll sends a status request
 pub question-first : (s : Station) (bytes : List ℕ) (gap : Bool) → firstRefusal (fieldsOf (s .p)) ≡ 0 → online s ≡ true → s .core .state ≡ PassToken gap First → gapDue (s .p) (s .core) (s .«token_ring») gap ≡ true → Quiet (s .applications) bytes → counted s bytes ≡ true → (a : ℕ) × (pollOf s bytes .answer .sent ≡ StatusRequest a)
-unfolding counted polledOf answerOf
+unfolding counted polledOf stepAnswer
 question-first s bytes gap settings on state due q e =
     let c = s .core in
     let r = s .«token_ring» in

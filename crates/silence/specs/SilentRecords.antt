@@ -10,7 +10,7 @@ use borrow.Author.Tests.{eq-eqb, ne-eqb, le-ltb, lt-ltb}
 use Rattle.fields.specs.Fields.{fieldOf, be, beFrom, loadOf, bytesOf}
 use Rattle.fields.specs.Laws.{be-bytes}
 use Rattle.telegrams.specs.Words.{zeroOr14, decisionRefusal}
-use Rattle.records.specs.Records.{headOf, countOf, decisionWordAt, entryRefusal, firstRefusal, recordRefusal}
+use Rattle.records.specs.Records.{headOf, countOf, decisionWordAt, entryRefusal, wordsRefusal, recordRefusal}
 use Rattle.silence.specs.Silence.{Quiet}
 
 -- the record of n applications at this clock: the clock and 16 zero bits, then the decisions, all zero
@@ -55,8 +55,8 @@ zero-accepted : (n clock i : ℕ) → i < 2 * n → entryRefusal (silentAt n clo
 unfolding entryRefusal decisionRefusal zeroOr14 fieldOf
 zero-accepted n clock i l = rw (lt-ltb i (2 * n) l, zero-decision n clock i l)
 
-none-first : (g : ℕ → ℕ) (k : ℕ) → ((i : ℕ) → i < k → g i ≡ 0) → firstRefusal g k ≡ 0
-unfolding firstRefusal
+none-first : (g : ℕ → ℕ) (k : ℕ) → ((i : ℕ) → i < k → g i ≡ 0) → wordsRefusal g k ≡ 0
+unfolding wordsRefusal
 none-first g zero h = refl
 none-first g (suc k) h = rw (eq-eqb _ 0 (none-first g k (λ i l. h i (omega arith))), h k (omega arith))
 

@@ -26,7 +26,7 @@ use Rattle.station.specs.declared.Station.{Station}
 use Rattle.station.specs.declared.RingStep.{RingStep}
 use Rattle.station.specs.Parts.{stateNumber}
 use Rattle.station.specs.Steps.{ongoingOf, busActivityOf, doneOf}
-use Rattle.polling.specs.Polling.{connectedOn, connectedOf, pollOnline, pollInner, polledOf, acceptedAfter, acceptedPoll, pollOf, answerOf}
+use Rattle.polling.specs.Polling.{connectedOn, connectedOf, pollOnline, pollInner, polledOf, acceptedAfter, acceptedPoll, pollOf, stepAnswer}
 use Rattle.silence.specs.Silence.{Start, Quiet, AllQuiet, holdsToken, until, told, sentUntil, counted, countedIn, slotAfter, Theorem}
 use Rattle.silence.specs.Times.{Slotted, slotted}
 use Rattle.silence.specs.Phases.{Phase, starting, checking, holding, next, receiver, todo, inRing, Under, todo-next, todo-some, tokens-length, advance, ring-after}
@@ -102,7 +102,7 @@ module _ (p : Parameters) (n : ℕ) (c : Core) (r : Ring) (bytes : List ℕ) (la
   until-on = rw (out, is)
 
   sent-on : sentUntil (stationOf p n c r) (bytes ∷ later) ≡ told (x .step .sent) ++ sentUntil (stationOf p n (x .step .core) (x .ring)) later
-  unfolding sentUntil polledOf answerOf
+  unfolding sentUntil polledOf stepAnswer
   sent-on = rw (out, is)
 
 -- once the token is held the run is over

@@ -22,7 +22,7 @@ use Rattle.telegrams.specs.declared.Decision.the-variants as decision
 use Rattle.telegrams.specs.declared.Telegram.{Telegram}
 use Rattle.telegrams.specs.declared.Telegram.the-variants as telegram
 use Rattle.telegrams.specs.Words.{DecisionFits, zeroOr14, telegramRefusal, lengthRefusal, decisionRefusal}
-use Rattle.records.specs.Records.{headOf, countOf, decisionAt, entryRefusal, firstRefusal, recordRefusal}
+use Rattle.records.specs.Records.{headOf, countOf, decisionAt, entryRefusal, wordsRefusal, recordRefusal}
 use Rattle.records.specs.Laws.{good, good-decision}
 use Rattle.answers.specs.declared.Outcome.{Outcome}
 use Rattle.answers.specs.declared.Sent.{Sent}
@@ -51,7 +51,7 @@ use Rattle.holding.specs.Holding.{validResponse, holdsOf, askedOf, appTransmitO
 use Rattle.listening.specs.declared.Heard.{Heard}
 use Rattle.listening.specs.Listening.{lostTokenOf, listenResponseAfter, listenResponse, consumedAll, listenTokenOn, listenTokenAfter, listenTokenOf, activeResponseAfter, activeResponse, activeIdleOn, activeIdleAfter, activeIdleOf}
 use Rattle.passing.specs.Passing.{passSent, passSend, passPollOn, passPoll, passAfter, passTokenOf, statusAnswered, statusUnexpected, statusReceived, statusTimeout, awaitStatusAfter, awaitStatusOf, resendOf, checkReceived, checkAfter, checkTokenPassOf}
-use Rattle.polling.specs.Polling.{dispatchOn, dispatchOf, pollOnline, pollInner, answerOf, polledOf, refusedPoll, acceptedAfter, acceptedPoll, pollOf, onlineOf, offlineOf, passiveOf}
+use Rattle.polling.specs.Polling.{dispatchOn, dispatchOf, pollOnline, pollInner, stepAnswer, polledOf, refusedPoll, acceptedAfter, acceptedPoll, pollOf, onlineOf, offlineOf, passiveOf}
 use Rattle.sound.specs.Keeps.{Low, Addressed, GapAddressed, RingGood, Below, Good, either, again-good, remove-good, waited-good, state-good, online-good, again-core-good, done-good, bus-good}
 use Rattle.sound.specs.Holding.{AskedGood, asked-good, hold-good}
 use Rattle.sound.specs.Passing.{advanced-good}
@@ -291,7 +291,7 @@ state-known (AwaitStatusResponse a) = lit≤ tt
 
 -- the answer of an entry that is not refused
 polled-fits : (p : Parameters) (n : ℕ) (x : RingStep) → n ≤ 8 → Good p n x → Fit x → Fits (polledOf p n x .answer)
-unfolding polledOf answerOf refusalKnown
+unfolding polledOf stepAnswer refusalKnown
 polled-fits p n x e g f =
     record {
       refusal = refl;
@@ -365,10 +365,10 @@ entry-known : (bytes : List ℕ) (n i : ℕ) → Known (entryRefusal bytes n i)
 unfolding entryRefusal
 entry-known bytes n i = either Known (ltb i (2 * n)) _ _ (decision-known _) (telegram-known _)
 
-first-known : (g : ℕ → ℕ) → ((i : ℕ) → Known (g i)) → (k : ℕ) → Known (firstRefusal g k)
-unfolding firstRefusal
+first-known : (g : ℕ → ℕ) → ((i : ℕ) → Known (g i)) → (k : ℕ) → Known (wordsRefusal g k)
+unfolding wordsRefusal
 first-known g h zero = none-known
-first-known g h (suc k) = either Known (eqb (firstRefusal g k) 0) _ _ (h k) (first-known g h k)
+first-known g h (suc k) = either Known (eqb (wordsRefusal g k) 0) _ _ (h k) (first-known g h k)
 
 record-known : (bytes : List ℕ) (n : ℕ) → Known (recordRefusal bytes n)
 unfolding recordRefusal

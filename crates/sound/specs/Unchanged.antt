@@ -9,7 +9,7 @@ use lib.Dec.{eqb}
 use Rattle.records.specs.Records.{recordRefusal}
 use Rattle.answers.specs.Answers.{refusedOf}
 use Rattle.station.specs.declared.Station.{Station}
-use Rattle.polling.specs.Polling.{answerOf, polledOf, refusedPoll, acceptedAfter, acceptedPoll, pollOf, onlineOf, offlineOf, passiveOf}
+use Rattle.polling.specs.Polling.{stepAnswer, polledOf, refusedPoll, acceptedAfter, acceptedPoll, pollOf, onlineOf, offlineOf, passiveOf}
 
 -- a refused entry has its number and leaves the station
 refused-station : (s : Station) (k : ℕ) → refusedPoll s k .station ≡ s
@@ -22,7 +22,7 @@ refused-number s k = refl
 
 -- a poll whose record is good is not refused
 accepted-number : (s : Station) (bytes : List ℕ) → acceptedPoll s bytes .answer .refusal ≡ 0
-unfolding acceptedPoll acceptedAfter polledOf answerOf
+unfolding acceptedPoll acceptedAfter polledOf stepAnswer
 accepted-number s bytes = refl
 
 -- a poll is refused exactly with its record's number
@@ -55,9 +55,9 @@ passive-unchanged s = refused-station s 16
 
 -- online and offline are never refused
 pub online-refusal : (s : Station) → onlineOf s .answer .refusal ≡ 0
-unfolding onlineOf polledOf answerOf
+unfolding onlineOf polledOf stepAnswer
 online-refusal s = refl
 
 pub offline-refusal : (s : Station) → offlineOf s .answer .refusal ≡ 0
-unfolding offlineOf polledOf answerOf
+unfolding offlineOf polledOf stepAnswer
 offline-refusal s = refl

@@ -8,7 +8,7 @@ use borrow.Author.Tests.{ne-eqb, lt-leb, leb-false, eqb-true, eqb-false}
 use borrow.Table.Steps.{cases}
 use lib.ListN.{getD}
 use lib.Dec.{eqb, leb, lit<, lit≤}
-use Rattle.fields.specs.Fields.{fieldOf, bitAt, bitOf, unpack, Within}
+use Rattle.fields.specs.Fields.{fieldOf, bitAt, bitNumber, unpack, Within}
 use Rattle.fields.specs.Widths.{field-below}
 use Rattle.fields.specs.Laws.{unpack-put, put-unpack, put-below, bit-below, bit-read, bit-written}
 use Rattle.telegrams.specs.declared.ResponseState.{ResponseState}
@@ -17,17 +17,17 @@ use Rattle.telegrams.specs.declared.Telegram.{Telegram}
 use Rattle.telegrams.specs.declared.Telegram.the-variants.{Token, ShortConfirmation, Request, Response}
 use Rattle.telegrams.specs.declared.Decision.{Decision}
 use Rattle.telegrams.specs.declared.Decision.the-variants.{Decline, Send, SendExpectReply}
-use Rattle.telegrams.specs.Words.{stateNumber, stateOf, tokenWidths, shortWidths, requestWidths, responseWidths, telegramOf, zeroOr14, telegramRefusal, telegramWord, TelegramFits, declineWidths, sendWidths, decisionOf, lengthRefusal, decisionRefusal, decisionWord, DecisionFits}
+use Rattle.telegrams.specs.Words.{responseNumber, stateOf, tokenWidths, shortWidths, requestWidths, responseWidths, telegramOf, zeroOr14, telegramRefusal, telegramWord, TelegramFits, declineWidths, sendWidths, decisionOf, lengthRefusal, decisionRefusal, decisionWord, DecisionFits}
 
 -- the number of a station type is below 4
-pub state-below : (s : ResponseState) → stateNumber s < 2 ^ 2
+pub state-below : (s : ResponseState) → responseNumber s < 2 ^ 2
 state-below Slave = lit< tt
 state-below MasterNotReady = lit< tt
 state-below MasterWithoutToken = lit< tt
 state-below MasterInRing = lit< tt
 
 -- the number of a station type says the type
-pub state-read : (s : ResponseState) → stateOf (stateNumber s) ≡ s
+pub state-read : (s : ResponseState) → stateOf (responseNumber s) ≡ s
 unfolding stateOf
 state-read Slave = refl
 state-read MasterNotReady = refl
@@ -35,7 +35,7 @@ state-read MasterWithoutToken = refl
 state-read MasterInRing = refl
 
 -- a number of two bits is that of the type it says
-pub state-written : (n : ℕ) → n < 2 ^ 2 → stateNumber (stateOf n) ≡ n
+pub state-written : (n : ℕ) → n < 2 ^ 2 → responseNumber (stateOf n) ≡ n
 unfolding stateOf
 state-written n h =
     cases (eqb n 0) (λ a. rw a (sym (eqb-true n 0 a))) (λ a.
@@ -71,12 +71,12 @@ short-word w h e =
 request-word :
     (w d s : ℕ) (q : Bool)
     → w < 2 ^ 32
-    → unpack requestWidths w ≡ 2 ∷ d ∷ s ∷ bitOf q ∷ 0 ∷ []
+    → unpack requestWidths w ≡ 2 ∷ d ∷ s ∷ bitNumber q ∷ 0 ∷ []
     → (telegramOf w ≡ Request d s q) × (telegramRefusal w ≡ 0)
 unfolding telegramOf telegramRefusal zeroOr14
 request-word w d s q h e =
     let kind : fieldOf w 30 2 ≡ 2 = ap (λ l. getD l 0 0) e in
-    let asked : fieldOf w 15 1 ≡ bitOf q = ap (λ l. getD l 3 0) e in
+    let asked : fieldOf w 15 1 ≡ bitNumber q = ap (λ l. getD l 3 0) e in
     let zero : fieldOf w 0 15 ≡ 0 = ap (λ l. getD l 4 0) e in
     (rw (kind, ap (λ l. getD l 1 0) e, ap (λ l. getD l 2 0) e, asked, bit-read q), rw (lt-leb _ _ h, kind, zero))
 
@@ -84,7 +84,7 @@ request-word w d s q h e =
 response-word :
     (w d s : ℕ) (t : ResponseState) (n : ℕ)
     → w < 2 ^ 32
-    → unpack responseWidths w ≡ 3 ∷ d ∷ s ∷ 0 ∷ stateNumber t ∷ n ∷ 0 ∷ []
+    → unpack responseWidths w ≡ 3 ∷ d ∷ s ∷ 0 ∷ responseNumber t ∷ n ∷ 0 ∷ []
     → (telegramOf w ≡ Response d s t n) × (telegramRefusal w ≡ 0)
 unfolding telegramOf telegramRefusal zeroOr14
 response-word w d s t n h e =
@@ -107,11 +107,11 @@ telegram-read ShortConfirmation f =
     let within : Within shortWidths vs = (lit< tt, (lit< tt, tt)) in
     short-word _ (put-below shortWidths (lit≤ tt) vs within) (unpack-put shortWidths (lit≤ tt) vs within)
 telegram-read (Request d s q) f =
-    let vs : List ℕ = 2 ∷ d ∷ s ∷ bitOf q ∷ 0 ∷ [] in
+    let vs : List ℕ = 2 ∷ d ∷ s ∷ bitNumber q ∷ 0 ∷ [] in
     let within : Within requestWidths vs = (lit< tt, (f .0, (f .1, (bit-below q, (lit< tt, tt))))) in
     request-word _ d s q (put-below requestWidths (lit≤ tt) vs within) (unpack-put requestWidths (lit≤ tt) vs within)
 telegram-read (Response d s t n) f =
-    let vs : List ℕ = 3 ∷ d ∷ s ∷ 0 ∷ stateNumber t ∷ n ∷ 0 ∷ [] in
+    let vs : List ℕ = 3 ∷ d ∷ s ∷ 0 ∷ responseNumber t ∷ n ∷ 0 ∷ [] in
     let within : Within responseWidths vs = (lit< tt, (f .0, (f .1, (lit< tt, (state-below t, (f .2, (lit< tt, tt))))))) in
     response-word _ d s t n (put-below responseWidths (lit≤ tt) vs within) (unpack-put responseWidths (lit≤ tt) vs within)
 
@@ -152,7 +152,7 @@ telegram-written w h =
     let zero = zero-bits (fieldOf w 0 9) (rw (l, a, b, k, q) at h) in
     let kind : fieldOf w 30 2 ≡ 3 =
     omega (arith, field-below w 30 2, eqb-false (fieldOf w 30 2) 0 a, eqb-false (fieldOf w 30 2) 1 b, eqb-false (fieldOf w 30 2) 2 k) in
-    let asked : fieldOf w 15 1 ≡ 0 = sym (bit-written w 15) ∙ ap bitOf q in
+    let asked : fieldOf w 15 1 ≡ 0 = sym (bit-written w 15) ∙ ap bitNumber q in
     rw (a, b, k, state-written (fieldOf w 13 2) (field-below w 13 2)) (rw (kind, asked, zero) at (put-unpack responseWidths (lit≤ tt) w small)))))))
 
 -- a word whose fields are those of a decision that declines says it, and is accepted
@@ -246,7 +246,7 @@ decision-written w h = held (accepted w h .0) (accepted w h .1)
     one at b = eqb-true _ 1 b
 
     none : (at : ℕ) → bitAt w at ≡ false → fieldOf w at 1 ≡ 0
-    none at b = sym (bit-written w at) ∙ ap bitOf b
+    none at b = sym (bit-written w at) ∙ ap bitNumber b
 
     held : w < 2 ^ 24 → Accepted w → (decisionWord (decisionOf w) ≡ w) × DecisionFits (decisionOf w)
     held l (declines s z) = (rw s (rw (none 23 s, z) at (put-unpack declineWidths (lit≤ tt) w l)), rw s tt)

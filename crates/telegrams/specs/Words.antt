@@ -4,7 +4,7 @@ use Prim.Native.Nat.{ℕ, _^_, _<_}
 use mathlib.Core.List.{List, [], _∷_}
 use mathlib.Core.Bool.{cond}
 use lib.Dec.{eqb, leb}
-use Rattle.fields.specs.Fields.{fieldOf, bitAt, bitOf, putAll}
+use Rattle.fields.specs.Fields.{fieldOf, bitAt, bitNumber, putAll}
 use Rattle.telegrams.specs.declared.ResponseState.{ResponseState}
 use Rattle.telegrams.specs.declared.ResponseState.the-variants.{Slave, MasterNotReady, MasterWithoutToken, MasterInRing}
 use Rattle.telegrams.specs.declared.Telegram.{Telegram}
@@ -13,11 +13,11 @@ use Rattle.telegrams.specs.declared.Decision.{Decision}
 use Rattle.telegrams.specs.declared.Decision.the-variants.{Decline, Send, SendExpectReply}
 
 -- station type: 0 slave, 1 not ready, 2 without token, 3 in ring
-abbrev pub stateNumber : ResponseState → ℕ
-stateNumber Slave = 0
-stateNumber MasterNotReady = 1
-stateNumber MasterWithoutToken = 2
-stateNumber MasterInRing = 3
+abbrev pub responseNumber : ResponseState → ℕ
+responseNumber Slave = 0
+responseNumber MasterNotReady = 1
+responseNumber MasterWithoutToken = 2
+responseNumber MasterInRing = 3
 
 -- the station type of a number of two bits (of any other number in ring)
 unfoldable pub stateOf : ℕ → ResponseState
@@ -69,8 +69,8 @@ addressed kind destination source = putAll 0 (2 ∷ 7 ∷ 7 ∷ []) (kind ∷ de
 unfoldable pub telegramWord : Telegram → ℕ
 telegramWord (Token destination source) = putAll 0 tokenWidths (0 ∷ destination ∷ source ∷ 0 ∷ [])
 telegramWord ShortConfirmation = putAll 0 shortWidths (1 ∷ 0 ∷ [])
-telegramWord (Request destination source status) = putAll 0 requestWidths (2 ∷ destination ∷ source ∷ bitOf status ∷ 0 ∷ [])
-telegramWord (Response destination source state status) = putAll 0 responseWidths (3 ∷ destination ∷ source ∷ 0 ∷ stateNumber state ∷ status ∷ 0 ∷ [])
+telegramWord (Request destination source status) = putAll 0 requestWidths (2 ∷ destination ∷ source ∷ bitNumber status ∷ 0 ∷ [])
+telegramWord (Response destination source state status) = putAll 0 responseWidths (3 ∷ destination ∷ source ∷ 0 ∷ responseNumber state ∷ status ∷ 0 ∷ [])
 
 -- a telegram whose numbers fit their widths: addresses to 127, status to 15
 abbrev pub TelegramFits : Telegram → Type 0

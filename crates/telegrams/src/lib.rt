@@ -1,7 +1,7 @@
 // Document 01's telegram word of 32 bits and an application's decision of 24 bits: what each says, the refusal of a word that
 // no telegram or decision has, and the writer of each. Leans on the bit fields of `fields`.
 ghost use mathlib.Core.Path.{_≡_};
-ghost use Rattle.telegrams.specs.Words.{stateOf, stateNumber, telegramOf, telegramRefusal, telegramWord, decisionOf, decisionRefusal, decisionWord, zeroOr14, lengthRefusal, addressed};
+ghost use Rattle.telegrams.specs.Words.{stateOf, responseNumber, telegramOf, telegramRefusal, telegramWord, decisionOf, decisionRefusal, decisionWord, zeroOr14, lengthRefusal, addressed};
 use fields::bit;
 use fields::field;
 use fields::field_byte;
@@ -62,7 +62,7 @@ pub fn response_state(number: u8) -> ResponseState
 
 // The number of a station type.
 pub fn response_state_number(state: ResponseState) -> u8
-    ensures { λ r. ⌜ r ≡ stateNumber state ⌝ }
+    ensures { λ r. ⌜ r ≡ responseNumber state ⌝ }
 {
     match state {
         ResponseState::Slave => 0,

@@ -44,7 +44,8 @@ const OUTCOMES: [Outcome; 5] = [
     Outcome::Delay,
 ];
 
-const STATES: [State; 9] = [
+/// Every state, in the order of its number.
+pub const STATES: [State; 9] = [
     State::Offline,
     State::ListenToken,
     State::ActiveIdle,

@@ -1,10 +1,10 @@
 use borrow.Author.Needs.{needs}
-use Rattle.polling.specs.Polling.{answerOf}
+use Rattle.polling.specs.Polling.{stepAnswer}
 use Rattle.polling.proofs.answer_of.Statement.{statement}
 use Rattle.polling.proofs.answer_of.Tie as tie
 
 pub answer-of-spec : {M : Type 1} → statement M
-unfolding answerOf
+unfolding stepAnswer
 answer-of-spec =
     tie.close
     (tie.spec

@@ -4,7 +4,7 @@ use super::arrows::{Kind, KINDS};
 use super::layout::{LABEL, MARGIN};
 use super::shapes::{arrow_shape, notice_shape, pending_shape, refusal_shape};
 use super::svg::{text_width, Anchor, Px, Svg};
-use crate::answer::State;
+use crate::answer::{State, STATES};
 
 /// The style sheet. The colour of an arrow is its kind's.
 pub const STYLE: &str = "\
@@ -72,18 +72,7 @@ enum Sample {
 
 /// The samples and their words.
 fn samples() -> Vec<(Sample, String)> {
-    let states = [
-        State::Offline,
-        State::ListenToken,
-        State::ActiveIdle,
-        State::UseToken,
-        State::ClaimToken,
-        State::AwaitDataResponse,
-        State::PassToken,
-        State::CheckTokenPass,
-        State::AwaitStatusResponse,
-    ];
-    let mut samples: Vec<(Sample, String)> = states
+    let mut samples: Vec<(Sample, String)> = STATES
         .iter()
         .map(|&state| (Sample::State(state), format!("{:?}", state)))
         .collect();
