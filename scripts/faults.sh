@@ -54,5 +54,9 @@ expect "replay on 4,110 bytes, cut inside a poll record" \
     "$({ printf "$header" && head -c 4079 /dev/zero && printf '\x0e' && head -c 14 /dev/zero; } | replay)" "4079 17"
 said=$(replay 2>&1 <traces/example12.trace >&-)
 expect "replay with its output closed" "$said" "replay: the answers could not all be written"
-replay <traces/example12.trace | head -n 1 >/dev/null
-echo "faults: replay whose reader goes away ends with status ${PIPESTATUS[0]}"
+# The reader is gone before replay writes. The signal of a broken pipe is ignored, so that replay meets the error itself.
+exec 3> >(:)
+wait $!
+said=$(trap '' PIPE && replay 2>&1 <traces/example12.trace >&3)
+exec 3>&-
+expect "replay whose reader is gone" "$said" "replay: the answers could not all be written"
