@@ -1,6 +1,6 @@
 -- A header's refusal is a number of document 01's table, at most 17. Assumes nothing.
 use Prim.Native.Nat.{ℕ, _^_, _≤_}
-use mathlib.Core.Bool.{Bool, true, false, cond, _&&_, _||_}
+use mathlib.Core.Bool.{_&&_, _||_}
 use mathlib.Core.List.{List}
 use lib.ListN.{length}
 use lib.Dec.{leb, eqb, lit≤}
@@ -16,29 +16,29 @@ use Rattle.settings.specs.Settings.{belowOf, outsideOf, factorsRefusal, first, 
 use Rattle.station.specs.declared.Started.{Started}
 use Rattle.station.specs.declared.Started.the-variants as started
 use Rattle.station.specs.Parts.{newOf}
+use Rattle.sound.specs.Keeps.{either}
 use Rattle.trace.specs.declared.Header.{Header}
 use Rattle.trace.specs.Trace.{headerOf, applicationsRefusal, zeroRefusal, lateRefusal, headerRefusalOn, headerRefusal, startedAfter, startedOf, startOf}
 
--- a choice of two numbers is at most 17 where both are
-either : (test : Bool) (a b : ℕ) → a ≤ 17 → b ≤ 17 → cond test a b ≤ 17
-either true a b h l = h
-either false a b h l = l
+-- a number of document 01's table that a trace may end with before its first entry
+abbrev Number : ℕ → Type 0
+Number n = n ≤ 17
 
 -- the first refusal of two is
 first-small : (n rest : ℕ) → n ≤ 17 → rest ≤ 17 → first n rest ≤ 17
-first-small n rest h l = either (eqb n 0) rest n l h
+first-small n rest h l = either Number (eqb n 0) rest n l h
 
 below-small : (low v n : ℕ) → n ≤ 17 → belowOf low v n ≤ 17
 unfolding belowOf
-below-small low v n h = either (leb low v) 0 n (lit≤ tt) h
+below-small low v n h = either Number (leb low v) 0 n (lit≤ tt) h
 
 outside-small : (low v high n : ℕ) → n ≤ 17 → outsideOf low v high n ≤ 17
 unfolding outsideOf
-outside-small low v high n h = either (leb low v && leb v high) 0 n (lit≤ tt) h
+outside-small low v high n h = either Number (leb low v && leb v high) 0 n (lit≤ tt) h
 
 factors-small : (f1 f2 : ℕ) → factorsRefusal f1 f2 ≤ 17
 unfolding factorsRefusal
-factors-small f1 f2 = either (eqb f1 0) _ _ (either (eqb f2 0) 0 8 (lit≤ tt) (lit≤ tt)) (either (eqb f2 0) 8 0 (lit≤ tt) (lit≤ tt))
+factors-small f1 f2 = either Number (eqb f1 0) _ _ (either Number (eqb f2 0) 0 8 (lit≤ tt) (lit≤ tt)) (either Number (eqb f2 0) 8 0 (lit≤ tt) (lit≤ tt))
 
 -- so are the settings' refusals
 rest-small : (f : Fields) (baud : Baud) → restRefusal f baud ≤ 17
@@ -58,37 +58,29 @@ coded-small f Unknown = lit≤ tt
 
 settings-small : (f : Fields) → firstRefusal f ≤ 17
 unfolding firstRefusal
-settings-small f = either (leb (f .address) 125) _ 1 (coded-small f (baudOf (f .«baud_code»))) (lit≤ tt)
+settings-small f = either Number (leb (f .address) 125) _ 1 (coded-small f (baudOf (f .«baud_code»))) (lit≤ tt)
 
 -- and a header's
 late-small : (h : Header) (n : ℕ) → n ≤ 17 → lateRefusal h n ≤ 17
 unfolding lateRefusal applicationsRefusal zeroRefusal
 late-small h n l =
-    first-small _ _ (either (leb 1 (h .applications) && leb (h .applications) 8) 0 11 (lit≤ tt) (lit≤ tt))
-    (first-small n _ l (either (eqb (h .«zero_bits») 0) 0 14 (lit≤ tt) (lit≤ tt)))
+    first-small _ _ (either Number (leb 1 (h .applications) && leb (h .applications) 8) 0 11 (lit≤ tt) (lit≤ tt))
+    (first-small n _ l (either Number (eqb (h .«zero_bits») 0) 0 14 (lit≤ tt) (lit≤ tt)))
 
 header-small : (h : Header) → headerRefusal h ≤ 17
 unfolding headerRefusal headerRefusalOn
 header-small h =
-    either (eqb (firstRefusal (h .settings)) 0 || eqb (firstRefusal (h .settings)) 8) _ _ (late-small h _ (settings-small (h .settings))) (settings-small (h .settings))
+    either Number (eqb (firstRefusal (h .settings)) 0 || eqb (firstRefusal (h .settings)) 8) _ _ (late-small h _ (settings-small (h .settings))) (settings-small (h .settings))
 
 -- a start that is refused is refused with at most 17
 abbrev pub Small : Started → Type 0
 Small (started.Accepted s) = Unit {0}
 Small (started.Refused n) = n ≤ 17
 
-either-start : (test : Bool) (a b : Started) → Small a → Small b → Small (cond test a b)
-either-start true a b h l = h
-either-start false a b h l = l
-
 -- a build that is refused is
 abbrev SmallBuilt : Created → Type 0
 SmallBuilt (created.Accepted p) = Unit {0}
 SmallBuilt (created.Refused n) = n ≤ 17
-
-either-built : (test : Bool) (a b : Created) → SmallBuilt a → SmallBuilt b → SmallBuilt (cond test a b)
-either-built true a b h l = h
-either-built false a b h l = l
 
 at-small : (f : Fields) (x : Coded) → SmallBuilt (builtAt f x)
 unfolding builtAt
@@ -97,11 +89,11 @@ at-small f Unknown = lit≤ tt
 
 build-small : (f : Fields) → SmallBuilt (buildOf f)
 unfolding buildOf
-build-small f = either-built (eqb (firstRefusal f) 0) _ _ (at-small f (baudOf (f .«baud_code»))) (settings-small f)
+build-small f = either SmallBuilt (eqb (firstRefusal f) 0) _ _ (at-small f (baudOf (f .«baud_code»))) (settings-small f)
 
 new-small : (p : Parameters) (n : ℕ) → Small (newOf p n)
 unfolding newOf
-new-small p n = either-start (leb 1 n && leb n 8) _ _ tt (lit≤ tt)
+new-small p n = either Small (leb 1 n && leb n 8) _ _ tt (lit≤ tt)
 
 after-small : (x : Created) (n : ℕ) → SmallBuilt x → Small (startedAfter x n)
 unfolding startedAfter
@@ -111,9 +103,9 @@ after-small (created.Refused k) n h = h
 started-small : (h : Header) → Small (startedOf h)
 unfolding startedOf
 started-small h =
-    either-start (eqb (headerRefusal h) 0) _ _ (after-small (buildOf (h .settings)) (h .applications) (build-small (h .settings))) (header-small h)
+    either Small (eqb (headerRefusal h) 0) _ _ (after-small (buildOf (h .settings)) (h .applications) (build-small (h .settings))) (header-small h)
 
 -- a trace whose header is refused ends with at most 17
 pub start-small : (trace : List ℕ) → Small (startOf trace)
 unfolding startOf
-start-small trace = either-start (leb 16 (length trace) && leb (length trace) (2 ^ 32)) _ _ (started-small (headerOf trace)) (lit≤ tt)
+start-small trace = either Small (leb 16 (length trace) && leb (length trace) (2 ^ 32)) _ _ (started-small (headerOf trace)) (lit≤ tt)

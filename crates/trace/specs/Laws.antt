@@ -12,6 +12,7 @@ use borrow.Table.Steps.{cases}
 use lib.ListN.{length, getD, take, drop, take-append-drop, length-drop, length-append, length-take, drop-of-length-le}
 use lib.Seq.{length-take-le, take-all, drop-drop, drop-cons, paste, length-paste, take-paste, drop-paste}
 use lib.Dec.{T, leb, lit≤}
+use Rattle.bit_times.specs.Laws.{and-true}
 use Rattle.fields.specs.Fields.{bytesOf, storedOf}
 use Rattle.fields.specs.Laws.{stored-room}
 use Rattle.answers.specs.declared.Answer.{Answer}
@@ -63,18 +64,11 @@ passed : (test : Bool) (x : Started) (s : Station) → cond test x (started.Refu
 passed true x s e = refl
 passed false x s e = absurd (subst T (ap isStarted (sym e)) tt)
 
--- two tests that hold together hold each
-both : (a b : Bool) → (a && b) ≡ true → (a ≡ true) × (b ≡ true)
-both true true e = (refl, refl)
-both true false e = absurd (subst T (sym e) tt)
-both false true e = absurd (subst T (sym e) tt)
-both false false e = absurd (subst T (sym e) tt)
-
 -- a station starts only from a trace that has its header and no more than 2^32 bytes
 pub start-long : (trace : List ℕ) (s : Station) → startOf trace ≡ started.Accepted s → (16 ≤ length trace) × (length trace ≤ 2 ^ 32)
 unfolding startOf
 start-long trace s e =
-    let h = both _ _ (passed _ (startedOf (headerOf trace)) s e) in
+    let h = and-true _ _ (passed _ (startedOf (headerOf trace)) s e) in
     (leb-true _ _ (h .0), leb-true _ _ (h .1))
 
 -- answers after answers are written after them
