@@ -79,10 +79,14 @@ build_replay() {
     quietly "the program replay was not proved" rt check replay
 }
 
-# Proves the library and writes target/staticlib/libtrace.a.
+# Proves the library and writes target/staticlib/libtrace.a, if it is not there yet of the sources as they are: rt's stamp of
+# a proved crate is a sum over its files, those of the crates under it and the toolchain.
 build_staticlib() {
     need_rt
+    quietly "the library trace was not proved" rt check trace
+    [ -f target/staticlib/libtrace.a ] && cmp -s target/stamp/trace target/staticlib/stamp && return
     quietly "the library trace was not proved" rt staticlib trace
+    cp target/stamp/trace target/staticlib/stamp 2>/dev/null
 }
 
 # host_cargo WORD..: cargo on the package of hosts/rust, in a folder of its own for each library linked or not.

@@ -9,7 +9,11 @@ pub mod Records
 pub mod Answers
 pub mod Station
 pub mod Holding
+pub mod HearListenToken
+pub mod HearActiveIdle
 pub mod Listening
 pub mod Passing
+pub mod Commands
 pub mod Polling
+pub mod Headers
 pub mod Trace

@@ -32,6 +32,8 @@ use Rattle.station.proofs.token_lost.Reads as token-lost-reads
 use Rattle.station.proofs.done.Reads as done-reads
 use Rattle.station.proofs.transmit.Reads as transmit-reads
 use Rattle.station.proofs.do_claim_token.Reads as do-claim-token-reads
+use Rattle.station.proofs.hearing.Reads as hearing-reads
+use Rattle.station.proofs.is_request_to_us.Reads as is-request-to-us-reads
 
 pub with-state : Determined with-state-reads.Post
 with-state κs a r₁ r₂ s₁ s₂ p q = p ∙ sym q
@@ -125,3 +127,9 @@ transmit κs a r₁ r₂ s₁ s₂ p q = p ∙ sym q
 
 pub do-claim-token : Determined do-claim-token-reads.Post
 do-claim-token κs a r₁ r₂ s₁ s₂ p q = p ∙ sym q
+
+pub hearing : Determined hearing-reads.Post
+hearing κs a r₁ r₂ s₁ s₂ p q = p ∙ sym q
+
+pub is-request-to-us : Determined is-request-to-us-reads.Post
+is-request-to-us κs a r₁ r₂ s₁ s₂ p q = p ∙ sym q

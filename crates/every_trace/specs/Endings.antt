@@ -17,8 +17,9 @@ use Rattle.station.specs.declared.Started.{Started}
 use Rattle.station.specs.declared.Started.the-variants as started
 use Rattle.station.specs.Parts.{newOf}
 use Rattle.sound.specs.Keeps.{either}
-use Rattle.trace.specs.declared.Header.{Header}
-use Rattle.trace.specs.Trace.{headerOf, applicationsRefusal, zeroRefusal, lateRefusal, headerRefusalOn, headerRefusal, startedAfter, startedOf, startOf}
+use Rattle.headers.specs.declared.Header.{Header}
+use Rattle.headers.specs.Headers.{headerOf, applicationsRefusal, zeroRefusal, lateRefusal, headerRefusalOn, headerRefusal}
+use Rattle.trace.specs.Trace.{startedAfter, startedOf, startOf}
 
 -- a number of document 01's table that a trace may end with before its first entry
 abbrev Number : ℕ → Type 0

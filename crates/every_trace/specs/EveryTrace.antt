@@ -13,7 +13,8 @@ use Rattle.answers.specs.declared.Answer.{Answer}
 use Rattle.station.specs.declared.Station.{Station}
 use Rattle.station.specs.declared.Started.{Started}
 use Rattle.station.specs.declared.Started.the-variants as started
-use Rattle.polling.specs.Polling.{pollOf, passiveOf}
+use Rattle.polling.specs.Polling.{pollOf}
+use Rattle.commands.specs.Commands.{passiveOf}
 use Rattle.sound.specs.Unchanged.{poll-unchanged, passive-unchanged, online-refusal, offline-refusal}
 use Rattle.trace.specs.Trace.{startOf, recordLength, entryOf, Run, ended, answered, runFrom, runOf, Replay, ranOf, replayOn, replayOf, numberOf, written, bufferOf}
 use Rattle.trace.specs.Laws.{after, replay-started, replay-refused, run-none, run-more}

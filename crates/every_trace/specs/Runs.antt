@@ -14,7 +14,7 @@ use Rattle.fields.specs.Fields.{bytesOf}
 use Rattle.answers.specs.declared.Answer.{Answer}
 use Rattle.answers.specs.Answers.{answerWord}
 use Rattle.station.specs.declared.Station.{Station}
-use Rattle.polling.specs.declared.Polled.{Polled}
+use Rattle.commands.specs.declared.Polled.{Polled}
 use Rattle.trace.specs.Trace.{recordLength, entryOf, Run, ended, answered, runFrom, runOf, written}
 use Rattle.trace.specs.Laws.{after, run-none, run-cut, run-full, run-more}
 

@@ -3,9 +3,9 @@
 // byte each, and then for each poll a byte with the record's length and the record. It leans on polling and what lies
 // below it.
 ghost use Prim.Native.Nat.{_≤_};
+use commands::Polled;
 use libc::STDIN_FILENO;
 use libc::STDOUT_FILENO;
-use polling::Polled;
 use settings::Created;
 use settings::Parameters;
 use station::Started;
@@ -23,7 +23,7 @@ fn cut(length: u8, rest: usize) -> usize
 
 // The station after all polls, and the last answer.
 fn poll_all(start: Station, s: &[u8]) -> Polled {
-    let mut polled = polling::set_online(start);
+    let mut polled = commands::set_online(start);
     let mut at: usize = 2;
     while at < s.len() {
         let from = at + 1;

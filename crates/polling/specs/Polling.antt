@@ -1,28 +1,26 @@
--- The public calls: poll_inner and poll, then the commands. `bytes` is the poll record, n the number of applications, count that of telegrams.
+-- A poll: poll_inner, then poll. `bytes` is the poll record, n the number of applications, count that of telegrams.
 use Prim.Native.Nat.{ℕ}
-use mathlib.Core.Bool.{Bool, true, false, cond}
+use mathlib.Core.Bool.{Bool, cond}
 use mathlib.Core.List.{List}
 use lib.Dec.{eqb}
 use Rattle.bit_times.specs.declared.Micros.{Micros}
 use Rattle.settings.specs.declared.Parameters.{Parameters}
 use Rattle.ring.specs.declared.Ring.{Ring}
-use Rattle.ring.specs.Ring.{nextOf, freshOf}
 use Rattle.records.specs.declared.Head.{Head}
 use Rattle.records.specs.Records.{headOf, recordRefusal}
 use Rattle.answers.specs.declared.Outcome.the-variants as outcome
-use Rattle.answers.specs.declared.Answer.{Answer}
-use Rattle.answers.specs.Answers.{refusedOf}
 use Rattle.station.specs.declared.State.{State}
 use Rattle.station.specs.declared.State.the-variants.{Offline, ListenToken, ActiveIdle, UseToken, ClaimToken, AwaitDataResponse, PassToken, CheckTokenPass, AwaitStatusResponse}
 use Rattle.station.specs.declared.Core.{Core}
 use Rattle.station.specs.declared.Station.{Station}
 use Rattle.station.specs.declared.RingStep.{RingStep}
-use Rattle.station.specs.Parts.{withActivity, withOnline, stateNumber, freshCore}
+use Rattle.station.specs.Parts.{withActivity}
 use Rattle.station.specs.Steps.{toListenToken, markedAt, ongoingOf, busActivityOf, doneOf, claimTokenOf}
 use Rattle.holding.specs.Holding.{useTokenOf, awaitDataOf}
 use Rattle.listening.specs.Listening.{listenTokenOf, activeIdleOf}
 use Rattle.passing.specs.Passing.{passTokenOf, awaitStatusOf, checkTokenPassOf}
-use Rattle.polling.specs.declared.Polled.{Polled}
+use Rattle.commands.specs.declared.Polled.{Polled}
+use Rattle.commands.specs.Commands.{polledOf, refusedPoll}
 
 -- poll_inner, online: from Offline the station goes to ListenToken
 unfoldable pub connectedOn : State → Core → Core
@@ -58,7 +56,8 @@ dispatchOn (AwaitStatusResponse address) p c ring now bytes n count = awaitStatu
 unfoldable pub dispatchOf : Parameters → Core → Ring → Micros → List ℕ → ℕ → ℕ → RingStep
 dispatchOf p c ring now bytes n count = dispatchOn (c .state) p c ring now bytes n count
 
--- poll_inner, online: while a transmission goes on nothing is sent or consumed; else bus activity, then the state
+-- poll_inner, check_for_ongoing_transmision: while a transmission goes on nothing is sent or consumed; else bus activity, then
+-- the state
 unfoldable pub pollOnline : Parameters → Core → Ring → Micros → Bool → ℕ → List ℕ → ℕ → ℕ → RingStep
 pollOnline p c ring now transmitting pending bytes n count =
     cond (ongoingOf (c .«last_bus_activity») now transmitting)
@@ -70,30 +69,6 @@ unfoldable pub pollInner : Parameters → Core → Ring → Micros → Bool → 
 pollInner p c ring now transmitting pending bytes n count =
     cond (c .online) (pollOnline p (connectedOf c) ring now transmitting pending bytes n count)
     (record { step = doneOf c outcome.Offline; ring = ring })
-
--- document 01: the answer of an entry that is not refused, with the state, next application and next station after it
-unfoldable pub stepAnswer : RingStep → Answer
-stepAnswer s =
-    record {
-      refusal = 0;
-      outcome = s .step .outcome;
-      state = stateNumber (s .step .core .state);
-      sent = s .step .sent;
-      consumed = s .step .consumed;
-      notice = s .step .notice;
-      «next_application» = s .step .core .«next_application»;
-      «next_station» = nextOf (s .ring);
-    }
-
--- the station after a step, and the answer
-unfoldable pub polledOf : Parameters → ℕ → RingStep → Polled
-polledOf p n s =
-    record { station = record { core = s .step .core; «token_ring» = s .ring; p = p; applications = n }; answer = stepAnswer s }
-
--- a refused entry: the station is unchanged
-unfoldable pub refusedPoll : Station → ℕ → Polled
-refusedPoll s refusal =
-    record { station = s; answer = refusedOf refusal (stateNumber (s .core .state)) (s .core .«next_application») (nextOf (s .«token_ring»)) }
 
 -- a poll whose record is not refused, by the record's first 64 bits
 unfoldable pub acceptedAfter : Station → List ℕ → Head → Polled
@@ -109,17 +84,3 @@ acceptedPoll s bytes = acceptedAfter s bytes (headOf bytes)
 unfoldable pub pollOf : Station → List ℕ → Polled
 pollOf s bytes =
     cond (eqb (recordRefusal bytes (s .applications)) 0) (acceptedPoll s bytes) (refusedPoll s (recordRefusal bytes (s .applications)))
-
--- set_online, set_state: all else stays
-unfoldable pub onlineOf : Station → Polled
-onlineOf s =
-    polledOf (s .p) (s .applications) (record { step = doneOf (withOnline (s .core) true) outcome.None; ring = s .«token_ring» })
-
--- set_offline, set_state: a fresh station
-unfoldable pub offlineOf : Station → Polled
-offlineOf s =
-    polledOf (s .p) (s .applications) (record { step = doneOf freshCore outcome.None; ring = freshOf (s .p .address) })
-
--- set_passive, set_state: refused with 16
-unfoldable pub passiveOf : Station → Polled
-passiveOf s = refusedPoll s 16

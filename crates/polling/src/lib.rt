@@ -1,25 +1,18 @@
-// The station's public calls besides Station::new: a poll, online, offline and passive, each with its answer. From
-// profirust's active.rs: poll_inner, set_online, set_offline, set_passive; the answer is document 01's. It leans on all of
-// the station's crates.
+// A poll of the station with its answer. From profirust's active.rs: poll_inner and poll_multi; the answer is document 01's.
+// It leans on all of the station's crates: on those of its states for what a poll does, on commands for what it hands back.
 ghost use mathlib.Core.Path.{_≡_};
 ghost use Prim.Native.Nat.{_<_, _^_};
 ghost use denote.Ref.{now as contents};
-ghost use Rattle.polling.specs.Polling.{connectedOf, dispatchOf, pollOnline, pollInner, stepAnswer, polledOf, refusedPoll, acceptedPoll, pollOf, onlineOf, offlineOf, passiveOf};
-use answers::Answer;
+ghost use Rattle.polling.specs.Polling.{connectedOf, dispatchOf, pollOnline, pollInner, acceptedPoll, pollOf};
 use answers::Outcome;
 use bit_times::Micros;
+use commands::Polled;
 use ring::Ring;
 use settings::Parameters;
 use station::Core;
 use station::RingStep;
 use station::State;
 use station::Station;
-
-// What a call hands back: the station after it, and the answer.
-pub struct Polled {
-    pub station: Station,
-    pub answer: Answer,
-}
 
 // poll_inner: a station that was put online starts listening.
 fn poll_inner_connected(core: Core) -> Core
@@ -196,63 +189,6 @@ fn poll_inner(
     }
 }
 
-// The answer of an entry that is not refused.
-fn answer_of(stepped: RingStep) -> Answer
-    ensures { λ r. ⌜ r ≡ stepAnswer stepped ⌝ }
-{
-    let ring = stepped.ring;
-    let step = stepped.step;
-    let core = step.core;
-    let state = core.state;
-    let outcome = step.outcome;
-    let sent = step.sent;
-    let notice = step.notice;
-    Answer {
-        refusal: 0,
-        outcome,
-        state: station::state_number(state),
-        sent,
-        consumed: step.consumed,
-        notice,
-        next_application: core.next_application,
-        next_station: ring.next_station(),
-    }
-}
-
-// The station after a step, with the step's answer.
-fn poll_done(p: Parameters, applications: u8, stepped: RingStep) -> Polled
-    ensures { λ r. ⌜ r ≡ polledOf p applications stepped ⌝ }
-{
-    let step = stepped.step;
-    let core = step.core;
-    let token_ring = stepped.ring;
-    Polled {
-        station: Station {
-            core,
-            token_ring,
-            p,
-            applications,
-        },
-        answer: answer_of(stepped),
-    }
-}
-
-// A refused entry leaves the station as it was.
-fn refused(station: Station, refusal: u8) -> Polled
-    ensures { λ r. ⌜ r ≡ refusedPoll station refusal ⌝ }
-{
-    let core = station.core;
-    let state = core.state;
-    let ring = station.token_ring;
-    let answer = answers::refused(
-        refusal,
-        station::state_number(state),
-        core.next_application,
-        ring.next_station(),
-    );
-    Polled { station, answer }
-}
-
 // A poll whose record is not refused.
 fn poll_accepted(station: Station, bytes: &[u8]) -> Polled
     ensures { λ r. ⌜ r ≡ acceptedPoll station (contents (bytes .entry)) ⌝ }
@@ -273,7 +209,7 @@ fn poll_accepted(station: Station, bytes: &[u8]) -> Polled
         applications,
         head.telegrams,
     );
-    poll_done(p, applications, stepped)
+    commands::poll_done(p, applications, stepped)
 }
 
 // poll_multi, on a poll record. Refusals 12 to 15.
@@ -284,38 +220,5 @@ pub fn poll(station: Station, bytes: &[u8]) -> Polled
     if refusal == 0 {
         return poll_accepted(station, bytes);
     }
-    refused(station, refusal)
-}
-
-// set_online.
-pub fn set_online(station: Station) -> Polled
-    ensures { λ r. ⌜ r ≡ onlineOf station ⌝ }
-{
-    let core = station.core;
-    let ring = station.token_ring;
-    let p = station.p;
-    let stepped = RingStep {
-        step: station::done(station::with_online(core, true), Outcome::None),
-        ring,
-    };
-    poll_done(p, station.applications, stepped)
-}
-
-// set_offline: a fresh station with the same settings and applications.
-pub fn set_offline(station: Station) -> Polled
-    ensures { λ r. ⌜ r ≡ offlineOf station ⌝ }
-{
-    let p = station.p;
-    let stepped = RingStep {
-        step: station::done(station::fresh_core(), Outcome::None),
-        ring: Ring::fresh(p.address),
-    };
-    poll_done(p, station.applications, stepped)
-}
-
-// set_passive. Refusal 16, always.
-pub fn set_passive(station: Station) -> Polled
-    ensures { λ r. ⌜ r ≡ passiveOf station ⌝ }
-{
-    refused(station, 16)
+    commands::refused(station, refusal)
 }

@@ -35,8 +35,9 @@ use Rattle.station.specs.Parts.{withState, withActivity, withTokenTimes, withNe
 use Rattle.station.specs.Steps.{withTokenTime, toPassToken, toAwaitDataResponse, markedAt, busyOf, pauseOf, doneOf, transmitOf}
 use Rattle.holding.specs.declared.Asked.{Asked}
 use Rattle.holding.specs.Holding.{declinesAt, usePassOf, appTransmitOf, askedFrom, askedOf, holdEndOf, holdsOf, useAppsAfter, useAppsOf, useTokenAfter, useTokenTimed, useTokenOf}
-use Rattle.polling.specs.declared.Polled.{Polled}
-use Rattle.polling.specs.Polling.{connectedOn, connectedOf, dispatchOn, dispatchOf, polledOf, stepAnswer, pollOf}
+use Rattle.commands.specs.declared.Polled.{Polled}
+use Rattle.polling.specs.Polling.{connectedOn, connectedOf, dispatchOn, dispatchOf, pollOf}
+use Rattle.commands.specs.Commands.{polledOf, stepAnswer}
 use Rattle.silence.specs.Silence.{AllQuiet, told, sentUntil, countedIn, slotAfter, tokens}
 use Rattle.silence.specs.Times.{Slotted, slotted, counted-free, counted-paused}
 use Rattle.silence.specs.Phases.{Phase, starting, checking, holding, next, todo, Under, todo-next, tokens-length}

@@ -16,7 +16,8 @@ use Rattle.station.specs.declared.Station.{Station}
 use Rattle.station.specs.declared.Started.{Started}
 use Rattle.station.specs.declared.Started.the-variants as started
 use Rattle.station.specs.Parts.{freshStation, newOf}
-use Rattle.polling.specs.Polling.{polledOf, refusedPoll, acceptedAfter, acceptedPoll, pollOf, onlineOf, offlineOf, passiveOf}
+use Rattle.commands.specs.Commands.{polledOf, refusedPoll, onlineOf, offlineOf, passiveOf}
+use Rattle.polling.specs.Polling.{acceptedAfter, acceptedPoll, pollOf}
 use Rattle.sound.specs.Sound.{Call, poll, offline, passive, after, run, SoundStation, SoundRun, every-station-sound}
 use Rattle.sound.specs.Sound as call
 use Rattle.silence.specs.Silence.{Start, online, gapDue}

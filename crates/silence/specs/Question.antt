@@ -22,8 +22,9 @@ use Rattle.station.specs.declared.Station.{Station}
 use Rattle.station.specs.Parts.{withActivity, withGap}
 use Rattle.station.specs.Steps.{pauseOf, transmitOf}
 use Rattle.passing.specs.Passing.{gapAdvanced, passPollOn, passPoll, passAfter, passTokenOf}
-use Rattle.polling.specs.declared.Polled.{Polled}
-use Rattle.polling.specs.Polling.{polledOf, stepAnswer, pollOf}
+use Rattle.commands.specs.declared.Polled.{Polled}
+use Rattle.commands.specs.Commands.{polledOf, stepAnswer}
+use Rattle.polling.specs.Polling.{pollOf}
 use Rattle.silence.specs.Silence.{asksOn, gapDue, online, Quiet, slotAfter, counted}
 use Rattle.silence.specs.Times.{Slotted, slotted, counted-free, counted-paused}
 use Rattle.silence.specs.OnePoll.{quietStep, dispatch-pass}

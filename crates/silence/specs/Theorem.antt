@@ -26,7 +26,8 @@ use Rattle.station.specs.declared.Station.{Station}
 use Rattle.station.specs.declared.RingStep.{RingStep}
 use Rattle.station.specs.Parts.{stateNumber}
 use Rattle.station.specs.Steps.{ongoingOf, busActivityOf, doneOf}
-use Rattle.polling.specs.Polling.{connectedOn, connectedOf, pollOnline, pollInner, polledOf, acceptedAfter, acceptedPoll, pollOf, stepAnswer}
+use Rattle.polling.specs.Polling.{connectedOn, connectedOf, pollOnline, pollInner, acceptedAfter, acceptedPoll, pollOf}
+use Rattle.commands.specs.Commands.{polledOf, stepAnswer}
 use Rattle.silence.specs.Silence.{Start, Quiet, AllQuiet, holdsToken, until, told, sentUntil, counted, countedIn, slotAfter, Theorem}
 use Rattle.silence.specs.Times.{Slotted, slotted}
 use Rattle.silence.specs.Phases.{Phase, starting, checking, holding, next, receiver, todo, inRing, Under, todo-next, todo-some, tokens-length, advance, ring-after}

@@ -48,10 +48,11 @@ use Rattle.station.specs.Parts.{withState, withActivity, withGap, withNextAppli
 use Rattle.station.specs.Steps.{ongoingOf, pauseOf, slotExpiredOf, tokenLostWaitOf, doneOf, transmitOf, claimAfter, claimTokenOf}
 use Rattle.holding.specs.declared.Asked.{Asked}
 use Rattle.holding.specs.Holding.{validResponse, holdsOf, askedOf, appTransmitOf, usePassOf, useAppsAfter, useAppsOf, useTokenAfter, useTokenTimed, useTokenOf, receivedOf, withNotice, timeoutOf, awaitDataAfter, awaitDataOf}
-use Rattle.listening.specs.declared.Heard.{Heard}
+use Rattle.station.specs.declared.Heard.{Heard}
 use Rattle.listening.specs.Listening.{lostTokenOf, listenResponseAfter, listenResponse, consumedAll, listenTokenOn, listenTokenAfter, listenTokenOf, activeResponseAfter, activeResponse, activeIdleOn, activeIdleAfter, activeIdleOf}
 use Rattle.passing.specs.Passing.{passSent, passSend, passPollOn, passPoll, passAfter, passTokenOf, statusAnswered, statusUnexpected, statusReceived, statusTimeout, awaitStatusAfter, awaitStatusOf, resendOf, checkReceived, checkAfter, checkTokenPassOf}
-use Rattle.polling.specs.Polling.{dispatchOn, dispatchOf, pollOnline, pollInner, stepAnswer, polledOf, refusedPoll, acceptedAfter, acceptedPoll, pollOf, onlineOf, offlineOf, passiveOf}
+use Rattle.polling.specs.Polling.{dispatchOn, dispatchOf, pollOnline, pollInner, acceptedAfter, acceptedPoll, pollOf}
+use Rattle.commands.specs.Commands.{stepAnswer, polledOf, refusedPoll, onlineOf, offlineOf, passiveOf}
 use Rattle.sound.specs.Keeps.{Low, Addressed, GapAddressed, RingGood, Below, Good, either, again-good, remove-good, waited-good, state-good, online-good, again-core-good, done-good, bus-good}
 use Rattle.sound.specs.Holding.{AskedGood, asked-good, hold-good}
 use Rattle.sound.specs.Passing.{advanced-good}

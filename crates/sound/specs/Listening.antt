@@ -17,8 +17,11 @@ use Rattle.station.specs.declared.State.{State}
 use Rattle.station.specs.declared.State.the-variants.{Offline, ListenToken, ActiveIdle, UseToken, ClaimToken, AwaitDataResponse, PassToken, CheckTokenPass, AwaitStatusResponse}
 use Rattle.station.specs.declared.Core.{Core}
 use Rattle.station.specs.declared.Waited.{Waited}
-use Rattle.listening.specs.declared.Heard.{Heard}
-use Rattle.listening.specs.Listening.{remembers, heardOf, lostTokenOf, listenAnswered, listenResponseAfter, listenResponse, collided, listened, listenHeard, listenTelegramOn, listenTelegram, activeCollided, acceptedOf, tokenToUs, tokenWitnessed, tokenHeard, activeRequested, activeHeard, handleTelegramOn, handleTelegram, heardTelegram, heardAll, receivedAll, consumedAll, listenTokenOn, listenTokenAfter, listenTokenOf, activeResponseAfter, activeResponse, activeIdleOn, activeIdleAfter, activeIdleOf}
+use Rattle.station.specs.declared.Heard.{Heard}
+use Rattle.hear_active_idle.specs.HearActiveIdle.{remembers, activeCollided, acceptedOf, tokenToUs, tokenWitnessed, tokenHeard, activeRequested, activeHeard, handleTelegramOn, handleTelegram}
+use Rattle.station.specs.Steps.{heardOf}
+use Rattle.listening.specs.Listening.{lostTokenOf, listenAnswered, listenResponseAfter, listenResponse, heardTelegram, heardAll, receivedAll, consumedAll, listenTokenOn, listenTokenAfter, listenTokenOf, activeResponseAfter, activeResponse, activeIdleOn, activeIdleAfter, activeIdleOf}
+use Rattle.hear_listen_token.specs.HearListenToken.{collided, listened, listenHeard, listenTelegramOn, listenTelegram}
 use Rattle.sound.specs.Keeps.{Low, Addressed, RingGood, Below, Good, either, telegram-low, again-good, witness-good, waited-good, state-good, rx-good, listen-good, idle-good, use-good, claiming-good, again-core-good, done-good, transmit-good, claim-token-good}
 
 -- what the telegrams of a poll keep

@@ -21,8 +21,9 @@ use Rattle.station.specs.declared.Started.the-variants as started
 use Rattle.station.specs.declared.RingStep.{RingStep}
 use Rattle.station.specs.Parts.{freshStation, newOf}
 use Rattle.station.specs.Steps.{ongoingOf}
-use Rattle.polling.specs.declared.Polled.{Polled}
-use Rattle.polling.specs.Polling.{connectedOn, connectedOf, dispatchOn, dispatchOf, pollOnline, pollInner, polledOf, refusedPoll, acceptedAfter, acceptedPoll, pollOf, onlineOf, offlineOf, passiveOf}
+use Rattle.commands.specs.declared.Polled.{Polled}
+use Rattle.polling.specs.Polling.{connectedOn, connectedOf, dispatchOn, dispatchOf, pollOnline, pollInner, acceptedAfter, acceptedPoll, pollOf}
+use Rattle.commands.specs.Commands.{polledOf, refusedPoll, onlineOf, offlineOf, passiveOf}
 use Rattle.sound.specs.Keeps.{Addressed, GapAddressed, RingGood, Below, Good, either, fresh-good, again-good, waited-good, online-good, listen-good, fresh-core-good, again-core-good, done-good, bus-good, claim-token-good}
 use Rattle.sound.specs.Holding.{use-token-good, await-data-step-good}
 use Rattle.sound.specs.Listening.{listen-token-good, active-idle-good}

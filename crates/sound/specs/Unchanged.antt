@@ -9,7 +9,8 @@ use lib.Dec.{eqb}
 use Rattle.records.specs.Records.{recordRefusal}
 use Rattle.answers.specs.Answers.{refusedOf}
 use Rattle.station.specs.declared.Station.{Station}
-use Rattle.polling.specs.Polling.{stepAnswer, polledOf, refusedPoll, acceptedAfter, acceptedPoll, pollOf, onlineOf, offlineOf, passiveOf}
+use Rattle.commands.specs.Commands.{stepAnswer, polledOf, refusedPoll, onlineOf, offlineOf, passiveOf}
+use Rattle.polling.specs.Polling.{acceptedAfter, acceptedPoll, pollOf}
 
 -- a refused entry has its number and leaves the station
 refused-station : (s : Station) (k : ℕ) → refusedPoll s k .station ≡ s

@@ -3,7 +3,7 @@
 -- not taken.
 use Prim.Native.Nat.{ℕ, _+_, _*_}
 use mathlib.Core.Bool.{Bool, true, false, cond}
-use lib.Dec.{ltb, leb}
+use lib.Dec.{ltb, leb, eqb}
 use Rattle.bit_times.specs.declared.Micros.{Micros}
 use Rattle.bit_times.specs.Times.{timeOf}
 use Rattle.settings.specs.declared.Parameters.{Parameters}
@@ -27,6 +27,7 @@ use Rattle.station.specs.declared.Core.{Core}
 use Rattle.station.specs.declared.Waited.{Waited}
 use Rattle.station.specs.declared.Step.{Step}
 use Rattle.station.specs.declared.RingStep.{RingStep}
+use Rattle.station.specs.declared.Heard.{Heard}
 use Rattle.station.specs.Parts.{withState, withActivity, withPending}
 
 -- UseTokenData::with_token_time: a new token has no first application
@@ -140,3 +141,11 @@ claimAfter p c ring now first pause =
 -- do_claim_token
 unfoldable pub claimTokenOf : Parameters → Core → Ring → Micros → Bool → RingStep
 claimTokenOf p c ring now first = claimAfter p c ring now first (pauseOf p (c .«last_bus_activity») now)
+
+-- what the telegrams of a poll have led to
+unfoldable pub heardOf : Core → Ring → Outcome → Heard
+heardOf c ring o = record { core = c; ring = ring; outcome = o }
+
+-- do_listen_token and handle_telegram: a status request, to us, that is the last telegram of its poll
+unfoldable pub toUs : ℕ → ℕ → Bool → Bool → Bool
+toUs destination own asks last = cond asks (cond (eqb destination own) last false) false

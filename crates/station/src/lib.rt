@@ -7,7 +7,7 @@
 ghost use mathlib.Core.Path.{_≡_};
 ghost use Prim.Native.Nat.{_<_, _^_};
 ghost use Rattle.station.specs.Parts.{withState, withActivity, withPending, withGap, withTokenTimes, withNextApplication, withOnline, stateNumber, freshCore, newOf};
-ghost use Rattle.station.specs.Steps.{toListenToken, toActiveIdle, toUseToken, toClaimToken, toAwaitDataResponse, toPassToken, toCheckTokenPass, toAwaitStatusResponse, withTokenTime, knownAt, elapsedOf, markedAt, ongoingOf, pauseOf, sentAt, busActivityOf, rxOf, slotExpiredOf, tokenLostWaitOf, doneOf, transmitOf, claimNext, claimTokenOf};
+ghost use Rattle.station.specs.Steps.{toListenToken, toActiveIdle, toUseToken, toClaimToken, toAwaitDataResponse, toPassToken, toCheckTokenPass, toAwaitStatusResponse, withTokenTime, knownAt, elapsedOf, markedAt, ongoingOf, pauseOf, sentAt, busActivityOf, rxOf, slotExpiredOf, tokenLostWaitOf, doneOf, transmitOf, claimNext, claimTokenOf, heardOf, toUs};
 use answers::Notice;
 use answers::Outcome;
 use answers::Sent;
@@ -136,6 +136,13 @@ pub struct Step {
 pub struct RingStep {
     pub step: Step,
     pub ring: Ring,
+}
+
+// What the telegrams of a poll have led to so far.
+pub struct Heard {
+    pub core: Core,
+    pub ring: Ring,
+    pub outcome: Outcome,
 }
 
 // One part changed.
@@ -547,4 +554,28 @@ pub fn do_claim_token(p: Parameters, core: Core, ring: Ring, now: Micros, first:
         step: done(waited, Outcome::Delay),
         ring,
     }
+}
+
+// The same, made of its parts.
+pub fn hearing(core: Core, ring: Ring, outcome: Outcome) -> Heard
+    ensures { λ r. ⌜ r ≡ heardOf core ring outcome ⌝ }
+{
+    Heard {
+        core,
+        ring,
+        outcome,
+    }
+}
+
+// Is this a status request to us, and the last telegram of its poll?
+pub fn is_request_to_us(destination: u8, own: u8, status_request: bool, last: bool) -> bool
+    ensures { λ r. ⌜ r ≡ toUs destination own «status_request» last ⌝ }
+{
+    if status_request {
+        if destination == own {
+            return last;
+        }
+        return false;
+    }
+    false
 }

@@ -20,8 +20,9 @@ use Rattle.answers.specs.Answers.{answerWord}
 use Rattle.station.specs.declared.Station.{Station}
 use Rattle.station.specs.declared.Started.{Started}
 use Rattle.station.specs.declared.Started.the-variants as started
-use Rattle.polling.specs.declared.Polled.{Polled}
-use Rattle.trace.specs.Trace.{startOf, startedOf, headerOf, recordLength, entryOf, Run, ended, answered, runFrom, runOf, came, ranOf, replayOn, replayOf, numberOf, written, bufferOf}
+use Rattle.commands.specs.declared.Polled.{Polled}
+use Rattle.trace.specs.Trace.{startOf, startedOf, recordLength, entryOf, Run, ended, answered, runFrom, runOf, came, ranOf, replayOn, replayOf, numberOf, written, bufferOf}
+use Rattle.headers.specs.Headers.{headerOf}
 
 -- answers given before, and then those of a run
 abbrev pub after : List Answer → Run → Run
