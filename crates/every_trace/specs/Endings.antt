@@ -15,7 +15,7 @@ use Rattle.settings.specs.declared.Created.the-variants as created
 use Rattle.settings.specs.Settings.{belowOf, outsideOf, factorsRefusal, first, restRefusal, codedRefusal, firstRefusal, builtAt, buildOf}
 use Rattle.station.specs.declared.Started.{Started}
 use Rattle.station.specs.declared.Started.the-variants as started
-use Rattle.station.specs.Parts.{newOf}
+use Rattle.station.specs.Parts.{newStation}
 use Rattle.sound.specs.Keeps.{either}
 use Rattle.headers.specs.declared.Header.{Header}
 use Rattle.headers.specs.Headers.{headerOf, applicationsRefusal, zeroRefusal, lateRefusal, headerRefusalOn, headerRefusal}
@@ -92,8 +92,8 @@ build-small : (f : Fields) → SmallBuilt (buildOf f)
 unfolding buildOf
 build-small f = either SmallBuilt (eqb (firstRefusal f) 0) _ _ (at-small f (baudOf (f .«baud_code»))) (settings-small f)
 
-new-small : (p : Parameters) (n : ℕ) → Small (newOf p n)
-unfolding newOf
+new-small : (p : Parameters) (n : ℕ) → Small (newStation p n)
+unfolding newStation
 new-small p n = either Small (leb 1 n && leb n 8) _ _ tt (lit≤ tt)
 
 after-small : (x : Created) (n : ℕ) → SmallBuilt x → Small (startedAfter x n)

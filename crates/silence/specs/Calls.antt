@@ -15,7 +15,7 @@ use Rattle.station.specs.declared.State.the-variants.{PassToken}
 use Rattle.station.specs.declared.Station.{Station}
 use Rattle.station.specs.declared.Started.{Started}
 use Rattle.station.specs.declared.Started.the-variants as started
-use Rattle.station.specs.Parts.{freshStation, newOf}
+use Rattle.station.specs.Parts.{freshStation, newStation}
 use Rattle.commands.specs.Commands.{polledOf, refusedPoll, onlineOf, offlineOf, passiveOf}
 use Rattle.polling.specs.Polling.{acceptedAfter, acceptedPoll, pollOf}
 use Rattle.sound.specs.Sound.{Call, poll, offline, passive, after, run, SoundStation, SoundRun, every-station-sound}
@@ -40,8 +40,8 @@ run-settings [] s = refl
 run-settings (c ∷ cs) s = run-settings cs (after s c) ∙ after-settings s c
 
 -- what `new` accepts has the settings it was given
-new-settings : (p : Parameters) (n : ℕ) (s : Station) → newOf p n ≡ started.Accepted s → s .p ≡ p
-unfolding newOf freshStation
+new-settings : (p : Parameters) (n : ℕ) (s : Station) → newStation p n ≡ started.Accepted s → s .p ≡ p
+unfolding newStation freshStation
 new-settings p n s e = go (leb 1 n && leb n 8) e
   where
     go : (b : Bool) → cond b (started.Accepted (freshStation p n)) (started.Refused 11) ≡ started.Accepted s → s .p ≡ p
@@ -61,7 +61,7 @@ pub record ByCalls (s : Station) : Type 0 where
   pub applications : ℕ
   pub accepted : firstRefusal (fieldsOf settings) ≡ 0
   pub fresh : Station
-  pub is-new : newOf settings applications ≡ started.Accepted fresh
+  pub is-new : newStation settings applications ≡ started.Accepted fresh
   pub calls : List Call
   pub makes : run fresh calls ≡ s
 

@@ -22,7 +22,7 @@ use Rattle.station.specs.declared.PassTokenAttempt.the-variants.{First}
 use Rattle.station.specs.declared.State.the-variants.{PassToken}
 use Rattle.station.specs.declared.Station.{Station}
 use Rattle.station.specs.declared.Started.the-variants as started
-use Rattle.station.specs.Parts.{newOf, freshStation, freshCore, withState, withActivity, withGap, withPending, withTokenTimes, withNextApplication, withOnline}
+use Rattle.station.specs.Parts.{newStation, freshStation, freshCore, withState, withActivity, withGap, withPending, withTokenTimes, withNextApplication, withOnline}
 use Rattle.station.specs.Steps as steps
 use Rattle.hear_listen_token.specs.HearListenToken as hear
 use Rattle.listening.specs.Listening as listening
@@ -135,8 +135,8 @@ here-accepted : firstRefusal (fieldsOf here) ≡ 0
 unfolding firstRefusal codedRefusal restRefusal fieldsOf belowOf outsideOf factorsRefusal baudOf
 here-accepted = refl
 
-here-new : newOf here 1 ≡ started.Accepted (freshStation here 1)
-unfolding newOf
+here-new : newStation here 1 ≡ started.Accepted (freshStation here 1)
+unfolding newStation
 here-new = refl
 
 -- A station with k others that calls make and that meets the premises of Silence; and runs of it that show that the bound is sharp.

@@ -19,7 +19,7 @@ use Rattle.station.specs.declared.Station.{Station}
 use Rattle.station.specs.declared.Started.{Started}
 use Rattle.station.specs.declared.Started.the-variants as started
 use Rattle.station.specs.declared.RingStep.{RingStep}
-use Rattle.station.specs.Parts.{freshStation, newOf}
+use Rattle.station.specs.Parts.{freshStation, newStation}
 use Rattle.station.specs.Steps.{ongoingOf}
 use Rattle.commands.specs.declared.Polled.{Polled}
 use Rattle.polling.specs.Polling.{connectedOn, connectedOf, dispatchOn, dispatchOf, pollOnline, pollInner, acceptedAfter, acceptedPoll, pollOf}
@@ -177,8 +177,8 @@ fresh-sound p n l one eight =
     }
 
 -- `new`: with an address up to 125 it gives a sound station or none
-pub new-sound : (p : Parameters) (n : ℕ) → p .address < 126 → SoundStarted (newOf p n)
-unfolding newOf
+pub new-sound : (p : Parameters) (n : ℕ) → p .address < 126 → SoundStarted (newStation p n)
+unfolding newStation
 new-sound p n l = go (leb 1 n) refl (leb n 8) refl
   where
     go : (a : Bool) → leb 1 n ≡ a → (b : Bool) → leb n 8 ≡ b → SoundStarted (cond (a && b) (started.Accepted (freshStation p n)) (started.Refused 11))
@@ -200,8 +200,8 @@ abbrev pub SoundRun : Started → List Call → Type 0
 SoundRun (started.Accepted s) cs = SoundStation (run s cs)
 SoundRun (started.Refused k) cs = Unit {0}
 
-pub every-station-sound : (p : Parameters) (n : ℕ) (cs : List Call) → p .address < 126 → SoundRun (newOf p n) cs
-every-station-sound p n cs l = go (newOf p n) (new-sound p n l)
+pub every-station-sound : (p : Parameters) (n : ℕ) (cs : List Call) → p .address < 126 → SoundRun (newStation p n) cs
+every-station-sound p n cs l = go (newStation p n) (new-sound p n l)
   where
     go : (x : Started) → SoundStarted x → SoundRun x cs
     go (started.Accepted s) w = sound cs s w

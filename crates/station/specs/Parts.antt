@@ -65,5 +65,5 @@ unfoldable pub freshStation : Parameters → ℕ → Station
 freshStation p n = record { core = freshCore; «token_ring» = freshOf (p .address); p = p; applications = n }
 
 -- FdlActiveStation::new: 11 unless there are 1 to 8 applications
-unfoldable pub newOf : Parameters → ℕ → Started
-newOf p n = cond (leb 1 n && leb n 8) (started.Accepted (freshStation p n)) (started.Refused 11)
+unfoldable pub newStation : Parameters → ℕ → Started
+newStation p n = cond (leb 1 n && leb n 8) (started.Accepted (freshStation p n)) (started.Refused 11)

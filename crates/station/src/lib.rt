@@ -6,7 +6,7 @@
 // it needs it) and the clock, and hands back that part with what the poll came to.
 ghost use mathlib.Core.Path.{_≡_};
 ghost use Prim.Native.Nat.{_<_, _^_};
-ghost use Rattle.station.specs.Parts.{withState, withActivity, withPending, withGap, withTokenTimes, withNextApplication, withOnline, stateNumber, freshCore, newOf};
+ghost use Rattle.station.specs.Parts.{withState, withActivity, withPending, withGap, withTokenTimes, withNextApplication, withOnline, stateNumber, freshCore, newStation};
 ghost use Rattle.station.specs.Steps.{toListenToken, toActiveIdle, toUseToken, toClaimToken, toAwaitDataResponse, toPassToken, toCheckTokenPass, toAwaitStatusResponse, withTokenTime, knownAt, elapsedOf, markedAt, ongoingOf, pauseOf, sentAt, busActivityOf, rxOf, slotExpiredOf, tokenLostWaitOf, doneOf, transmitOf, claimNext, claimTokenOf, heardOf, toUs};
 use answers::Notice;
 use answers::Outcome;
@@ -369,7 +369,7 @@ pub fn fresh_core() -> Core
 impl Station {
     // FdlActiveStation::new, for 1 to 8 applications. Refusal 11.
     pub fn new(p: Parameters, applications: u8) -> Started
-        ensures { λ r. ⌜ r ≡ newOf p applications ⌝ }
+        ensures { λ r. ⌜ r ≡ newStation p applications ⌝ }
     {
         if applications < 1 {
             return Started::Refused(11);

@@ -13,7 +13,7 @@ use Rattle.answers.specs.Answers.{answerWord}
 use Rattle.station.specs.declared.Station.{Station}
 use Rattle.station.specs.declared.Started.{Started}
 use Rattle.station.specs.declared.Started.the-variants as started
-use Rattle.station.specs.Parts.{newOf}
+use Rattle.station.specs.Parts.{newStation}
 use Rattle.commands.specs.declared.Polled.{Polled}
 use Rattle.polling.specs.Polling.{pollOf}
 use Rattle.commands.specs.Commands.{onlineOf, offlineOf, passiveOf}
@@ -22,7 +22,7 @@ use Rattle.headers.specs.Headers.{headerOf, headerRefusal}
 
 -- a station of settings that were built
 unfoldable pub startedAfter : Created → ℕ → Started
-startedAfter (created.Accepted p) n = newOf p n
+startedAfter (created.Accepted p) n = newStation p n
 startedAfter (created.Refused refusal) n = started.Refused refusal
 
 -- the station that a header starts, each field as given; or its first refusal
