@@ -5,6 +5,7 @@ pub mod Settings
 pub mod Ring
 pub mod Fields
 pub mod Telegrams
+pub mod Decisions
 pub mod Records
 pub mod Answers
 pub mod Station
@@ -12,8 +13,11 @@ pub mod Holding
 pub mod HearListenToken
 pub mod HearActiveIdle
 pub mod Listening
-pub mod Passing
+pub mod PassToken
+pub mod AwaitStatus
+pub mod CheckTokenPass
 pub mod Commands
 pub mod Polling
 pub mod Headers
+pub mod Entries
 pub mod Trace

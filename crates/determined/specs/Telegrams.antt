@@ -4,11 +4,9 @@ use Rattle.determined.specs.Claim.{Determined}
 use Rattle.telegrams.proofs.response_state.Reads as response-state-reads
 use Rattle.telegrams.proofs.response_state_number.Reads as response-state-number-reads
 use Rattle.telegrams.proofs.read_telegram.Reads as read-telegram-reads
+use Rattle.telegrams.proofs.zero_or_14.Reads as zero-or-14-reads
 use Rattle.telegrams.proofs.telegram_refusal.Reads as telegram-refusal-reads
 use Rattle.telegrams.proofs.write_telegram.Reads as write-telegram-reads
-use Rattle.telegrams.proofs.read_decision.Reads as read-decision-reads
-use Rattle.telegrams.proofs.decision_refusal.Reads as decision-refusal-reads
-use Rattle.telegrams.proofs.write_decision.Reads as write-decision-reads
 
 pub response-state : Determined response-state-reads.Post
 response-state κs a r₁ r₂ s₁ s₂ p q = p ∙ sym q
@@ -19,17 +17,11 @@ response-state-number κs a r₁ r₂ s₁ s₂ p q = p ∙ sym q
 pub read-telegram : Determined read-telegram-reads.Post
 read-telegram κs a r₁ r₂ s₁ s₂ p q = p ∙ sym q
 
+pub zero-or-14 : Determined zero-or-14-reads.Post
+zero-or-14 κs a r₁ r₂ s₁ s₂ p q = p ∙ sym q
+
 pub telegram-refusal : Determined telegram-refusal-reads.Post
 telegram-refusal κs a r₁ r₂ s₁ s₂ p q = p ∙ sym q
 
 pub write-telegram : Determined write-telegram-reads.Post
 write-telegram κs a r₁ r₂ s₁ s₂ p q = p ∙ sym q
-
-pub read-decision : Determined read-decision-reads.Post
-read-decision κs a r₁ r₂ s₁ s₂ p q = p ∙ sym q
-
-pub decision-refusal : Determined decision-refusal-reads.Post
-decision-refusal κs a r₁ r₂ s₁ s₂ p q = p ∙ sym q
-
-pub write-decision : Determined write-decision-reads.Post
-write-decision κs a r₁ r₂ s₁ s₂ p q = p ∙ sym q

@@ -16,7 +16,8 @@ use Rattle.station.specs.declared.Started.the-variants as started
 use Rattle.polling.specs.Polling.{pollOf}
 use Rattle.commands.specs.Commands.{passiveOf}
 use Rattle.sound.specs.Unchanged.{poll-unchanged, passive-unchanged, online-refusal, offline-refusal}
-use Rattle.trace.specs.Trace.{startOf, recordLength, entryOf, Run, ended, answered, runFrom, runOf, Replay, ranOf, replayOn, replayOf, numberOf, written, bufferOf}
+use Rattle.trace.specs.Trace.{startOf, Run, ended, answered, runFrom, runOf, Replay, ranOf, replayOn, replayOf, numberOf, written, bufferOf}
+use Rattle.entries.specs.Entries.{recordLength, entryOf}
 use Rattle.trace.specs.Laws.{after, replay-started, replay-refused, run-none, run-more}
 use Rattle.every_trace.specs.Endings.{Small, start-small}
 use Rattle.every_trace.specs.Runs.{run-enough, run-on, run-ends, written-length}

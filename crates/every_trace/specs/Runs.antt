@@ -15,7 +15,8 @@ use Rattle.answers.specs.declared.Answer.{Answer}
 use Rattle.answers.specs.Answers.{answerWord}
 use Rattle.station.specs.declared.Station.{Station}
 use Rattle.commands.specs.declared.Polled.{Polled}
-use Rattle.trace.specs.Trace.{recordLength, entryOf, Run, ended, answered, runFrom, runOf, written}
+use Rattle.entries.specs.Entries.{recordLength, entryOf}
+use Rattle.trace.specs.Trace.{Run, ended, answered, runFrom, runOf, written}
 use Rattle.trace.specs.Laws.{after, run-none, run-cut, run-full, run-more}
 
 -- the three ways of an entry

@@ -6,7 +6,8 @@ use Rattle.ring.specs.Ring.{has, make, claimOf, others, nextOf, prevOf, freshOf
 use Rattle.ring.specs.Set.{walk, nearest, betweenOf, addTo, takeOut, keeps, sameSet, roundOf, lapsOf, candidateOf}
 use Rattle.ring.specs.Words.{bitOf, wordOf, hasIn}
 use Rattle.fields.specs.Fields.{fieldOf, putOf, beFrom, loadOf, storedOf}
-use Rattle.telegrams.specs.Words.{stateOf, telegramOf, zeroOr14, telegramRefusal, telegramWord, decisionOf, lengthRefusal, decisionRefusal, decisionWord}
+use Rattle.telegrams.specs.Words.{stateOf, telegramOf, zeroOr14, telegramRefusal, telegramWord}
+use Rattle.decisions.specs.Decisions.{decisionOf, lengthRefusal, decisionRefusal, decisionWord}
 use Rattle.records.specs.Records.{headOf, decisionAt, telegramAt, entryRefusal, wordsRefusal, recordRefusal}
 use Rattle.answers.specs.Answers.{outcomeOf, sentFields, sentFrom, noticeFields, noticeFrom, refusedOf, answerWord, fullOf, answerOf, refusalKnown, sentMeant, meant, unpackOf}
 use Rattle.station.specs.Parts.{withState, withActivity, withGap, withPending, withTokenTimes, withNextApplication, withOnline, freshCore, freshStation, newStation}
@@ -15,11 +16,14 @@ use Rattle.holding.specs.Holding.{declinesOn, declinesAt, usePassOf, appTransmi
 use Rattle.listening.specs.Listening.{lostTokenOf, responseState, listenAnswered, listenResponseAfter, listenResponse, heardTelegram, heardAll, receivedAll, consumedAll, listenTokenOn, listenTokenAfter, listenTokenOf, activeResponseAfter, activeResponse, activeIdleOn, activeIdleAfter, activeIdleOf}
 use Rattle.hear_listen_token.specs.HearListenToken.{collided, listened, listenHeard, listenTelegramOn, listenTelegram}
 use Rattle.hear_active_idle.specs.HearActiveIdle.{activeCollided, remembers, acceptedOf, tokenToUs, tokenWitnessed, tokenHeard, activeRequested, activeHeard, handleTelegramOn, handleTelegram}
-use Rattle.passing.specs.Passing.{gapAdvanced, passSent, passSend, passPollOn, passPoll, passAfter, passTokenOf, statusRingOn, statusRing, statusAnswered, statusUnexpected, statusReceived, statusTimeout, awaitStatusAfter, awaitStatusOf, resendOf, checkReceived, checkAfter, checkTokenPassOf}
+use Rattle.pass_token.specs.PassToken.{gapAdvanced, passSent, passSend, passPollOn, passPoll, passAfter, passTokenOf}
+use Rattle.await_status.specs.AwaitStatus.{statusRingOn, statusRing, statusAnswered, statusUnexpected, statusReceived, statusTimeout, awaitStatusAfter, awaitStatusOf}
+use Rattle.check_token_pass.specs.CheckTokenPass.{resendOf, checkReceived, checkAfter, checkTokenPassOf}
 use Rattle.polling.specs.Polling.{connectedOn, connectedOf, dispatchOn, dispatchOf, pollOnline, pollInner, acceptedAfter, acceptedPoll, pollOf}
 use Rattle.commands.specs.Commands.{stepAnswer, polledOf, refusedPoll, onlineOf, offlineOf, passiveOf}
 use Rattle.headers.specs.Headers.{headerAt, headerOf, applicationsRefusal, zeroRefusal, lateRefusal, headerRefusalOn, headerRefusal}
-use Rattle.trace.specs.Trace.{startedAfter, startedOf, startOf, recordLength, entryOf, runFrom, ranOf, replayOn, replayOf, numberOf, written, bufferOf}
+use Rattle.trace.specs.Trace.{startedAfter, startedOf, startOf, runFrom, ranOf, replayOn, replayOf, numberOf, written, bufferOf}
+use Rattle.entries.specs.Entries.{recordLength, entryOf}
 use Rattle.examples.specs.Table.{AllHold, table}
 
 -- every row of the table holds

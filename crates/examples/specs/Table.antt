@@ -31,7 +31,7 @@ use Rattle.station.specs.declared.State.the-variants.{ListenToken, PassToken}
 use Rattle.station.specs.declared.Core.{Core}
 use Rattle.station.specs.declared.Station.{Station}
 use Rattle.station.specs.Parts.{withState, withActivity, withGap, withPending, withOnline, freshCore, freshStation}
-use Rattle.passing.specs.Passing.{passTokenOf}
+use Rattle.pass_token.specs.PassToken.{passTokenOf}
 use Rattle.commands.specs.declared.Polled.{Polled}
 use Rattle.polling.specs.Polling.{pollOf}
 use Rattle.trace.specs.Trace.{replayOf}

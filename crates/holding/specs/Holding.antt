@@ -10,8 +10,8 @@ use Rattle.settings.specs.declared.Parameters.{Parameters}
 use Rattle.settings.specs.Settings.{rotationTimeOf}
 use Rattle.ring.specs.declared.GapState.{GapState}
 use Rattle.ring.specs.declared.GapState.the-variants.{Waiting, DoPoll}
-use Rattle.telegrams.specs.declared.Decision.{Decision}
-use Rattle.telegrams.specs.declared.Decision.the-variants as decision
+use Rattle.decisions.specs.declared.Decision.{Decision}
+use Rattle.decisions.specs.declared.Decision.the-variants as decision
 use Rattle.telegrams.specs.declared.Telegram.{Telegram}
 use Rattle.telegrams.specs.declared.Telegram.the-variants as telegram
 use Rattle.records.specs.Records.{decisionAt, telegramAt}

@@ -10,6 +10,7 @@ use answers::Outcome;
 use answers::Sent;
 use bit_times::Bits;
 use bit_times::Micros;
+use decisions::Decision;
 use ring::GapState;
 use settings::Parameters;
 use station::Activity;
@@ -20,7 +21,6 @@ use station::PassTokenAttempt;
 use station::State;
 use station::Step;
 use station::UseTokenData;
-use telegrams::Decision;
 use telegrams::Telegram;
 
 // What asking the applications came to: the one that is asked next, the first that declined since the token came, and

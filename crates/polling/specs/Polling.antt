@@ -18,7 +18,9 @@ use Rattle.station.specs.Parts.{withActivity}
 use Rattle.station.specs.Steps.{toListenToken, markedAt, ongoingOf, busActivityOf, doneOf, claimTokenOf}
 use Rattle.holding.specs.Holding.{useTokenOf, awaitDataOf}
 use Rattle.listening.specs.Listening.{listenTokenOf, activeIdleOf}
-use Rattle.passing.specs.Passing.{passTokenOf, awaitStatusOf, checkTokenPassOf}
+use Rattle.pass_token.specs.PassToken.{passTokenOf}
+use Rattle.await_status.specs.AwaitStatus.{awaitStatusOf}
+use Rattle.check_token_pass.specs.CheckTokenPass.{checkTokenPassOf}
 use Rattle.commands.specs.declared.Polled.{Polled}
 use Rattle.commands.specs.Commands.{polledOf, refusedPoll}
 

@@ -103,9 +103,9 @@ fn poll_inner_dispatch(
             ring,
         },
         State::PassToken { do_gap, attempt } => {
-            passing::do_pass_token(p, core, ring, now, do_gap, attempt)
+            pass_token::do_pass_token(p, core, ring, now, do_gap, attempt)
         }
-        State::CheckTokenPass { attempt } => passing::do_check_token_pass(
+        State::CheckTokenPass { attempt } => check_token_pass::do_check_token_pass(
             p,
             core,
             ring,
@@ -115,7 +115,7 @@ fn poll_inner_dispatch(
             applications,
             telegrams,
         ),
-        State::AwaitStatusResponse { address } => passing::do_await_status_response(
+        State::AwaitStatusResponse { address } => await_status::do_await_status_response(
             p,
             core,
             ring,

@@ -6,9 +6,9 @@ use answers::Notice;
 use answers::Outcome;
 use answers::Sent;
 use answers::Unpacked;
+use decisions::Decision;
 use libc::STDIN_FILENO;
 use libc::STDOUT_FILENO;
-use telegrams::Decision;
 use telegrams::Telegram;
 
 // How far an item went: so many bytes are used, more have to come, or there is no item.
@@ -153,7 +153,7 @@ fn show_decision(line: &mut [u8], from: usize, decision: Decision) -> usize {
     at = byte(line, at, parts.expects, 1);
     at = byte(line, at, parts.address, 2);
     at = byte(line, at, parts.length, 2);
-    spaced(line, at, telegrams::write_decision(decision), 6)
+    spaced(line, at, decisions::write_decision(decision), 6)
 }
 
 // The six fields of a telegram.

@@ -14,8 +14,8 @@ use Rattle.ring.specs.declared.Ring.{Ring}
 use Rattle.ring.specs.SetLaws.{true≢false}
 use Rattle.ring.specs.Ring.{has, others}
 use Rattle.ring.specs.Laws.{next-other, alone-has}
-use Rattle.telegrams.specs.declared.Decision.{Decision}
-use Rattle.telegrams.specs.declared.Decision.the-variants as decision
+use Rattle.decisions.specs.declared.Decision.{Decision}
+use Rattle.decisions.specs.declared.Decision.the-variants as decision
 use Rattle.records.specs.Records.{headOf, decisionAt}
 use Rattle.answers.specs.declared.Sent.{Sent}
 use Rattle.answers.specs.declared.Sent.the-variants.{Nothing, Application}

@@ -10,8 +10,8 @@ use mathlib.Core.Path.{_≡_}
 use mathlib.Core.List.{List, [], _∷_, _++_}
 use Rattle.bit_times.specs.declared.Micros.{Micros}
 use Rattle.ring.specs.Ring.{has, others}
-use Rattle.telegrams.specs.declared.Decision.{Decision}
-use Rattle.telegrams.specs.declared.Decision.the-variants as decision
+use Rattle.decisions.specs.declared.Decision.{Decision}
+use Rattle.decisions.specs.declared.Decision.the-variants as decision
 use Rattle.records.specs.Records.{headOf, decisionAt}
 use Rattle.answers.specs.declared.Sent.{Sent}
 use Rattle.answers.specs.declared.Sent.the-variants.{Nothing, Token, Application}

@@ -28,7 +28,8 @@ use Rattle.station.specs.declared.Waited.{Waited}
 use Rattle.station.specs.declared.RingStep.{RingStep}
 use Rattle.station.specs.Parts.{withState, withActivity, withGap}
 use Rattle.station.specs.Steps.{toUseToken, toPassToken, toCheckTokenPass, withTokenTime, markedAt, sentAt, busyOf, pauseOf, slotExpiredOf, doneOf, transmitOf}
-use Rattle.passing.specs.Passing.{gapAdvanced, passSent, passSend, passPollOn, passPoll, passAfter, passTokenOf, resendOf, checkReceived, checkAfter, checkTokenPassOf}
+use Rattle.pass_token.specs.PassToken.{gapAdvanced, passSent, passSend, passPollOn, passPoll, passAfter, passTokenOf}
+use Rattle.check_token_pass.specs.CheckTokenPass.{resendOf, checkReceived, checkAfter, checkTokenPassOf}
 use Rattle.polling.specs.Polling.{dispatchOn, dispatchOf}
 use Rattle.sound.specs.Keeps.{RingGood, witness-good, remove-good}
 use Rattle.silence.specs.Silence.{asksOn, gapDue, slotAfter}

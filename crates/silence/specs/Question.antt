@@ -21,7 +21,7 @@ use Rattle.station.specs.declared.RingStep.{RingStep}
 use Rattle.station.specs.declared.Station.{Station}
 use Rattle.station.specs.Parts.{withActivity, withGap}
 use Rattle.station.specs.Steps.{pauseOf, transmitOf}
-use Rattle.passing.specs.Passing.{gapAdvanced, passPollOn, passPoll, passAfter, passTokenOf}
+use Rattle.pass_token.specs.PassToken.{gapAdvanced, passPollOn, passPoll, passAfter, passTokenOf}
 use Rattle.commands.specs.declared.Polled.{Polled}
 use Rattle.commands.specs.Commands.{polledOf, stepAnswer}
 use Rattle.polling.specs.Polling.{pollOf}

@@ -14,6 +14,7 @@ use Rattle.ring.specs.Set.{takeOut, walk, nearest, betweenOf, keeps, sameSet, r
 use Rattle.ring.specs.Words.{bitOf, wordOf, hasIn}
 use Rattle.ring.specs.Ring.{has, make, others, removeOf, freshOf, passed, witnessOf, claimOf, nextOf, prevOf}
 use Rattle.telegrams.specs.Words as words
+use Rattle.decisions.specs.Decisions as decisions
 use Rattle.records.specs.declared.Head.{Head}
 use Rattle.records.specs.Records as records
 use Rattle.answers.specs.declared.Sent.the-variants.{Token, Application}
@@ -27,7 +28,8 @@ use Rattle.station.specs.Steps as steps
 use Rattle.hear_listen_token.specs.HearListenToken as hear
 use Rattle.listening.specs.Listening as listening
 use Rattle.holding.specs.Holding as holding
-use Rattle.passing.specs.Passing as passing
+use Rattle.pass_token.specs.PassToken as passing
+use Rattle.check_token_pass.specs.CheckTokenPass as checking
 use Rattle.commands.specs.Commands as commands
 use Rattle.polling.specs.Polling as polling
 use Rattle.sound.specs.Sound.{Call, poll, after, run}
@@ -121,7 +123,7 @@ pub record LetterRun : Type 0 where
 
 -- worked out from the definitions
 worked : Shape 0 6766 (made none-heard) × Shape 1 6866 (made one-heard) × Shape 2 6866 (made two-heard) × Shape 125 7566 (made all-heard) × LetterRun
-unfolding fieldOf beFrom loadOf rounded timeOf slotTimeOf tokenLostOf rotationTimeOf walk nearest betweenOf keeps sameSet roundOf lapsOf bitOf wordOf hasIn has make others freshOf passed witnessOf claimOf nextOf prevOf freshStation freshCore withState withActivity withGap withPending withTokenTimes withNextApplication withOnline after run words.zeroOr14 words.lengthRefusal words.stateOf words.decisionRefusal words.telegramRefusal words.telegramOf words.decisionOf records.headOf records.telegramAt records.decisionAt records.entryRefusal records.wordsRefusal records.recordRefusal steps.toListenToken steps.knownAt steps.elapsedOf steps.markedAt steps.busyOf steps.ongoingOf steps.pauseOf steps.sentAt steps.busActivityOf steps.rxOf steps.slotExpiredOf steps.tokenLostWaitOf steps.doneOf steps.transmitOf steps.heardOf hear.listenHeard hear.listenTelegramOn hear.listenTelegram listening.heardTelegram listening.heardAll listening.receivedAll listening.consumedAll listening.listenTokenOn listening.listenTokenAfter listening.listenTokenOf polling.connectedOn polling.connectedOf polling.dispatchOn polling.dispatchOf polling.pollOnline polling.pollInner commands.polledOf polling.acceptedAfter polling.acceptedPoll polling.pollOf commands.onlineOf steps.toClaimToken steps.claimNext steps.claimAfter steps.claimTokenOf steps.toUseToken steps.withTokenTime steps.toPassToken listening.lostTokenOf holding.declinesOn holding.declinesAt holding.usePassOf holding.appTransmitOf holding.firstOr holding.turnOf holding.askedFrom holding.askedOf holding.holdLess holding.holdEndOf holding.holdsOf holding.useAppsAfter holding.useAppsOf holding.useTokenAfter holding.useTokenTimed holding.useTokenOf passing.gapAdvanced gapDue passing.passSent passing.passSend passing.passPollOn passing.passPoll passing.passAfter passing.passTokenOf passing.resendOf passing.checkReceived passing.checkAfter passing.checkTokenPassOf removeOf takeOut steps.toCheckTokenPass counted countedIn slotAfter sentIn commands.stepAnswer
+unfolding fieldOf beFrom loadOf rounded timeOf slotTimeOf tokenLostOf rotationTimeOf walk nearest betweenOf keeps sameSet roundOf lapsOf bitOf wordOf hasIn has make others freshOf passed witnessOf claimOf nextOf prevOf freshStation freshCore withState withActivity withGap withPending withTokenTimes withNextApplication withOnline after run words.zeroOr14 decisions.lengthRefusal words.stateOf decisions.decisionRefusal words.telegramRefusal words.telegramOf decisions.decisionOf records.headOf records.telegramAt records.decisionAt records.entryRefusal records.wordsRefusal records.recordRefusal steps.toListenToken steps.knownAt steps.elapsedOf steps.markedAt steps.busyOf steps.ongoingOf steps.pauseOf steps.sentAt steps.busActivityOf steps.rxOf steps.slotExpiredOf steps.tokenLostWaitOf steps.doneOf steps.transmitOf steps.heardOf hear.listenHeard hear.listenTelegramOn hear.listenTelegram listening.heardTelegram listening.heardAll listening.receivedAll listening.consumedAll listening.listenTokenOn listening.listenTokenAfter listening.listenTokenOf polling.connectedOn polling.connectedOf polling.dispatchOn polling.dispatchOf polling.pollOnline polling.pollInner commands.polledOf polling.acceptedAfter polling.acceptedPoll polling.pollOf commands.onlineOf steps.toClaimToken steps.claimNext steps.claimAfter steps.claimTokenOf steps.toUseToken steps.withTokenTime steps.toPassToken listening.lostTokenOf holding.declinesOn holding.declinesAt holding.usePassOf holding.appTransmitOf holding.firstOr holding.turnOf holding.askedFrom holding.askedOf holding.holdLess holding.holdEndOf holding.holdsOf holding.useAppsAfter holding.useAppsOf holding.useTokenAfter holding.useTokenTimed holding.useTokenOf passing.gapAdvanced gapDue passing.passSent passing.passSend passing.passPollOn passing.passPoll passing.passAfter passing.passTokenOf checking.resendOf checking.checkReceived checking.checkAfter checking.checkTokenPassOf removeOf takeOut steps.toCheckTokenPass counted countedIn slotAfter sentIn commands.stepAnswer
 worked = (
   record { size = refl; on = refl; state = refl; due = refl; last-active = refl },
   record { size = refl; on = refl; state = refl; due = refl; last-active = refl },

@@ -31,7 +31,7 @@ use Rattle.station.specs.declared.State.the-variants.{PassToken}
 use Rattle.station.specs.declared.Core.{Core}
 use Rattle.station.specs.declared.Station.{Station}
 use Rattle.station.specs.Parts.{stateNumber}
-use Rattle.passing.specs.Passing.{gapAdvanced}
+use Rattle.pass_token.specs.PassToken.{gapAdvanced}
 use Rattle.polling.specs.Polling.{pollOf}
 use Rattle.sound.specs.Sound.{SoundStation}
 

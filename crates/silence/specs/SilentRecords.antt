@@ -9,7 +9,8 @@ use native.Mathlib.Nat.{zero-add, suc-add}
 use borrow.Author.Tests.{eq-eqb, ne-eqb, le-ltb, lt-ltb}
 use Rattle.fields.specs.Fields.{fieldOf, be, beFrom, loadOf, bytesOf}
 use Rattle.fields.specs.Laws.{be-bytes}
-use Rattle.telegrams.specs.Words.{zeroOr14, decisionRefusal}
+use Rattle.telegrams.specs.Words.{zeroOr14}
+use Rattle.decisions.specs.Decisions.{decisionRefusal}
 use Rattle.records.specs.Records.{headOf, countOf, decisionWordAt, entryRefusal, wordsRefusal, recordRefusal}
 use Rattle.silence.specs.Silence.{Quiet}
 

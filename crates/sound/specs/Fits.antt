@@ -17,11 +17,12 @@ use Rattle.ring.specs.declared.GapState.{GapState}
 use Rattle.ring.specs.declared.GapState.the-variants.{Waiting, DoPoll}
 use Rattle.ring.specs.Ring.{nextOf}
 use Rattle.ring.specs.Laws.{next-low}
-use Rattle.telegrams.specs.declared.Decision.{Decision}
-use Rattle.telegrams.specs.declared.Decision.the-variants as decision
+use Rattle.decisions.specs.declared.Decision.{Decision}
+use Rattle.decisions.specs.declared.Decision.the-variants as decision
 use Rattle.telegrams.specs.declared.Telegram.{Telegram}
 use Rattle.telegrams.specs.declared.Telegram.the-variants as telegram
-use Rattle.telegrams.specs.Words.{DecisionFits, zeroOr14, telegramRefusal, lengthRefusal, decisionRefusal}
+use Rattle.decisions.specs.Decisions.{DecisionFits, lengthRefusal, decisionRefusal}
+use Rattle.telegrams.specs.Words.{zeroOr14, telegramRefusal}
 use Rattle.records.specs.Records.{headOf, countOf, decisionAt, entryRefusal, wordsRefusal, recordRefusal}
 use Rattle.records.specs.Laws.{good, good-decision}
 use Rattle.answers.specs.declared.Outcome.{Outcome}
@@ -50,7 +51,9 @@ use Rattle.holding.specs.declared.Asked.{Asked}
 use Rattle.holding.specs.Holding.{validResponse, holdsOf, askedOf, appTransmitOf, usePassOf, useAppsAfter, useAppsOf, useTokenAfter, useTokenTimed, useTokenOf, receivedOf, withNotice, timeoutOf, awaitDataAfter, awaitDataOf}
 use Rattle.station.specs.declared.Heard.{Heard}
 use Rattle.listening.specs.Listening.{lostTokenOf, listenResponseAfter, listenResponse, consumedAll, listenTokenOn, listenTokenAfter, listenTokenOf, activeResponseAfter, activeResponse, activeIdleOn, activeIdleAfter, activeIdleOf}
-use Rattle.passing.specs.Passing.{passSent, passSend, passPollOn, passPoll, passAfter, passTokenOf, statusAnswered, statusUnexpected, statusReceived, statusTimeout, awaitStatusAfter, awaitStatusOf, resendOf, checkReceived, checkAfter, checkTokenPassOf}
+use Rattle.pass_token.specs.PassToken.{passSent, passSend, passPollOn, passPoll, passAfter, passTokenOf}
+use Rattle.await_status.specs.AwaitStatus.{statusAnswered, statusUnexpected, statusReceived, statusTimeout, awaitStatusAfter, awaitStatusOf}
+use Rattle.check_token_pass.specs.CheckTokenPass.{resendOf, checkReceived, checkAfter, checkTokenPassOf}
 use Rattle.polling.specs.Polling.{dispatchOn, dispatchOf, pollOnline, pollInner, acceptedAfter, acceptedPoll, pollOf}
 use Rattle.commands.specs.Commands.{stepAnswer, polledOf, refusedPoll, onlineOf, offlineOf, passiveOf}
 use Rattle.sound.specs.Keeps.{Low, Addressed, GapAddressed, RingGood, Below, Good, either, again-good, remove-good, waited-good, state-good, online-good, again-core-good, done-good, bus-good}

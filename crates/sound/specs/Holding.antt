@@ -8,8 +8,8 @@ use borrow.Table.Steps.{cases}
 use lib.Dec.{ltb, eqb}
 use Rattle.bit_times.specs.declared.Micros.{Micros}
 use Rattle.settings.specs.declared.Parameters.{Parameters}
-use Rattle.telegrams.specs.declared.Decision.{Decision}
-use Rattle.telegrams.specs.declared.Decision.the-variants as decision
+use Rattle.decisions.specs.declared.Decision.{Decision}
+use Rattle.decisions.specs.declared.Decision.the-variants as decision
 use Rattle.telegrams.specs.declared.Telegram.{Telegram}
 use Rattle.answers.specs.declared.Notice.{Notice}
 use Rattle.station.specs.declared.Activity.the-variants as activity

@@ -14,9 +14,10 @@ use Rattle.settings.specs.declared.Parameters.{Parameters}
 use Rattle.ring.specs.declared.Ring.{Ring}
 use Rattle.ring.specs.Ring.{freshOf, claimOf, addOf, removeOf, witnessOf, gapOf}
 use Rattle.ring.specs.Laws.{Sound, sound-fresh, sound-claim, sound-add, sound-remove, sound-witness, fresh-made, claim-own, add-own, remove-own, witness-own, gap-polls}
-use Rattle.telegrams.specs.declared.Decision.{Decision}
-use Rattle.telegrams.specs.declared.Decision.the-variants as decision
-use Rattle.telegrams.specs.Words.{TelegramFits, decisionOf}
+use Rattle.decisions.specs.declared.Decision.{Decision}
+use Rattle.decisions.specs.declared.Decision.the-variants as decision
+use Rattle.telegrams.specs.Words.{TelegramFits}
+use Rattle.decisions.specs.Decisions.{decisionOf}
 use Rattle.telegrams.specs.Laws.{telegram-fits}
 use Rattle.records.specs.Records.{telegramWordAt, decisionAt, telegramAt}
 use Rattle.answers.specs.declared.Outcome.{Outcome}

@@ -18,7 +18,9 @@ use Rattle.station.specs.declared.PassTokenAttempt.{PassTokenAttempt}
 use Rattle.station.specs.declared.PassTokenAttempt.the-variants.{First, Second, Third}
 use Rattle.station.specs.declared.Core.{Core}
 use Rattle.station.specs.declared.Waited.{Waited}
-use Rattle.passing.specs.Passing.{gapAdvanced, passSent, passSend, passPollOn, passPoll, passAfter, passTokenOf, statusRingOn, statusRing, statusAnswered, statusUnexpected, statusReceived, statusTimeout, awaitStatusAfter, awaitStatusOf, resendOf, checkReceived, checkAfter, checkTokenPassOf}
+use Rattle.pass_token.specs.PassToken.{gapAdvanced, passSent, passSend, passPollOn, passPoll, passAfter, passTokenOf}
+use Rattle.await_status.specs.AwaitStatus.{statusRingOn, statusRing, statusAnswered, statusUnexpected, statusReceived, statusTimeout, awaitStatusAfter, awaitStatusOf}
+use Rattle.check_token_pass.specs.CheckTokenPass.{resendOf, checkReceived, checkAfter, checkTokenPassOf}
 use Rattle.sound.specs.Keeps.{GapAddressed, RingGood, Below, Good, either, gap-low, add-good, remove-good, witness-good, waited-good, gap-good, rx-good, idle-good, use-good, pass-good, check-good, await-status-good, done-good, transmit-good}
 use Rattle.sound.specs.Listening.{received-all-good, consumed-good}
 

@@ -21,7 +21,8 @@ use Rattle.station.specs.declared.Station.{Station}
 use Rattle.station.specs.declared.Started.{Started}
 use Rattle.station.specs.declared.Started.the-variants as started
 use Rattle.commands.specs.declared.Polled.{Polled}
-use Rattle.trace.specs.Trace.{startOf, startedOf, recordLength, entryOf, Run, ended, answered, runFrom, runOf, came, ranOf, replayOn, replayOf, numberOf, written, bufferOf}
+use Rattle.trace.specs.Trace.{startOf, startedOf, Run, ended, answered, runFrom, runOf, came, ranOf, replayOn, replayOf, numberOf, written, bufferOf}
+use Rattle.entries.specs.Entries.{recordLength, entryOf}
 use Rattle.headers.specs.Headers.{headerOf}
 
 -- answers given before, and then those of a run

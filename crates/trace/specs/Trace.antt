@@ -1,4 +1,5 @@
--- A trace (document 01, "Trace"): its header, its entries, the run over them, and what the call leaves. Assumes nothing.
+-- A trace (document 01, "Trace"): the station that its header starts, the run over its entries, and what the call leaves.
+-- Assumes nothing.
 use Prim.Native.Nat.{ℕ, zero, suc, _+_, _-_, _*_, _^_}
 use mathlib.Core.List.{List, [], _∷_, _++_}
 use mathlib.Core.Bool.{cond, _&&_}
@@ -14,11 +15,9 @@ use Rattle.station.specs.declared.Station.{Station}
 use Rattle.station.specs.declared.Started.{Started}
 use Rattle.station.specs.declared.Started.the-variants as started
 use Rattle.station.specs.Parts.{newStation}
-use Rattle.commands.specs.declared.Polled.{Polled}
-use Rattle.polling.specs.Polling.{pollOf}
-use Rattle.commands.specs.Commands.{onlineOf, offlineOf, passiveOf}
 use Rattle.headers.specs.declared.Header.{Header}
 use Rattle.headers.specs.Headers.{headerOf, headerRefusal}
+use Rattle.entries.specs.Entries.{recordLength, entryOf}
 
 -- a station of settings that were built
 unfoldable pub startedAfter : Created → ℕ → Started
@@ -32,14 +31,6 @@ startedOf h = cond (eqb (headerRefusal h) 0) (startedAfter (buildOf (h .settings
 -- the station that a trace starts: 17 where it ends inside its header or has more than 2^32 bytes, before all else
 unfoldable pub startOf : List ℕ → Started
 startOf trace = cond (leb 16 (length trace) && leb (length trace) (2 ^ 32)) (startedOf (headerOf trace)) (started.Refused 17)
-
--- how many bytes of record follow an entry's first byte: none after a command, and after L ≥ 3 as many as it says
-unfoldable pub recordLength : ℕ → ℕ
-recordLength kind = cond (ltb kind 3) 0 kind
-
--- an entry: 0 online, 1 offline, 2 passive, else a poll record
-unfoldable pub entryOf : Station → ℕ → List ℕ → Polled
-entryOf s kind bytes = cond (eqb kind 0) (onlineOf s) (cond (eqb kind 1) (offlineOf s) (cond (eqb kind 2) (passiveOf s) (pollOf s bytes)))
 
 -- a run over entries: the answers given, the station after them, and the number that it ended with
 pub record Run : Type 0 where

@@ -1,11 +1,10 @@
 // A trace of document 01, replayed: a header of 16 bytes, then entries, each a command or a poll record, and each entry's
 // answer into the next eight bytes of the caller's buffer. `replay_trace` is what C and Rust hosts call. It leans on headers
-// and settings for the header, on polling, commands and station for the entries, on answers and fields for the bytes.
+// and settings for the header, on entries and station for the entries, on answers and fields for the bytes.
 ghost use mathlib.Core.Path.{_≡_};
 ghost use Prim.Native.Nat.{_+_, _*_, _≤_, _^_};
 ghost use lib.ListN.{length};
-ghost use Rattle.trace.specs.Trace.{startedAfter, startedOf, startOf, recordLength, entryOf, ranOf, replayOf, numberOf, bufferOf};
-use commands::Polled;
+ghost use Rattle.trace.specs.Trace.{startedAfter, startedOf, startOf, ranOf, replayOf, numberOf, bufferOf};
 use fields::store;
 use headers::Header;
 use settings::Created;
@@ -47,32 +46,6 @@ fn start(trace: &[u8]) -> Started
     started(headers::read_header(trace))
 }
 
-// How many bytes of record follow an entry's first byte.
-fn record_length(kind: u8) -> usize
-    ensures { λ r. ⌜ (r ≡ recordLength kind) × (r ≤ 255) ⌝ }
-{
-    if kind < 3 {
-        return 0;
-    }
-    kind as usize
-}
-
-// An entry: online, offline, passive, or a poll of the record.
-fn answer_entry(station: Station, kind: u8, bytes: &[u8]) -> Polled
-    ensures { λ r. ⌜ r ≡ entryOf station kind (now (bytes .entry)) ⌝ }
-{
-    if kind == 0 {
-        return commands::set_online(station);
-    }
-    if kind == 1 {
-        return commands::set_offline(station);
-    }
-    if kind == 2 {
-        return commands::set_passive(station);
-    }
-    polling::poll(station, bytes)
-}
-
 // Answers the entries after the header one by one, from a fresh station: the tail of the buffer past the answers given is
 // handed on, and the next answer is written at its head.
 fn run(fresh: Station, trace: &[u8], answers: &mut [u8]) -> u64
@@ -86,7 +59,7 @@ fn run(fresh: Station, trace: &[u8], answers: &mut [u8]) -> u64
     let mut entries: u64 = 0;
     while at < trace.len() {
         let kind = trace[at];
-        let length = record_length(kind);
+        let length = entries::record_length(kind);
         let begin = at + 1;
         if trace.len() - begin < length {
             return entries * 256 + 17;
@@ -95,7 +68,7 @@ fn run(fresh: Station, trace: &[u8], answers: &mut [u8]) -> u64
             return entries * 256 + 18;
         }
         let end = begin + length;
-        let polled = answer_entry(station, kind, &trace[begin..end]);
+        let polled = entries::answer_entry(station, kind, &trace[begin..end]);
         store(&mut answers[out..], answers::pack(polled.answer));
         station = polled.station;
         at = end;

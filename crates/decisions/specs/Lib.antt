@@ -1,0 +1,3 @@
+-- Definitions, then laws.
+pub mod Decisions
+pub mod Laws
