@@ -2,6 +2,7 @@
 pub mod Claim
 pub mod BitTimes
 pub mod Settings
+pub mod Addresses
 pub mod Ring
 pub mod Fields
 pub mod Telegrams

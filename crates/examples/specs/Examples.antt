@@ -2,9 +2,9 @@
 use mathlib.Core.Path.{refl}
 use Rattle.bit_times.specs.Times.{baudOf, rounded, timeOf}
 use Rattle.settings.specs.Settings.{belowOf, outsideOf, trial, factorsOf, newAt, unless, slotBitsOf, hsaOf, rotationOf, gapWaitOf, retryOf, minTsdrOf, withWatchdog, watchdogAt, watchdogOf, slotCheckOf, factorsRefusal, restRefusal, codedRefusal, firstRefusal, pairOf, builtAt, buildOf, fieldsOf, slotTimeOf, minTsdrTimeOf, tokenLostOf, rotationTimeOf, watchdogTimeOf, newOf}
-use Rattle.ring.specs.Ring.{has, make, claimOf, others, nextOf, prevOf, freshOf, addOf, removeOf, passed, witnessOf, polls, gapOf}
-use Rattle.ring.specs.Set.{walk, nearest, betweenOf, addTo, takeOut, keeps, sameSet, roundOf, lapsOf, candidateOf}
-use Rattle.ring.specs.Words.{bitOf, wordOf, hasIn}
+use Rattle.addresses.specs.Set.{walk, nearest, betweenOf, addTo, takeOut, keeps, sameSet}
+use Rattle.addresses.specs.Words.{bitOf, wordOf, hasIn}
+use Rattle.ring.specs.Ring.{has, make, claimOf, others, nextOf, prevOf, freshOf, addOf, removeOf, roundOf, lapsOf, passed, witnessOf, candidateOf, polls, gapOf}
 use Rattle.fields.specs.Fields.{fieldOf, putOf, beFrom, loadOf, storedOf}
 use Rattle.telegrams.specs.Words.{stateOf, telegramOf, zeroOr14, telegramRefusal, telegramWord}
 use Rattle.decisions.specs.Decisions.{decisionOf, lengthRefusal, decisionRefusal, decisionWord}

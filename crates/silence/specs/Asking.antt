@@ -10,8 +10,8 @@ use lib.Dec.{eqb}
 use Rattle.bit_times.specs.declared.Micros.{Micros}
 use Rattle.settings.specs.declared.Parameters.{Parameters}
 use Rattle.settings.specs.Settings.{slotTimeOf}
+use Rattle.addresses.specs.SetLaws.{true≢false}
 use Rattle.ring.specs.declared.Ring.{Ring}
-use Rattle.ring.specs.SetLaws.{true≢false}
 use Rattle.ring.specs.Ring.{has, others}
 use Rattle.ring.specs.Laws.{next-other, alone-has}
 use Rattle.decisions.specs.declared.Decision.{Decision}

@@ -8,11 +8,11 @@ use borrow.Table.Steps.{cases}
 use Rattle.bit_times.specs.declared.Micros.{Micros}
 use Rattle.settings.specs.declared.Parameters.{Parameters}
 use Rattle.settings.specs.Settings.{slotTimeOf}
+use Rattle.addresses.specs.Set.{headOr}
+use Rattle.addresses.specs.SetLaws.{true≢false}
 use Rattle.ring.specs.declared.Ring.{Ring}
 use Rattle.ring.specs.declared.GapState.{GapState}
 use Rattle.ring.specs.declared.GapState.the-variants.{Waiting, DoPoll}
-use Rattle.ring.specs.Set.{headOr}
-use Rattle.ring.specs.SetLaws.{true≢false}
 use Rattle.ring.specs.Ring.{others, nextOf, witnessOf, removeOf}
 use Rattle.ring.specs.Laws.{next-is, next-alone, next-other, others-witness, others-remove}
 use Rattle.answers.specs.declared.Outcome.the-variants as outcome

@@ -6,10 +6,10 @@ use mathlib.Core.List.{List}
 use Rattle.bit_times.specs.declared.Micros.{Micros}
 use Rattle.settings.specs.declared.Parameters.{Parameters}
 use Rattle.settings.specs.Settings.{firstRefusal, fieldsOf, slotTimeOf}
+use Rattle.addresses.specs.SetLaws.{true≢false}
 use Rattle.ring.specs.declared.Ring.{Ring}
 use Rattle.ring.specs.declared.GapState.{GapState}
 use Rattle.ring.specs.declared.GapState.the-variants.{Waiting, DoPoll}
-use Rattle.ring.specs.SetLaws.{true≢false}
 use Rattle.answers.specs.declared.Sent.the-variants.{StatusRequest}
 use Rattle.station.specs.declared.Activity.the-variants as activity
 use Rattle.station.specs.declared.PassTokenAttempt.{PassTokenAttempt}

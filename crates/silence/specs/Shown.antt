@@ -10,9 +10,9 @@ use Rattle.bit_times.specs.declared.Baud.the-variants.{B500000}
 use Rattle.bit_times.specs.Times.{baudOf, rounded, timeOf}
 use Rattle.settings.specs.declared.Parameters.{Parameters}
 use Rattle.settings.specs.Settings.{belowOf, outsideOf, factorsRefusal, restRefusal, codedRefusal, firstRefusal, fieldsOf, defaultOf, slotTimeOf, tokenLostOf, rotationTimeOf}
-use Rattle.ring.specs.Set.{takeOut, walk, nearest, betweenOf, keeps, sameSet, roundOf, lapsOf}
-use Rattle.ring.specs.Words.{bitOf, wordOf, hasIn}
-use Rattle.ring.specs.Ring.{has, make, others, removeOf, freshOf, passed, witnessOf, claimOf, nextOf, prevOf}
+use Rattle.addresses.specs.Set.{takeOut, walk, nearest, betweenOf, keeps, sameSet}
+use Rattle.addresses.specs.Words.{bitOf, wordOf, hasIn}
+use Rattle.ring.specs.Ring.{has, make, others, removeOf, freshOf, roundOf, lapsOf, passed, witnessOf, claimOf, nextOf, prevOf}
 use Rattle.telegrams.specs.Words as words
 use Rattle.decisions.specs.Decisions as decisions
 use Rattle.records.specs.declared.Head.{Head}

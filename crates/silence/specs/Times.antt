@@ -13,7 +13,7 @@ use Rattle.bit_times.specs.declared.Micros.{Micros}
 use Rattle.bit_times.specs.Times.{leastSlotBits, rateOf, rounded, timeOf}
 use Rattle.bit_times.specs.Laws.{listed}
 use Rattle.settings.specs.declared.Parameters.{Parameters}
-use Rattle.ring.specs.SetLaws.{true≢false}
+use Rattle.addresses.specs.SetLaws.{true≢false}
 use Rattle.station.specs.declared.Activity.{Activity}
 use Rattle.station.specs.declared.Activity.the-variants as activity
 use Rattle.station.specs.Steps.{knownAt, elapsedOf, busyOf, pauseOf, slotExpiredOf}
