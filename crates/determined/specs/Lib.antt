@@ -1,6 +1,7 @@
 -- What is claimed of each contract, then a file for each crate with the claim proved for each of its public calls.
 pub mod Claim
 pub mod BitTimes
+pub mod Watchdog
 pub mod Settings
 pub mod Ring
 pub mod Fields

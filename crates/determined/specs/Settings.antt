@@ -9,7 +9,6 @@ use Rattle.settings.proofs.Parameters.gap_wait_rotations.Reads as gap-wait-rota
 use Rattle.settings.proofs.Parameters.max_retry_limit.Reads as max-retry-limit-reads
 use Rattle.settings.proofs.Parameters.min_tsdr.Reads as min-tsdr-reads
 use Rattle.settings.proofs.Parameters.watchdog_timeout.Reads as watchdog-timeout-reads
-use Rattle.settings.proofs.watchdog_factors.Reads as watchdog-factors-reads
 use Rattle.settings.proofs.Parameters.slot_check.Reads as slot-check-reads
 use Rattle.settings.proofs.Parameters.fields.Reads as fields-reads
 use Rattle.settings.proofs.Fields.first_refusal.Reads as first-refusal-reads
@@ -43,9 +42,6 @@ min-tsdr κs a r₁ r₂ s₁ s₂ p q = p ∙ sym q
 
 pub watchdog-timeout : Determined watchdog-timeout-reads.Post
 watchdog-timeout κs a r₁ r₂ s₁ s₂ p q = p ∙ sym q
-
-pub watchdog-factors : Determined watchdog-factors-reads.Post
-watchdog-factors κs a r₁ r₂ s₁ s₂ p q = p ∙ sym q
 
 pub slot-check : Determined slot-check-reads.Post
 slot-check κs a r₁ r₂ s₁ s₂ p q = p ∙ sym q

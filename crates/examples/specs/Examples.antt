@@ -1,7 +1,8 @@
 -- Document 01's examples 1 to 12 hold, all under one theorem: each row by computing the definitions. Assumes nothing.
 use mathlib.Core.Path.{refl}
 use Rattle.bit_times.specs.Times.{baudOf, rounded, timeOf}
-use Rattle.settings.specs.Settings.{belowOf, outsideOf, trial, factorsOf, newAt, unless, slotBitsOf, hsaOf, rotationOf, gapWaitOf, retryOf, minTsdrOf, withWatchdog, watchdogAt, watchdogOf, slotCheckOf, factorsRefusal, restRefusal, codedRefusal, firstRefusal, pairOf, builtAt, buildOf, fieldsOf, slotTimeOf, minTsdrTimeOf, tokenLostOf, rotationTimeOf, watchdogTimeOf}
+use Rattle.watchdog.specs.Watchdog.{trial, factorsOf, watchdogTimeOf}
+use Rattle.settings.specs.Settings.{belowOf, outsideOf, newAt, unless, slotBitsOf, hsaOf, rotationOf, gapWaitOf, retryOf, minTsdrOf, withWatchdog, watchdogAt, watchdogOf, slotCheckOf, factorsRefusal, restRefusal, codedRefusal, firstRefusal, pairOf, builtAt, buildOf, fieldsOf, slotTimeOf, minTsdrTimeOf, tokenLostOf, rotationTimeOf}
 use Rattle.settings.specs.Settings.{newOf as settings-newOf}
 use Rattle.ring.specs.Ring.{has, make, claimOf, others, nextOf, prevOf, freshOf, addOf, removeOf, passed, witnessOf, polls, gapOf}
 use Rattle.ring.specs.Set.{walk, nearest, betweenOf, addTo, takeOut, keeps, sameSet, roundOf, lapsOf, candidateOf}

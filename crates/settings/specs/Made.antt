@@ -13,17 +13,18 @@ use Rattle.bit_times.specs.declared.Coded.{Coded}
 use Rattle.bit_times.specs.declared.Coded.the-variants.{Rate, Unknown}
 use Rattle.bit_times.specs.Times.{codeOf, leastSlotBits, baudOf}
 use Rattle.bit_times.specs.Laws.{listed}
-use Rattle.settings.specs.declared.WatchdogFactors.{WatchdogFactors}
-use Rattle.settings.specs.declared.WatchdogFactors.the-variants as wf
+use Rattle.watchdog.specs.declared.WatchdogFactors.{WatchdogFactors}
+use Rattle.watchdog.specs.declared.WatchdogFactors.the-variants as wf
+use Rattle.watchdog.specs.declared.Factored.{Factored}
+use Rattle.watchdog.specs.declared.Factored.the-variants as factored
+use Rattle.watchdog.specs.Watchdog.{ceilOf, factorsOf}
+use Rattle.watchdog.specs.Laws.{factors-least, factors-given}
 use Rattle.settings.specs.declared.Parameters.{Parameters}
 use Rattle.settings.specs.declared.Created.{Created}
 use Rattle.settings.specs.declared.Created.the-variants as created
 use Rattle.settings.specs.declared.Changed.{Changed}
 use Rattle.settings.specs.declared.Changed.the-variants as changed
-use Rattle.settings.specs.declared.Factored.{Factored}
-use Rattle.settings.specs.declared.Factored.the-variants as factored
-use Rattle.settings.specs.Settings.{belowOf, outsideOf, ceilOf, factorsOf, defaultOf, newAt, newOf, unless, slotBitsOf, hsaOf, rotationOf, gapWaitOf, retryOf, minTsdrOf, withWatchdog, watchdogAt, watchdogOf, factorsRefusal, first, restRefusal, codedRefusal, firstRefusal, pairOf, builtAt, buildOf, factorsPair, fieldsOf}
-use Rattle.settings.specs.Laws.{factors-least, factors-given}
+use Rattle.settings.specs.Settings.{belowOf, outsideOf, defaultOf, newAt, newOf, unless, slotBitsOf, hsaOf, rotationOf, gapWaitOf, retryOf, minTsdrOf, withWatchdog, watchdogAt, watchdogOf, factorsRefusal, first, restRefusal, codedRefusal, firstRefusal, pairOf, builtAt, buildOf, factorsPair, fieldsOf}
 
 -- settings made by `new` and by accepted setters (what `build` gives has passed the check itself)
 pub data Made : Parameters → Type 0 where

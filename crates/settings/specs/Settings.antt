@@ -1,25 +1,24 @@
--- Document 01, "Settings" and refusals 1 to 10, beside profirust's parameters.rs.
+-- Document 01, "Settings" and refusals 1 to 8 and 10, beside profirust's parameters.rs.
 -- A refusal is document 01's number; 0 stands for no refusal. `cond t a b` is a if the test t holds, else b.
-use Prim.Native.Nat.{ℕ, zero, suc, _+_, _-_, _*_, _/_}
-use mathlib.Core.Bool.{Bool, true, false, cond, _&&_}
-use lib.Dec.{ltb, leb, eqb}
+use Prim.Native.Nat.{ℕ, _+_, _*_}
+use mathlib.Core.Bool.{Bool, cond, _&&_}
+use lib.Dec.{leb, eqb}
 use Rattle.bit_times.specs.declared.Baud.{Baud}
 use Rattle.bit_times.specs.declared.Coded.{Coded}
 use Rattle.bit_times.specs.declared.Coded.the-variants.{Rate, Unknown}
 use Rattle.bit_times.specs.declared.Micros.{Micros}
 use Rattle.bit_times.specs.Times.{codeOf, leastSlotBits, baudOf, timeOf}
-use Rattle.settings.specs.declared.WatchdogFactors.{WatchdogFactors}
-use Rattle.settings.specs.declared.WatchdogFactors.the-variants as wf
+use Rattle.watchdog.specs.declared.WatchdogFactors.{WatchdogFactors}
+use Rattle.watchdog.specs.declared.WatchdogFactors.the-variants as wf
+use Rattle.watchdog.specs.declared.Factored.{Factored}
+use Rattle.watchdog.specs.declared.Factored.the-variants as factored
+use Rattle.watchdog.specs.Watchdog.{factorsOf}
 use Rattle.settings.specs.declared.Parameters.{Parameters}
 use Rattle.settings.specs.declared.Fields.{Fields}
 use Rattle.settings.specs.declared.Created.{Created}
 use Rattle.settings.specs.declared.Created.the-variants as created
 use Rattle.settings.specs.declared.Changed.{Changed}
 use Rattle.settings.specs.declared.Changed.the-variants as changed
-use Rattle.settings.specs.declared.Factored.{Factored}
-use Rattle.settings.specs.declared.Factored.the-variants as factored
-use Rattle.settings.specs.declared.Timeout.{Timeout}
-use Rattle.settings.specs.declared.Timeout.the-variants as timeout
 
 -- a value below low is refused with n
 unfoldable pub belowOf : ℕ → ℕ → ℕ → ℕ
@@ -28,19 +27,6 @@ belowOf low v n = cond (leb low v) 0 n
 -- a value outside low..high is refused with n
 unfoldable pub outsideOf : ℕ → ℕ → ℕ → ℕ → ℕ
 outsideOf low v high n = cond (leb low v && leb v high) 0 n
-
--- u / f rounded up
-abbrev pub ceilOf : ℕ → ℕ → ℕ
-ceilOf u f = (u + f - 1) / f
-
--- watchdog_factors: the least f1 of the k numbers from f on with u / f1 rounded up below 256, and that quotient; 9 where there is none
-unfoldable pub trial : ℕ → ℕ → ℕ → Factored
-trial u zero f = factored.Refused 9
-trial u (suc k) f = let rest = trial u k (suc f) in cond (ltb (ceilOf u f) 256) (factored.Factors f (ceilOf u f)) rest
-
--- watchdog_factors: none of 0 ms, else by trial from 1 to 255, in units of 10 ms
-unfoldable pub factorsOf : ℕ → Factored
-factorsOf ms = cond (eqb ms 0) factored.None (trial (ms / 10) 255 1)
 
 -- Parameters::default, with the address, the rate and the rate's least slot bits
 abbrev pub defaultOf : ℕ → Baud → Parameters
@@ -169,8 +155,3 @@ tokenLostOf p = bitsToTime p (p .«slot_bits» * (6 + 2 * p .address))
 -- Parameters::token_rotation_time
 unfoldable pub rotationTimeOf : Parameters → Micros
 rotationTimeOf p = bitsToTime p (p .«token_rotation_bits»)
-
--- Parameters::watchdog_timeout: f1 × f2 × 10 ms, where there are factors
-unfoldable pub watchdogTimeOf : WatchdogFactors → Timeout
-watchdogTimeOf wf.None = timeout.None
-watchdogTimeOf (wf.Some f1 f2) = timeout.After (record { 0 = f1 * f2 * 10000 })

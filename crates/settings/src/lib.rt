@@ -1,19 +1,16 @@
-// Settings: the record of a station's bus parameters, its setters, the watchdog factors, the slot check, the check
-// of a whole record and the times that follow from it. Layer 2 of document 01 ("Settings", refusals 1 to 10),
-// from profirust's parameters.rs. It leans on bit_times.
+// Settings: the record of a station's bus parameters, its setters, the slot check, the check of a whole record and the
+// times that follow from it. Layer 2 of document 01 ("Settings", refusals 1 to 8 and 10), from profirust's
+// parameters.rs. It leans on bit_times, and on watchdog for the watchdog's factors and time.
 ghost use mathlib.Core.Path.{_≡_};
-ghost use Prim.Native.Nat.{_≤_, _<_, _^_};
-ghost use Rattle.settings.specs.Settings.{belowOf, outsideOf, ceilOf, factorsOf, newOf, slotBitsOf, hsaOf, rotationOf, gapWaitOf, retryOf, minTsdrOf, withWatchdog, watchdogOf, slotCheckOf, factorsRefusal, restRefusal, firstRefusal, pairOf, buildOf, factorsPair, fieldsOf, slotTimeOf, minTsdrTimeOf, tokenLostOf, rotationTimeOf, watchdogTimeOf};
+ghost use Rattle.watchdog.specs.Watchdog.{watchdogTimeOf};
+ghost use Rattle.settings.specs.Settings.{belowOf, outsideOf, newOf, slotBitsOf, hsaOf, rotationOf, gapWaitOf, retryOf, minTsdrOf, withWatchdog, watchdogOf, slotCheckOf, factorsRefusal, restRefusal, firstRefusal, pairOf, buildOf, factorsPair, fieldsOf, slotTimeOf, minTsdrTimeOf, tokenLostOf, rotationTimeOf};
 use bit_times::Baud;
 use bit_times::Bits;
 use bit_times::Coded;
 use bit_times::Micros;
-
-// Option<(u8, u8)> of the watchdog factors.
-pub enum WatchdogFactors {
-    None,
-    Some(u8, u8),
-}
+use watchdog::Factored;
+use watchdog::Timeout;
+use watchdog::WatchdogFactors;
 
 // Parameters: the settings of a station, with the Rust's field names.
 pub struct Parameters {
@@ -55,19 +52,6 @@ pub enum Changed {
     Refused(u8, Parameters),
 }
 
-// The watchdog factors of a time: none of no time, two factors, or a refusal's number and no factors.
-pub enum Factored {
-    None,
-    Factors(u8, u8),
-    Refused(u8),
-}
-
-// A watchdog timeout, or that there is none.
-pub enum Timeout {
-    None,
-    After(Micros),
-}
-
 // The refusal `number` where a value lies below low, else 0.
 fn below(low: u64, value: u64, number: u8) -> u8
     ensures { λ r. ⌜ r ≡ belowOf low value number ⌝ }
@@ -105,33 +89,6 @@ fn factors_refusal(factor_1: u8, factor_2: u8) -> u8
         return 8;
     }
     0
-}
-
-// `units / f1` rounded up.
-fn ceil(units: u64, f1: u64) -> u64
-    requires { ⌜ (units < 2 ^ 63) × ((1 ≤ f1) × (f1 ≤ 255)) ⌝ }
-    ensures { λ r. ⌜ r ≡ ceilOf units f1 ⌝ }
-{
-    (units + f1 - 1) / f1
-}
-
-// watchdog_factors: the two factors of a time in milliseconds, the first by trial from 1 to 255.
-pub fn watchdog_factors(ms: u64) -> Factored
-    ensures { λ r. ⌜ r ≡ factorsOf ms ⌝ }
-{
-    if ms == 0 {
-        return Factored::None;
-    }
-    let units = ms / 10;
-    let mut f1: u64 = 1;
-    while f1 < 256 {
-        let f2 = ceil(units, f1);
-        if f2 < 256 {
-            return Factored::Factors(f1 as u8, f2 as u8);
-        }
-        f1 += 1;
-    }
-    Factored::Refused(9)
 }
 
 // Two factors as a record keeps them.
@@ -290,7 +247,7 @@ impl Parameters {
         if n != 0 {
             return Changed::Refused(n, self);
         }
-        let factors = watchdog_factors(ms);
+        let factors = watchdog::watchdog_factors(ms);
         match factors {
             Factored::None => {
                 self = with_watchdog(self, WatchdogFactors::None);
@@ -454,9 +411,6 @@ impl Parameters {
         ensures { λ r. ⌜ r ≡ watchdogTimeOf (self .«watchdog_factors») ⌝ }
     {
         let w = self.watchdog_factors;
-        match w {
-            WatchdogFactors::None => Timeout::None,
-            WatchdogFactors::Some(f1, f2) => Timeout::After(Micros(f1 as u64 * f2 as u64 * 10000)),
-        }
+        watchdog::watchdog_time(w)
     }
 }
