@@ -3,6 +3,7 @@ pub mod Claim
 pub mod BitTimes
 pub mod Watchdog
 pub mod Settings
+pub mod SettingsBuild
 pub mod Ring
 pub mod Fields
 pub mod Telegrams

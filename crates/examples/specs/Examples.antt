@@ -2,8 +2,9 @@
 use mathlib.Core.Path.{refl}
 use Rattle.bit_times.specs.Times.{baudOf, rounded, timeOf}
 use Rattle.watchdog.specs.Watchdog.{trial, factorsOf, watchdogTimeOf}
-use Rattle.settings.specs.Settings.{belowOf, outsideOf, newAt, unless, slotBitsOf, hsaOf, rotationOf, gapWaitOf, retryOf, minTsdrOf, withWatchdog, watchdogAt, watchdogOf, slotCheckOf, factorsRefusal, restRefusal, codedRefusal, firstRefusal, pairOf, builtAt, buildOf, fieldsOf, slotTimeOf, minTsdrTimeOf, tokenLostOf, rotationTimeOf}
+use Rattle.settings.specs.Settings.{belowOf, outsideOf, newAt, unless, slotBitsOf, hsaOf, rotationOf, gapWaitOf, retryOf, minTsdrOf, withWatchdog, watchdogAt, watchdogOf, slotCheckOf, slotTimeOf, minTsdrTimeOf, tokenLostOf, rotationTimeOf}
 use Rattle.settings.specs.Settings.{newOf as settings-newOf}
+use Rattle.settings_build.specs.Build.{factorsRefusal, restRefusal, codedRefusal, firstRefusal, pairOf, builtAt, buildOf, fieldsOf}
 use Rattle.ring.specs.Ring.{has, make, claimOf, others, nextOf, prevOf, freshOf, addOf, removeOf, passed, witnessOf, polls, gapOf}
 use Rattle.ring.specs.Set.{walk, nearest, betweenOf, addTo, takeOut, keeps, sameSet, roundOf, lapsOf, candidateOf}
 use Rattle.ring.specs.Words.{bitOf, wordOf, hasIn}

@@ -1,14 +1,14 @@
-// Prints, from the proved calls of bit_times, watchdog and settings: document 01's watchdog lines, 33 bits at each baud
-// code, and each boundary of new and of each setter, the last value accepted and the first refused, with the settings
-// after it. A line ends with the ten numbers of the settings: address, baud code, slot bits, rotation bits, gap wait,
-// highest station address, retry limit, min Tsdr and the two watchdog factors. It leans on these three and on io.
+// Prints, from the proved calls of bit_times, watchdog, settings and settings_build: document 01's watchdog lines, 33 bits
+// at each baud code, and each boundary of new and of each setter, the last value accepted and the first refused, with the
+// settings after it. A line ends with the ten numbers of the settings: address, baud code, slot bits, rotation bits, gap
+// wait, highest station address, retry limit, min Tsdr and the two watchdog factors. It leans on these four and on io.
 use bit_times::Bits;
 use bit_times::Coded;
 use libc::STDOUT_FILENO;
 use settings::Changed;
 use settings::Created;
-use settings::Fields;
 use settings::Parameters;
+use settings_build::Fields;
 use watchdog::Factored;
 use watchdog::Timeout;
 
@@ -28,7 +28,7 @@ fn item(n: u64) {
 
 // The ten numbers of the settings, and the end of the line.
 fn record(p: Parameters) {
-    let f = p.fields();
+    let f = Fields::of_parameters(p);
     text(b"; ");
     item(f.address as u64);
     item(f.baud_code as u64);
@@ -369,5 +369,5 @@ fn main() {
         return;
     };
     times(q);
-    whole_lines(q.fields());
+    whole_lines(Fields::of_parameters(q));
 }

@@ -5,10 +5,10 @@ use mathlib.Core.Bool.{Bool, cond, _&&_, _||_}
 use lib.ListN.{length, take, drop}
 use lib.Dec.{eqb, leb, ltb}
 use Rattle.fields.specs.Fields.{fieldOf, loadOf, bytesOf}
-use Rattle.settings.specs.declared.Fields.{Fields}
 use Rattle.settings.specs.declared.Created.{Created}
 use Rattle.settings.specs.declared.Created.the-variants as created
-use Rattle.settings.specs.Settings.{first, firstRefusal, buildOf}
+use Rattle.settings_build.specs.declared.Fields.{Fields}
+use Rattle.settings_build.specs.Build.{first, firstRefusal, buildOf}
 use Rattle.answers.specs.declared.Answer.{Answer}
 use Rattle.answers.specs.Answers.{answerWord}
 use Rattle.station.specs.declared.Station.{Station}

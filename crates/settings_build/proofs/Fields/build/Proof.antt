@@ -1,8 +1,8 @@
 use borrow.Author.Tests.{eq-eqb, ne-eqb}
 use borrow.Author.Needs.{needs}
-use Rattle.settings.specs.Settings.{buildOf, builtAt}
-use Rattle.settings.proofs.Fields.build.Statement.{statement}
-use Rattle.settings.proofs.Fields.build.Tie as tie
+use Rattle.settings_build.specs.Build.{buildOf, builtAt}
+use Rattle.settings_build.proofs.Fields.build.Statement.{statement}
+use Rattle.settings_build.proofs.Fields.build.Tie as tie
 
 pub build-spec : {M : Type 1} → statement M
 unfolding buildOf builtAt

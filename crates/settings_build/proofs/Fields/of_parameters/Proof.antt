@@ -1,11 +1,11 @@
 use borrow.Author.Needs.{needs}
-use Rattle.settings.specs.Settings.{fieldsOf}
-use Rattle.settings.proofs.Parameters.fields.Statement.{statement}
-use Rattle.settings.proofs.Parameters.fields.Tie as tie
+use Rattle.settings_build.specs.Build.{fieldsOf}
+use Rattle.settings_build.proofs.Fields.of_parameters.Statement.{statement}
+use Rattle.settings_build.proofs.Fields.of_parameters.Tie as tie
 
-pub fields-spec : {M : Type 1} → statement M
+pub of-parameters-spec : {M : Type 1} → statement M
 unfolding fieldsOf
-fields-spec =
+of-parameters-spec =
     tie.close
     (tie.spec
     (λ c κs. search needs)

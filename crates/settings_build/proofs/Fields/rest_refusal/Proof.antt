@@ -1,8 +1,8 @@
 use borrow.Author.Tests.{eq-eqb, ne-eqb}
 use borrow.Author.Needs.{needs}
-use Rattle.settings.specs.Settings.{restRefusal}
-use Rattle.settings.proofs.Fields.rest_refusal.Statement.{statement}
-use Rattle.settings.proofs.Fields.rest_refusal.Tie as tie
+use Rattle.settings_build.specs.Build.{restRefusal}
+use Rattle.settings_build.proofs.Fields.rest_refusal.Statement.{statement}
+use Rattle.settings_build.proofs.Fields.rest_refusal.Tie as tie
 
 pub rest-refusal-spec : {M : Type 1} → statement M
 unfolding restRefusal

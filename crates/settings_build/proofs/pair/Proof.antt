@@ -1,7 +1,7 @@
 use borrow.Author.Tests.{eq-eqb, ne-eqb}
-use Rattle.settings.specs.Settings.{pairOf}
-use Rattle.settings.proofs.pair.Statement.{statement}
-use Rattle.settings.proofs.pair.Tie as tie
+use Rattle.settings_build.specs.Build.{pairOf}
+use Rattle.settings_build.proofs.pair.Statement.{statement}
+use Rattle.settings_build.proofs.pair.Tie as tie
 
 pub pair-spec : {M : Type 1} → statement M
 unfolding pairOf

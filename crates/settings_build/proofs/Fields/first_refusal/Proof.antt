@@ -1,8 +1,8 @@
 use borrow.Author.Tests.{le-leb, le-ltb, lt-leb}
 use borrow.Author.Needs.{needs}
-use Rattle.settings.specs.Settings.{firstRefusal, codedRefusal}
-use Rattle.settings.proofs.Fields.first_refusal.Statement.{statement}
-use Rattle.settings.proofs.Fields.first_refusal.Tie as tie
+use Rattle.settings_build.specs.Build.{firstRefusal, codedRefusal}
+use Rattle.settings_build.proofs.Fields.first_refusal.Statement.{statement}
+use Rattle.settings_build.proofs.Fields.first_refusal.Tie as tie
 
 pub first-refusal-spec : {M : Type 1} → statement M
 unfolding firstRefusal codedRefusal
