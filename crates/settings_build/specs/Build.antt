@@ -49,7 +49,19 @@ pairOf f1 f2 = cond (eqb f1 0) wf.None (wf.Some f1 f2)
 
 -- the settings with each field as given
 unfoldable pub builtAt : Fields → Coded → Created
-builtAt f (Rate baud) = created.Accepted (record { «token_rotation_bits» = f .«token_rotation_bits»; «slot_bits» = f .«slot_bits»; address = f .address; baudrate = baud; «gap_wait_rotations» = f .«gap_wait_rotations»; «highest_station_address» = f .«highest_station_address»; «max_retry_limit» = f .«max_retry_limit»; «min_tsdr_bits» = f .«min_tsdr_bits»; «watchdog_factors» = pairOf (f .«factor_1») (f .«factor_2») })
+builtAt f (Rate baud) =
+    created.Accepted
+    (record {
+      «token_rotation_bits» = f .«token_rotation_bits»;
+      «slot_bits» = f .«slot_bits»;
+      address = f .address;
+      baudrate = baud;
+      «gap_wait_rotations» = f .«gap_wait_rotations»;
+      «highest_station_address» = f .«highest_station_address»;
+      «max_retry_limit» = f .«max_retry_limit»;
+      «min_tsdr_bits» = f .«min_tsdr_bits»;
+      «watchdog_factors» = pairOf (f .«factor_1») (f .«factor_2»);
+    })
 builtAt f Unknown = created.Refused 10
 
 -- ParametersBuilder::build over a whole record: its first refusal, or the settings
@@ -63,4 +75,16 @@ factorsPair (wf.Some f1 f2) = (f1, f2)
 
 -- the settings as plain numbers
 unfoldable pub fieldsOf : Parameters → Fields
-fieldsOf p = record { «token_rotation_bits» = p .«token_rotation_bits»; «slot_bits» = p .«slot_bits»; address = p .address; «baud_code» = codeOf (p .baudrate); «gap_wait_rotations» = p .«gap_wait_rotations»; «highest_station_address» = p .«highest_station_address»; «max_retry_limit» = p .«max_retry_limit»; «min_tsdr_bits» = p .«min_tsdr_bits»; «factor_1» = factorsPair (p .«watchdog_factors») .0; «factor_2» = factorsPair (p .«watchdog_factors») .1 }
+fieldsOf p =
+    record {
+      «token_rotation_bits» = p .«token_rotation_bits»;
+      «slot_bits» = p .«slot_bits»;
+      address = p .address;
+      «baud_code» = codeOf (p .baudrate);
+      «gap_wait_rotations» = p .«gap_wait_rotations»;
+      «highest_station_address» = p .«highest_station_address»;
+      «max_retry_limit» = p .«max_retry_limit»;
+      «min_tsdr_bits» = p .«min_tsdr_bits»;
+      «factor_1» = factorsPair (p .«watchdog_factors») .0;
+      «factor_2» = factorsPair (p .«watchdog_factors») .1;
+    }
