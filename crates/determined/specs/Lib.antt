@@ -1,7 +1,9 @@
 -- What is claimed of each contract, then a file for each crate with the claim proved for each of its public calls.
 pub mod Claim
 pub mod BitTimes
+pub mod Watchdog
 pub mod Settings
+pub mod SettingsBuild
 pub mod Addresses
 pub mod Ring
 pub mod Fields

@@ -1,6 +1,8 @@
 -- Determined, for the public calls of settings.
 use mathlib.Core.Path.{_∙_, sym}
 use Rattle.determined.specs.Claim.{Determined}
+use Rattle.settings.proofs.below.Reads as below-reads
+use Rattle.settings.proofs.outside.Reads as outside-reads
 use Rattle.settings.proofs.Parameters.new.Reads as new-reads
 use Rattle.settings.proofs.Parameters.slot_bits.Reads as slot-bits-reads
 use Rattle.settings.proofs.Parameters.highest_station_address.Reads as highest-station-address-reads
@@ -9,16 +11,18 @@ use Rattle.settings.proofs.Parameters.gap_wait_rotations.Reads as gap-wait-rota
 use Rattle.settings.proofs.Parameters.max_retry_limit.Reads as max-retry-limit-reads
 use Rattle.settings.proofs.Parameters.min_tsdr.Reads as min-tsdr-reads
 use Rattle.settings.proofs.Parameters.watchdog_timeout.Reads as watchdog-timeout-reads
-use Rattle.settings.proofs.watchdog_factors.Reads as watchdog-factors-reads
 use Rattle.settings.proofs.Parameters.slot_check.Reads as slot-check-reads
-use Rattle.settings.proofs.Parameters.fields.Reads as fields-reads
-use Rattle.settings.proofs.Fields.first_refusal.Reads as first-refusal-reads
-use Rattle.settings.proofs.Fields.build.Reads as build-reads
 use Rattle.settings.proofs.Parameters.slot_time.Reads as slot-time-reads
 use Rattle.settings.proofs.Parameters.min_tsdr_time.Reads as min-tsdr-time-reads
 use Rattle.settings.proofs.Parameters.token_lost_timeout.Reads as token-lost-timeout-reads
 use Rattle.settings.proofs.Parameters.token_rotation_time.Reads as token-rotation-time-reads
 use Rattle.settings.proofs.Parameters.watchdog_time.Reads as watchdog-time-reads
+
+pub below : Determined below-reads.Post
+below κs a r₁ r₂ s₁ s₂ p q = p ∙ sym q
+
+pub outside : Determined outside-reads.Post
+outside κs a r₁ r₂ s₁ s₂ p q = p ∙ sym q
 
 pub new : Determined new-reads.Post
 new κs a r₁ r₂ s₁ s₂ p q = p ∙ sym q
@@ -44,20 +48,8 @@ min-tsdr κs a r₁ r₂ s₁ s₂ p q = p ∙ sym q
 pub watchdog-timeout : Determined watchdog-timeout-reads.Post
 watchdog-timeout κs a r₁ r₂ s₁ s₂ p q = p ∙ sym q
 
-pub watchdog-factors : Determined watchdog-factors-reads.Post
-watchdog-factors κs a r₁ r₂ s₁ s₂ p q = p ∙ sym q
-
 pub slot-check : Determined slot-check-reads.Post
 slot-check κs a r₁ r₂ s₁ s₂ p q = p ∙ sym q
-
-pub fields : Determined fields-reads.Post
-fields κs a r₁ r₂ s₁ s₂ p q = p ∙ sym q
-
-pub first-refusal : Determined first-refusal-reads.Post
-first-refusal κs a r₁ r₂ s₁ s₂ p q = p ∙ sym q
-
-pub build : Determined build-reads.Post
-build κs a r₁ r₂ s₁ s₂ p q = p ∙ sym q
 
 pub slot-time : Determined slot-time-reads.Post
 slot-time κs a r₁ r₂ s₁ s₂ p q = p ∙ sym q

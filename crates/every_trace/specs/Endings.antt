@@ -8,11 +8,12 @@ use Rattle.bit_times.specs.declared.Baud.{Baud}
 use Rattle.bit_times.specs.declared.Coded.{Coded}
 use Rattle.bit_times.specs.declared.Coded.the-variants.{Rate, Unknown}
 use Rattle.bit_times.specs.Times.{baudOf, leastSlotBits}
-use Rattle.settings.specs.declared.Fields.{Fields}
 use Rattle.settings.specs.declared.Parameters.{Parameters}
 use Rattle.settings.specs.declared.Created.{Created}
 use Rattle.settings.specs.declared.Created.the-variants as created
-use Rattle.settings.specs.Settings.{belowOf, outsideOf, factorsRefusal, first, restRefusal, codedRefusal, firstRefusal, builtAt, buildOf}
+use Rattle.settings.specs.Settings.{belowOf, outsideOf}
+use Rattle.settings_build.specs.declared.Fields.{Fields}
+use Rattle.settings_build.specs.Build.{factorsRefusal, first, restRefusal, codedRefusal, firstRefusal, builtAt, buildOf}
 use Rattle.station.specs.declared.Started.{Started}
 use Rattle.station.specs.declared.Started.the-variants as started
 use Rattle.station.specs.Parts.{newStation}

@@ -1,7 +1,9 @@
 -- Document 01's examples 1 to 12 hold, all under one theorem: each row by computing the definitions. Assumes nothing.
 use mathlib.Core.Path.{refl}
 use Rattle.bit_times.specs.Times.{baudOf, rounded, timeOf}
-use Rattle.settings.specs.Settings.{belowOf, outsideOf, trial, factorsOf, newAt, unless, slotBitsOf, hsaOf, rotationOf, gapWaitOf, retryOf, minTsdrOf, withWatchdog, watchdogAt, watchdogOf, slotCheckOf, factorsRefusal, restRefusal, codedRefusal, firstRefusal, pairOf, builtAt, buildOf, fieldsOf, slotTimeOf, minTsdrTimeOf, tokenLostOf, rotationTimeOf, watchdogTimeOf, newOf}
+use Rattle.settings.specs.Settings.{belowOf, outsideOf, newAt, unless, slotBitsOf, hsaOf, rotationOf, gapWaitOf, retryOf, minTsdrOf, withWatchdog, watchdogAt, watchdogOf, slotCheckOf, slotTimeOf, minTsdrTimeOf, tokenLostOf, rotationTimeOf, newOf}
+use Rattle.watchdog.specs.Watchdog.{trial, factorsOf, watchdogTimeOf}
+use Rattle.settings_build.specs.Build.{factorsRefusal, restRefusal, codedRefusal, firstRefusal, pairOf, builtAt, buildOf, fieldsOf}
 use Rattle.addresses.specs.Set.{walk, nearest, betweenOf, addTo, takeOut, keeps, sameSet}
 use Rattle.addresses.specs.Words.{bitOf, wordOf, hasIn}
 use Rattle.ring.specs.Ring.{has, make, claimOf, others, nextOf, prevOf, freshOf, addOf, removeOf, roundOf, lapsOf, passed, witnessOf, candidateOf, polls, gapOf}

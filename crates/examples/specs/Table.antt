@@ -10,11 +10,12 @@ use Rattle.bit_times.specs.declared.Baud.the-variants.{B500000}
 use Rattle.bit_times.specs.declared.Coded.{Coded}
 use Rattle.bit_times.specs.declared.Coded.the-variants.{Rate, Unknown}
 use Rattle.bit_times.specs.Times.{timeOf, baudOf}
+use Rattle.watchdog.specs.declared.WatchdogFactors.the-variants as watchdog
+use Rattle.watchdog.specs.declared.Factored.{Factored}
+use Rattle.watchdog.specs.declared.Factored.the-variants as factored
+use Rattle.watchdog.specs.Watchdog.{factorsOf}
 use Rattle.settings.specs.declared.Parameters.{Parameters}
-use Rattle.settings.specs.declared.WatchdogFactors.the-variants as watchdog
-use Rattle.settings.specs.declared.Factored.{Factored}
-use Rattle.settings.specs.declared.Factored.the-variants as factored
-use Rattle.settings.specs.Settings.{factorsOf, slotTimeOf, tokenLostOf}
+use Rattle.settings.specs.Settings.{slotTimeOf, tokenLostOf}
 use Rattle.ring.specs.declared.Ring.{Ring}
 use Rattle.ring.specs.declared.GapState.{GapState}
 use Rattle.ring.specs.declared.GapState.the-variants.{Waiting, DoPoll}

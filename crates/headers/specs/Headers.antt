@@ -4,7 +4,7 @@ use mathlib.Core.List.{List}
 use mathlib.Core.Bool.{cond, _&&_, _||_}
 use lib.Dec.{eqb, leb}
 use Rattle.fields.specs.Fields.{fieldOf, loadOf}
-use Rattle.settings.specs.Settings.{first, firstRefusal}
+use Rattle.settings_build.specs.Build.{first, firstRefusal}
 use Rattle.headers.specs.declared.Header.{Header}
 
 -- the header's two words, most significant bit first: address 8, baud 8, slot 16, rotation 32; gap 8, HSA 8, retry 8, min Tsdr 8,

@@ -1,12 +1,12 @@
-// A trace's header (document 01, "Trace"): its 16 bytes as plain numbers, and their first refusal. It leans on settings for
-// what they are refused by, and on fields for the bytes.
+// A trace's header (document 01, "Trace"): its 16 bytes as plain numbers, and their first refusal. It leans on
+// settings_build for what they are refused by, and on fields for the bytes.
 ghost use mathlib.Core.Path.{_≡_};
 ghost use Rattle.fields.specs.Fields.{fieldOf};
 ghost use Rattle.headers.specs.Headers.{headerAt, headerOf, applicationsRefusal, zeroRefusal, lateRefusal, headerRefusalOn, headerRefusal};
 use fields::field;
 use fields::field_byte;
 use fields::load;
-use settings::Fields;
+use settings_build::Fields;
 
 // A trace's header as plain numbers, unchecked.
 pub struct Header {

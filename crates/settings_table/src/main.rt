@@ -1,16 +1,16 @@
-// Prints, from the proved calls of bit_times and settings: document 01's watchdog lines, 33 bits at each baud code, and
-// each boundary of new and of each setter, the last value accepted and the first refused, with the settings after it.
-// A line ends with the ten numbers of the settings: address, baud code, slot bits, rotation bits, gap wait, highest
-// station address, retry limit, min Tsdr and the two watchdog factors. It leans on settings, bit_times and io.
+// Prints, from the proved calls of bit_times, watchdog, settings and settings_build: document 01's watchdog lines, 33 bits
+// at each baud code, and each boundary of new and of each setter, the last value accepted and the first refused, with the
+// settings after it. A line ends with the ten numbers of the settings: address, baud code, slot bits, rotation bits, gap
+// wait, highest station address, retry limit, min Tsdr and the two watchdog factors. It leans on these four and on io.
 use bit_times::Bits;
 use bit_times::Coded;
 use libc::STDOUT_FILENO;
 use settings::Changed;
 use settings::Created;
-use settings::Factored;
-use settings::Fields;
 use settings::Parameters;
-use settings::Timeout;
+use settings_build::Fields;
+use watchdog::Factored;
+use watchdog::Timeout;
 
 fn text(words: &[u8]) {
     io::write_all(STDOUT_FILENO, words);
@@ -28,7 +28,7 @@ fn item(n: u64) {
 
 // The ten numbers of the settings, and the end of the line.
 fn record(p: Parameters) {
-    let f = p.fields();
+    let f = Fields::of_parameters(p);
     text(b"; ");
     item(f.address as u64);
     item(f.baud_code as u64);
@@ -81,7 +81,7 @@ fn changed(answer: Changed) {
 fn factors(ms: u64) {
     text(b"watchdog_factors ");
     number(ms);
-    let answer = settings::watchdog_factors(ms);
+    let answer = watchdog::watchdog_factors(ms);
     match answer {
         Factored::None => {
             text(b" ms: none\n");
@@ -369,5 +369,5 @@ fn main() {
         return;
     };
     times(q);
-    whole_lines(q.fields());
+    whole_lines(Fields::of_parameters(q));
 }

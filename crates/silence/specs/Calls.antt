@@ -8,7 +8,7 @@ use borrow.Author.Tests.{leb-true}
 use borrow.Table.Steps.{cases}
 use lib.Dec.{leb, eqb}
 use Rattle.settings.specs.declared.Parameters.{Parameters}
-use Rattle.settings.specs.Settings.{firstRefusal, fieldsOf}
+use Rattle.settings_build.specs.Build.{firstRefusal, fieldsOf}
 use Rattle.records.specs.Records.{recordRefusal}
 use Rattle.station.specs.declared.PassTokenAttempt.the-variants.{First}
 use Rattle.station.specs.declared.State.the-variants.{PassToken}

@@ -5,7 +5,8 @@ use mathlib.Core.Path.{_≡_, refl, sym, ap, _∙_}
 use mathlib.Core.List.{List}
 use Rattle.bit_times.specs.declared.Micros.{Micros}
 use Rattle.settings.specs.declared.Parameters.{Parameters}
-use Rattle.settings.specs.Settings.{firstRefusal, fieldsOf, slotTimeOf}
+use Rattle.settings_build.specs.Build.{firstRefusal, fieldsOf}
+use Rattle.settings.specs.Settings.{slotTimeOf}
 use Rattle.addresses.specs.SetLaws.{true≢false}
 use Rattle.ring.specs.declared.Ring.{Ring}
 use Rattle.ring.specs.declared.GapState.{GapState}

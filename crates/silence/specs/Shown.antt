@@ -9,7 +9,8 @@ use Rattle.fields.specs.Fields.{fieldOf, beFrom, loadOf}
 use Rattle.bit_times.specs.declared.Baud.the-variants.{B500000}
 use Rattle.bit_times.specs.Times.{baudOf, rounded, timeOf}
 use Rattle.settings.specs.declared.Parameters.{Parameters}
-use Rattle.settings.specs.Settings.{belowOf, outsideOf, factorsRefusal, restRefusal, codedRefusal, firstRefusal, fieldsOf, defaultOf, slotTimeOf, tokenLostOf, rotationTimeOf}
+use Rattle.settings.specs.Settings.{belowOf, outsideOf, defaultOf, slotTimeOf, tokenLostOf, rotationTimeOf}
+use Rattle.settings_build.specs.Build.{factorsRefusal, restRefusal, codedRefusal, firstRefusal, fieldsOf}
 use Rattle.addresses.specs.Set.{takeOut, walk, nearest, betweenOf, keeps, sameSet}
 use Rattle.addresses.specs.Words.{bitOf, wordOf, hasIn}
 use Rattle.ring.specs.Ring.{has, make, others, removeOf, freshOf, roundOf, lapsOf, passed, witnessOf, claimOf, nextOf, prevOf}

@@ -16,7 +16,8 @@ use mathlib.Core.List.{List, [], _∷_, _++_}
 use lib.ListN.{length, drop}
 use lib.Dec.{leb, eqb}
 use Rattle.settings.specs.declared.Parameters.{Parameters}
-use Rattle.settings.specs.Settings.{firstRefusal, fieldsOf, slotTimeOf}
+use Rattle.settings.specs.Settings.{slotTimeOf}
+use Rattle.settings_build.specs.Build.{firstRefusal, fieldsOf}
 use Rattle.ring.specs.declared.Ring.{Ring}
 use Rattle.ring.specs.declared.GapState.{GapState}
 use Rattle.ring.specs.declared.GapState.the-variants.{Waiting, DoPoll}

@@ -18,7 +18,8 @@ use Rattle.station.specs.declared.Activity.{Activity}
 use Rattle.station.specs.declared.Activity.the-variants as activity
 use Rattle.station.specs.Steps.{knownAt, elapsedOf, busyOf, pauseOf, slotExpiredOf}
 use Rattle.silence.specs.Silence.{slotAfter}
-use Rattle.settings.specs.Settings.{belowOf, first, restRefusal, codedRefusal, firstRefusal, fieldsOf, slotTimeOf}
+use Rattle.settings.specs.Settings.{belowOf, slotTimeOf}
+use Rattle.settings_build.specs.Build.{first, restRefusal, codedRefusal, firstRefusal, fieldsOf}
 
 -- the first of two refusals is none: the one before is none
 first-none : (n rest : ℕ) → first n rest ≡ 0 → n ≡ 0

@@ -8,7 +8,7 @@ use lib.Dec.{eqb, leb, ltb}
 use Rattle.fields.specs.Fields.{bytesOf}
 use Rattle.settings.specs.declared.Created.{Created}
 use Rattle.settings.specs.declared.Created.the-variants as created
-use Rattle.settings.specs.Settings.{buildOf}
+use Rattle.settings_build.specs.Build.{buildOf}
 use Rattle.answers.specs.declared.Answer.{Answer}
 use Rattle.answers.specs.Answers.{answerWord}
 use Rattle.station.specs.declared.Station.{Station}

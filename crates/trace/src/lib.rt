@@ -1,6 +1,6 @@
 // A trace of document 01, replayed: a header of 16 bytes, then entries, each a command or a poll record, and each entry's
 // answer into the next eight bytes of the caller's buffer. `replay_trace` is what C and Rust hosts call. It leans on headers
-// and settings for the header, on entries and station for the entries, on answers and fields for the bytes.
+// and settings_build for the header, on entries and station for the entries, on answers and fields for the bytes.
 ghost use mathlib.Core.Path.{_≡_};
 ghost use Prim.Native.Nat.{_+_, _*_, _≤_, _^_};
 ghost use lib.ListN.{length};

@@ -1,0 +1,90 @@
+-- Document 01, "Settings" and its header order of refusals 1 to 8 and 10, beside profirust's parameters.rs: the check of a whole
+-- record, and the settings that an accepted one makes.
+-- A refusal is document 01's number; 0 stands for no refusal. `cond t a b` is a if the test t holds, else b.
+use Prim.Native.Nat.{ℕ, _+_}
+use mathlib.Core.Bool.{cond}
+use lib.Dec.{leb, eqb}
+use Rattle.bit_times.specs.declared.Baud.{Baud}
+use Rattle.bit_times.specs.declared.Coded.{Coded}
+use Rattle.bit_times.specs.declared.Coded.the-variants.{Rate, Unknown}
+use Rattle.bit_times.specs.Times.{codeOf, leastSlotBits, baudOf}
+use Rattle.watchdog.specs.declared.WatchdogFactors.{WatchdogFactors}
+use Rattle.watchdog.specs.declared.WatchdogFactors.the-variants as wf
+use Rattle.settings.specs.declared.Parameters.{Parameters}
+use Rattle.settings.specs.declared.Created.{Created}
+use Rattle.settings.specs.declared.Created.the-variants as created
+use Rattle.settings.specs.Settings.{belowOf, outsideOf}
+use Rattle.settings_build.specs.declared.Fields.{Fields}
+
+-- 8 where one factor is zero and the other is not
+unfoldable pub factorsRefusal : ℕ → ℕ → ℕ
+factorsRefusal f1 f2 = cond (eqb f1 0) (cond (eqb f2 0) 0 8) (cond (eqb f2 0) 8 0)
+
+-- the first refusal of two
+abbrev pub first : ℕ → ℕ → ℕ
+first n rest = cond (eqb n 0) rest n
+
+-- document 01's header order after 1 and 10: 2, 3, 4, 5, 6, 7, 8
+unfoldable pub restRefusal : Fields → Baud → ℕ
+restRefusal f baud =
+    first (belowOf (leastSlotBits baud) (f .«slot_bits») 2)
+    (first (outsideOf (f .address + 1) (f .«highest_station_address») 126 3)
+    (first (outsideOf 256 (f .«token_rotation_bits») 16777960 4)
+    (first (outsideOf 1 (f .«gap_wait_rotations») 100 5)
+    (first (outsideOf 1 (f .«max_retry_limit») 15 6)
+    (first (belowOf 11 (f .«min_tsdr_bits») 7) (factorsRefusal (f .«factor_1») (f .«factor_2»)))))))
+
+-- 10 where the code has no rate, then the rest
+unfoldable pub codedRefusal : Fields → Coded → ℕ
+codedRefusal f (Rate baud) = restRefusal f baud
+codedRefusal f Unknown = 10
+
+-- the check of a whole record, in document 01's header order: 1, 10, 2, 3, 4, 5, 6, 7, 8
+unfoldable pub firstRefusal : Fields → ℕ
+firstRefusal f = cond (leb (f .address) 125) (codedRefusal f (baudOf (f .«baud_code»))) 1
+
+-- two factors as the settings keep them: zero says that there are none
+unfoldable pub pairOf : ℕ → ℕ → WatchdogFactors
+pairOf f1 f2 = cond (eqb f1 0) wf.None (wf.Some f1 f2)
+
+-- the settings with each field as given
+unfoldable pub builtAt : Fields → Coded → Created
+builtAt f (Rate baud) =
+    created.Accepted
+    (record {
+      «token_rotation_bits» = f .«token_rotation_bits»;
+      «slot_bits» = f .«slot_bits»;
+      address = f .address;
+      baudrate = baud;
+      «gap_wait_rotations» = f .«gap_wait_rotations»;
+      «highest_station_address» = f .«highest_station_address»;
+      «max_retry_limit» = f .«max_retry_limit»;
+      «min_tsdr_bits» = f .«min_tsdr_bits»;
+      «watchdog_factors» = pairOf (f .«factor_1») (f .«factor_2»);
+    })
+builtAt f Unknown = created.Refused 10
+
+-- ParametersBuilder::build over a whole record: its first refusal, or the settings
+unfoldable pub buildOf : Fields → Created
+buildOf f = cond (eqb (firstRefusal f) 0) (builtAt f (baudOf (f .«baud_code»))) (created.Refused (firstRefusal f))
+
+-- the two factors as numbers, zero where there are none
+abbrev pub factorsPair : WatchdogFactors → ℕ × ℕ
+factorsPair wf.None = (0, 0)
+factorsPair (wf.Some f1 f2) = (f1, f2)
+
+-- the settings as plain numbers
+unfoldable pub fieldsOf : Parameters → Fields
+fieldsOf p =
+    record {
+      «token_rotation_bits» = p .«token_rotation_bits»;
+      «slot_bits» = p .«slot_bits»;
+      address = p .address;
+      «baud_code» = codeOf (p .baudrate);
+      «gap_wait_rotations» = p .«gap_wait_rotations»;
+      «highest_station_address» = p .«highest_station_address»;
+      «max_retry_limit» = p .«max_retry_limit»;
+      «min_tsdr_bits» = p .«min_tsdr_bits»;
+      «factor_1» = factorsPair (p .«watchdog_factors») .0;
+      «factor_2» = factorsPair (p .«watchdog_factors») .1;
+    }

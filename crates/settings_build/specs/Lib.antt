@@ -1,0 +1,3 @@
+-- Definitions first, then the theorem that the settings that calls make pass the check of a whole record.
+pub mod Build
+pub mod Made

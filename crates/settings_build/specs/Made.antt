@@ -1,0 +1,50 @@
+-- The theorem on settings as calls make them: every record that `new` and accepted setters make passes the check of a
+-- whole record and is built from its own fields again.
+use mathlib.Core.Path.{_≡_, refl}
+use native.Mathlib.Omega.{arith}
+use borrow.Author.Tests.{le-leb, ne-eqb}
+use Rattle.bit_times.specs.Laws.{listed}
+use Rattle.watchdog.specs.declared.WatchdogFactors.{WatchdogFactors}
+use Rattle.watchdog.specs.declared.WatchdogFactors.the-variants as wf
+use Rattle.settings.specs.declared.Parameters.{Parameters}
+use Rattle.settings.specs.declared.Created.the-variants as created
+use Rattle.settings.specs.Made.{Made, Watched, Sound, in-below, in-outside, made-sound}
+use Rattle.settings_build.specs.Build.{factorsRefusal, restRefusal, codedRefusal, firstRefusal, pairOf, builtAt, buildOf, factorsPair, fieldsOf}
+
+-- sound factors pass the rule of a whole record, and are kept as they were
+watched-passes : (w : WatchdogFactors) → Watched w → factorsRefusal (factorsPair w .0) (factorsPair w .1) ≡ 0
+unfolding factorsRefusal Watched
+watched-passes wf.None h = refl
+watched-passes (wf.Some f1 f2) h = rw (ne-eqb f1 0 (λ e. omega (arith, h .0)), ne-eqb f2 0 (λ e. omega (arith, h .1)))
+
+watched-pair : (w : WatchdogFactors) → Watched w → pairOf (factorsPair w .0) (factorsPair w .1) ≡ w
+unfolding pairOf Watched
+watched-pair wf.None h = refl
+watched-pair (wf.Some f1 f2) h = rw (ne-eqb f1 0 (λ e. omega (arith, h .0)))
+
+-- sound settings pass the check of a whole record
+pub sound-passes : (p : Parameters) → Sound p → firstRefusal (fieldsOf p) ≡ 0
+unfolding firstRefusal codedRefusal restRefusal fieldsOf
+sound-passes p s =
+    simp (
+      le-leb _ _ (s .address),
+      listed (p .baudrate) .back,
+      in-below _ _ 2 (s .slot-bits),
+      in-outside _ _ _ 3 (s .hsa),
+      in-outside _ _ _ 4 (s .rotation),
+      in-outside _ _ _ 5 (s .gap-wait),
+      in-outside _ _ _ 6 (s .retry),
+      in-below _ _ 7 (s .min-tsdr),
+      watched-passes _ (s .watchdog),
+    )
+
+-- and are built from their own fields again
+pub sound-built : (p : Parameters) → Sound p → buildOf (fieldsOf p) ≡ created.Accepted p
+unfolding buildOf builtAt fieldsOf
+sound-built p s =
+    simp
+    (sound-passes p s, listed (p .baudrate) .back, watched-pair _ (s .watchdog))
+
+-- every record that `new` and accepted setters make passes the check of a whole record, and is built as it is
+pub made-passes : {p : Parameters} → Made p → (firstRefusal (fieldsOf p) ≡ 0) × (buildOf (fieldsOf p) ≡ created.Accepted p)
+made-passes {p} m = (sound-passes p (made-sound m), sound-built p (made-sound m))
