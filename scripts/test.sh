@@ -16,9 +16,9 @@ python3 scripts/functions.py --check || fail "docs/FUNCTIONS.md is not what the 
 log=$(mktemp) || fail "no temporary file could be made"
 trap 'rm -f "$log"' EXIT
 
-# Crates of one level are proved side by side, and the next level waits for all of them: with four at a time two cores
+# Crates of one level are proved side by side, and the next level waits for all of them: with six at a time two cores
 # wait less. All that rt ci prints goes on at once but for its last line, which is kept back.
-export RT_JOBS=${RT_JOBS:-4}
+export RT_JOBS=${RT_JOBS:-6}
 rt ci 2>&1 | tee "$log" | awk 'NR > 1 { print line; fflush() } { line = $0 }'
 status=${PIPESTATUS[0]}
 verdict=$(tail -n 1 "$log")
