@@ -17,6 +17,14 @@ for program in ring_replay records_show; do
 done
 
 need cargo cargo
+
+# The static library, which the last comparison needs, is proved while the oracle is built and tested. If that fails, it
+# fails there again, and is said.
+library=
+if [ "$(uname -m)" = x86_64 ]; then
+    (build_staticlib) >/dev/null 2>&1 &
+    library=$!
+fi
 build_oracle --release
 
 # That the comparison can fail: models with planted errors, each of which must be reported.
@@ -41,6 +49,7 @@ target/oracle/release/compare_records "$seed" "$items" -- "${runner[@]}" target/
 
 # The whole station: the proved trace call and the published active.rs in one process. Where the machine cannot link
 # the static library (status 3) this is said and nothing else is lost.
+[ -z "$library" ] || wait "$library"
 SEED=$seed COUNT=$traces bash scripts/compare_traces.sh
 status=$?
 [ "$status" -eq 0 ] || [ "$status" -eq 3 ] || fail "the trace call is not the published station's (seed $seed)"
