@@ -1,1 +1,2 @@
+-- The definitions; there are no laws.
 pub mod Commands

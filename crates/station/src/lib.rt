@@ -556,7 +556,7 @@ pub fn do_claim_token(p: Parameters, core: Core, ring: Ring, now: Micros, first:
     }
 }
 
-// The same, made of its parts.
+// What the telegrams of a poll have led to so far, made of its parts.
 pub fn hearing(core: Core, ring: Ring, outcome: Outcome) -> Heard
     ensures { λ r. ⌜ r ≡ heardOf core ring outcome ⌝ }
 {
