@@ -75,18 +75,18 @@ largest=4096
 build_replay() {
     need_rt
     find_runner
-    [ -f target/bin/replay ] || echo "$me: the program replay is proved and built first, which takes some minutes" >&2
-    quietly "the program replay was not proved" rt check replay
+    [ -f target/bin/run_replay ] || echo "$me: the program run_replay is proved and built first, which takes some minutes" >&2
+    quietly "the program run_replay was not proved" rt check run_replay
 }
 
-# Proves the library and writes target/staticlib/libtrace.a, if it is not there yet of the sources as they are: rt's stamp of
+# Proves the library and writes target/staticlib/libamsulfezd.a, if it is not there yet of the sources as they are: rt's stamp of
 # a proved crate is a sum over its files, those of the crates under it and the toolchain.
 build_staticlib() {
     need_rt
-    quietly "the library trace was not proved" rt check trace
-    [ -f target/staticlib/libtrace.a ] && cmp -s target/stamp/trace target/staticlib/stamp && return
-    quietly "the library trace was not proved" rt staticlib trace
-    cp target/stamp/trace target/staticlib/stamp 2>/dev/null
+    quietly "the library amsulfezd was not proved" rt check amsulfezd
+    [ -f target/staticlib/libamsulfezd.a ] && cmp -s target/stamp/amsulfezd target/staticlib/stamp && return
+    quietly "the library amsulfezd was not proved" rt staticlib amsulfezd
+    cp target/stamp/amsulfezd target/staticlib/stamp 2>/dev/null
 }
 
 # host_cargo WORD..: cargo on the package of hosts/rust, in a folder of its own for each library linked or not.
@@ -113,7 +113,7 @@ c_host() {
     local output=$1
     shift
     mkdir -p "$(dirname "$output")"
-    "${compile[@]}" "$@" target/staticlib/libtrace.a -o "$output" || fail "the C host's $(basename "$output") does not build"
+    "${compile[@]}" "$@" target/staticlib/libamsulfezd.a -o "$output" || fail "the C host's $(basename "$output") does not build"
 }
 
 # build_oracle WORD..: builds a part of oracle/ into target/oracle; the words are cargo's.
@@ -141,7 +141,7 @@ find_answers() {
     (unset AMSULFEZD_STATICLIB_DIR && host_cargo build --bin "$1") || fail "the program $1 of hosts/rust does not build"
     if [ "$size" -le "$largest" ]; then
         build_replay
-        answers=$("${runner[@]}" target/bin/replay <"$trace") || fail "the program replay did not run"
+        answers=$("${runner[@]}" target/bin/run_replay <"$trace") || fail "the program replay did not run"
     else
         need_rt
         find_runner

@@ -38,9 +38,9 @@ find_runner
 
 # The published files are as they were published, and the table that rt ci holds the program to is theirs.
 (cd oracle/published && sha256sum --quiet --check SHA256SUMS) || fail "a file of oracle/published is not as published"
-target/oracle/release/settings_table | cmp - crates/settings_table/stdout ||
-    fail "crates/settings_table/stdout is not what the published parameters.rs answers"
-echo "settings: $(wc -l <crates/settings_table/stdout) lines of the published parameters.rs, 0 differ"
+target/oracle/release/settings_table | cmp - crates/run_settings_table/stdout ||
+    fail "crates/run_settings_table/stdout is not what the published parameters.rs answers"
+echo "settings: $(wc -l <crates/run_settings_table/stdout) lines of the published parameters.rs, 0 differ"
 
 target/oracle/release/compare_ring "$seed" "$sequences" -- "${runner[@]}" target/bin/ring_replay ||
     fail "the ring is not the model's, or was not compared (seed $seed)"

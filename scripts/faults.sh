@@ -25,7 +25,7 @@ expect() {
 
 # replay on standard input, its last line.
 replay() {
-    "${runner[@]}" target/bin/replay
+    "${runner[@]}" target/bin/run_replay
 }
 
 if [ "$machine" = x86_64 ]; then

@@ -1,18 +1,18 @@
 #!/usr/bin/env bash
-# Prints what a poll costs: the instructions of a poll in each of some cases, counted by valgrind on the program poll_runs.
+# Prints what a poll costs: the instructions of a poll in each of some cases, counted by valgrind on the program run_polls.
 # A case is a start and a round of polls that is repeated; the counts of two runs are subtracted, so that what comes
 # before the rounds and after them falls away. PROGRAM in the environment measures another build of the program.
 set -u
 cd "$(dirname "$0")/.."
 
-program=${PROGRAM:-target/bin/poll_runs}
+program=${PROGRAM:-target/bin/run_polls}
 fail() {
     echo "measure: $*" >&2
     exit 1
 }
 [ "$(uname -m)" = x86_64 ] || fail "the program is for x86-64, and valgrind counts it on no other processor"
 command -v valgrind >/dev/null 2>&1 || fail "valgrind is not on the PATH (Debian: apt-get install valgrind)"
-[ -x "$program" ] || fail "$program is not there: run 'rt check poll_runs' first"
+[ -x "$program" ] || fail "$program is not there: run 'rt check run_polls' first"
 counts=$(mktemp) || fail "no temporary file could be made"
 trap 'rm -f "$counts"' EXIT
 

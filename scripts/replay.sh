@@ -10,4 +10,4 @@ find_trace
 [ "$size" -le "$largest" ] ||
     echo "$me: $trace has $size bytes, of which the program reads $largest; make explain takes all" >&2
 build_replay
-"${runner[@]}" target/bin/replay <"$trace"
+"${runner[@]}" target/bin/run_replay <"$trace"

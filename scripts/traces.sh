@@ -8,4 +8,4 @@ me="traces"
 need cargo cargo
 host_cargo build --bin make_traces || fail "the stories of hosts/rust do not build"
 target/hosts/release/make_traces write traces
-target/hosts/release/make_traces program crates/replay_traces
+target/hosts/release/make_traces program crates/run_traces

@@ -1,7 +1,7 @@
 /*
  * The proved trace call of Amsulfezd, for C and C++ on x86-64 (System V calling convention).
  *
- * Link with target/staticlib/libtrace.a, which `rt staticlib trace` writes. The library has no dependency but the C
+ * Link with target/staticlib/libamsulfezd.a, which `rt staticlib amsulfezd` writes. The library has no dependency but the C
  * library's memory functions.
  */
 #ifndef AMSULFEZD_H
@@ -72,15 +72,15 @@ enum amsulfezd_refusal {
  *
  * It always returns; its time grows with the number of entries.
  */
-uint64_t replay_trace(const uint8_t *trace, size_t trace_len, uint8_t *answers, size_t answers_len);
+uint64_t amsulfezd_replay_trace(const uint8_t *trace, size_t trace_len, uint8_t *answers, size_t answers_len);
 
-/* The number of entries answered, of what replay_trace returned. */
+/* The number of entries answered, of what amsulfezd_replay_trace returned. */
 static inline uint64_t amsulfezd_entries(uint64_t returned)
 {
     return returned / 256;
 }
 
-/* The ending number, of what replay_trace returned. */
+/* The ending number, of what amsulfezd_replay_trace returned. */
 static inline unsigned amsulfezd_ending(uint64_t returned)
 {
     return (unsigned)(returned % 256);

@@ -1,6 +1,6 @@
 /*
  * That the C test can fail: the proved call with one planted fault, chosen by the number FAULT. hosts.sh builds the test
- * with `-Dreplay_trace=faulty_replay_trace` for each fault and expects it to be found.
+ * with `-Damsulfezd_replay_trace=faulty_replay_trace` for each fault and expects it to be found.
  */
 #include "amsulfezd.h"
 
@@ -9,7 +9,7 @@ uint64_t faulty_replay_trace(const uint8_t *trace, size_t trace_len, uint8_t *an
 uint64_t faulty_replay_trace(const uint8_t *trace, size_t trace_len, uint8_t *answers, size_t answers_len)
 {
     volatile uint8_t *written = answers;
-    uint64_t returned = replay_trace(trace, trace_len, answers, answers_len);
+    uint64_t returned = amsulfezd_replay_trace(trace, trace_len, answers, answers_len);
     size_t used = (size_t)amsulfezd_entries(returned) * AMSULFEZD_ANSWER_LENGTH;
     switch (FAULT) {
     case 1: /* a byte past the answers, inside the buffer */

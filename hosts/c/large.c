@@ -71,7 +71,7 @@ int main(int count, char **words)
     uint8_t *trace = zeros(refused ? sizeof header + BAD * entries : (size_t)number);
     size_t size = refused ? bad(trace, entries) : polls(trace, (size_t)number, &entries);
     uint8_t *answers = zeros(AMSULFEZD_ANSWER_LENGTH * entries);
-    uint64_t result = replay_trace(trace, size, answers, AMSULFEZD_ANSWER_LENGTH * entries);
+    uint64_t result = amsulfezd_replay_trace(trace, size, answers, AMSULFEZD_ANSWER_LENGTH * entries);
     if (amsulfezd_entries(result) != entries || amsulfezd_ending(result) != AMSULFEZD_OK) {
         return fail("not every entry was answered");
     }

@@ -83,7 +83,7 @@ int main(int count, char **words)
     if (answers == NULL) {
         fail("no memory for %zu bytes of answers", length);
     }
-    uint64_t returned = replay_trace(trace.bytes, trace.length, answers, length);
+    uint64_t returned = amsulfezd_replay_trace(trace.bytes, trace.length, answers, length);
     uint64_t entries = amsulfezd_entries(returned);
     for (uint64_t entry = 0; entry < entries; entry++) {
         for (size_t i = 0; i < AMSULFEZD_ANSWER_LENGTH; i++) {

@@ -120,7 +120,7 @@ static void run_once(struct expected expected, size_t length, bool trace_upper, 
     uint8_t *answers = at_end(answer_page, length, answers_upper);
     memcpy(trace, expected.trace, expected.trace_len);
 
-    uint64_t returned = replay_trace(trace, expected.trace_len, answers, length);
+    uint64_t returned = amsulfezd_replay_trace(trace, expected.trace_len, answers, length);
 
     uint64_t room = length / AMSULFEZD_ANSWER_LENGTH;
     bool enough = expected.entries <= room;

@@ -1,6 +1,6 @@
 //! Links the proved static library where the environment says where it lies.
 //!
-//! With `AMSULFEZD_STATICLIB_DIR` set to the folder of `libtrace.a` the package is built with the cfg `linked` and has
+//! With `AMSULFEZD_STATICLIB_DIR` set to the folder of `libamsulfezd.a` the package is built with the cfg `linked` and has
 //! the call; without it the package still reads and writes traces and answers.
 
 use std::path::Path;
@@ -9,14 +9,14 @@ fn main() {
     println!("cargo:rerun-if-changed=build.rs");
     println!("cargo:rerun-if-env-changed=AMSULFEZD_STATICLIB_DIR");
     if let Ok(folder) = std::env::var("AMSULFEZD_STATICLIB_DIR") {
-        let library = Path::new(&folder).join("libtrace.a");
+        let library = Path::new(&folder).join("libamsulfezd.a");
         assert!(
             library.is_file(),
-            "AMSULFEZD_STATICLIB_DIR holds no libtrace.a: run 'rt staticlib trace' first"
+            "AMSULFEZD_STATICLIB_DIR holds no libamsulfezd.a: run 'rt staticlib amsulfezd' first"
         );
         println!("cargo:rerun-if-changed={}", library.display());
         println!("cargo:rustc-link-search=native={}", folder);
-        println!("cargo:rustc-link-lib=static=trace");
+        println!("cargo:rustc-link-lib=static=amsulfezd");
         println!("cargo:rustc-cfg=linked");
     }
 }

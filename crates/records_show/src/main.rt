@@ -1,15 +1,15 @@
 // Shows what poll records and answer words say, one line for each item of standard input: `P`, applications, length and so many
 // bytes for a record, `A` and 8 bytes for an answer. Leans on `records`, `telegrams`, `answers` and `fields` for what is shown.
 ghost use Prim.Native.Nat.{_<_};
-use answers::Answer;
-use answers::Notice;
-use answers::Outcome;
-use answers::Sent;
-use answers::Unpacked;
-use decisions::Decision;
+use codec_answers::Answer;
+use codec_answers::Notice;
+use codec_answers::Outcome;
+use codec_answers::Sent;
+use codec_answers::Unpacked;
+use codec_decisions::Decision;
+use codec_telegrams::Telegram;
 use libc::STDIN_FILENO;
 use libc::STDOUT_FILENO;
-use telegrams::Telegram;
 
 // How far an item went: so many bytes are used, more have to come, or there is no item.
 enum Step {
@@ -59,7 +59,7 @@ fn hex(line: &mut [u8], from: usize, number: u64, digits: u8) -> usize {
         at = push(
             line,
             at,
-            digit(fields::field_byte(number, 4 * (left as u64), 4)),
+            digit(codec_fields::field_byte(number, 4 * (left as u64), 4)),
         );
     }
     at
@@ -153,7 +153,7 @@ fn show_decision(line: &mut [u8], from: usize, decision: Decision) -> usize {
     at = byte(line, at, parts.expects, 1);
     at = byte(line, at, parts.address, 2);
     at = byte(line, at, parts.length, 2);
-    spaced(line, at, decisions::write_decision(decision), 6)
+    spaced(line, at, codec_decisions::write_decision(decision), 6)
 }
 
 // The six fields of a telegram.
@@ -210,7 +210,7 @@ fn heard_of(telegram: Telegram) -> Heard {
             destination: destination,
             source: source,
             asks: 0,
-            state: telegrams::response_state_number(state),
+            state: codec_telegrams::response_state_number(state),
             status: status,
         },
     }
@@ -231,7 +231,7 @@ fn show_telegram(line: &mut [u8], from: usize, telegram: Telegram) -> usize {
     at = byte(line, at, parts.asks, 1);
     at = byte(line, at, parts.state, 1);
     at = byte(line, at, parts.status, 1);
-    spaced(line, at, telegrams::write_telegram(telegram), 8)
+    spaced(line, at, codec_telegrams::write_telegram(telegram), 8)
 }
 
 // The decisions of a record's applications.
@@ -239,8 +239,16 @@ fn show_decisions(line: &mut [u8], from: usize, bytes: &[u8], applications: u8) 
     let mut at = from;
     let mut i: u8 = 0;
     while i < applications {
-        at = show_decision(line, at, records::decision(bytes, applications, i, false));
-        at = show_decision(line, at, records::decision(bytes, applications, i, true));
+        at = show_decision(
+            line,
+            at,
+            codec_records::decision(bytes, applications, i, false),
+        );
+        at = show_decision(
+            line,
+            at,
+            codec_records::decision(bytes, applications, i, true),
+        );
         i += 1;
     }
     at
@@ -257,7 +265,7 @@ fn show_telegrams(
     let mut at = from;
     let mut i: u8 = 0;
     while i < telegrams {
-        at = show_telegram(line, at, records::telegram(bytes, applications, i));
+        at = show_telegram(line, at, codec_records::telegram(bytes, applications, i));
         i += 1;
     }
     at
@@ -265,7 +273,7 @@ fn show_telegrams(
 
 // A record that is accepted.
 fn show_good(line: &mut [u8], from: usize, bytes: &[u8], applications: u8) -> usize {
-    let head = records::read_head(bytes);
+    let head = codec_records::read_head(bytes);
     let mut at = spaced(line, from, head.clock, 12);
     at = byte(line, at, bit(head.transmitting), 1);
     at = byte(line, at, head.telegrams, 1);
@@ -282,7 +290,7 @@ fn refusal(bytes: &[u8], applications: u8) -> u8 {
     if 8 < applications {
         return 11;
     }
-    records::refusal(bytes, applications)
+    codec_records::record_refusal(bytes, applications)
 }
 
 // A record's line.
@@ -339,7 +347,7 @@ fn gone_of(sent: Sent) -> Gone {
         Sent::StatusResponse { destination, state } => Gone {
             kind: 3,
             destination: destination,
-            state: telegrams::response_state_number(state),
+            state: codec_telegrams::response_state_number(state),
             application: 0,
             high: 0,
             bytes: 6,
@@ -470,7 +478,7 @@ fn show_fields(line: &mut [u8], from: usize, answer: Answer) -> usize {
         notice,
         answer.next_application,
         answer.next_station,
-        answers::pack(answer),
+        codec_answers::pack(answer),
     )
 }
 
@@ -486,7 +494,7 @@ fn show_unpacked(line: &mut [u8], at: usize, unpacked: Unpacked) -> usize {
 fn show_answer(word: u64) {
     let mut line = [0u8; 1024];
     let mut at = push(&mut line, 0, 65);
-    at = show_unpacked(&mut line, at, answers::unpack(word));
+    at = show_unpacked(&mut line, at, codec_answers::unpack(word));
     write_line(&mut line, at);
 }
 
@@ -509,7 +517,7 @@ fn answer_item(s: &[u8]) -> Step {
     if s.len() < 9 {
         return Step::Short;
     }
-    show_answer(fields::load(s, 1, 8));
+    show_answer(codec_fields::load(s, 1, 8));
     Step::Used(9)
 }
 

@@ -8,13 +8,13 @@ use Rattle.bit_times.specs.declared.Baud.{Baud}
 use Rattle.bit_times.specs.declared.Coded.{Coded}
 use Rattle.bit_times.specs.declared.Coded.the-variants.{Rate, Unknown}
 use Rattle.bit_times.specs.Times.{codeOf, leastSlotBits, baudOf}
-use Rattle.watchdog.specs.declared.WatchdogFactors.{WatchdogFactors}
-use Rattle.watchdog.specs.declared.WatchdogFactors.the-variants as wf
+use Rattle.settings_watchdog.specs.declared.WatchdogFactors.{WatchdogFactors}
+use Rattle.settings_watchdog.specs.declared.WatchdogFactors.the-variants as wf
 use Rattle.settings.specs.declared.Parameters.{Parameters}
 use Rattle.settings.specs.declared.Created.{Created}
 use Rattle.settings.specs.declared.Created.the-variants as created
-use Rattle.settings.specs.Settings.{belowOf, outsideOf}
-use Rattle.settings_build.specs.declared.Fields.{Fields}
+use Rattle.settings.specs.Settings.{refuseBelow, refuseOutside}
+use Rattle.settings_build.specs.declared.PlainSettings.{PlainSettings}
 
 -- 8 where one factor is zero and the other is not
 unfoldable pub factorsRefusal : ℕ → ℕ → ℕ
@@ -25,22 +25,22 @@ abbrev pub first : ℕ → ℕ → ℕ
 first n rest = cond (eqb n 0) rest n
 
 -- document 01's header order after 1 and 10: 2, 3, 4, 5, 6, 7, 8
-unfoldable pub restRefusal : Fields → Baud → ℕ
+unfoldable pub restRefusal : PlainSettings → Baud → ℕ
 restRefusal f baud =
-    first (belowOf (leastSlotBits baud) (f .«slot_bits») 2)
-    (first (outsideOf (f .address + 1) (f .«highest_station_address») 126 3)
-    (first (outsideOf 256 (f .«token_rotation_bits») 16777960 4)
-    (first (outsideOf 1 (f .«gap_wait_rotations») 100 5)
-    (first (outsideOf 1 (f .«max_retry_limit») 15 6)
-    (first (belowOf 11 (f .«min_tsdr_bits») 7) (factorsRefusal (f .«factor_1») (f .«factor_2»)))))))
+    first (refuseBelow (leastSlotBits baud) (f .«slot_bits») 2)
+    (first (refuseOutside (f .address + 1) (f .«highest_station_address») 126 3)
+    (first (refuseOutside 256 (f .«token_rotation_bits») 16777960 4)
+    (first (refuseOutside 1 (f .«gap_wait_rotations») 100 5)
+    (first (refuseOutside 1 (f .«max_retry_limit») 15 6)
+    (first (refuseBelow 11 (f .«min_tsdr_bits») 7) (factorsRefusal (f .«factor_1») (f .«factor_2»)))))))
 
 -- 10 where the code has no rate, then the rest
-unfoldable pub codedRefusal : Fields → Coded → ℕ
+unfoldable pub codedRefusal : PlainSettings → Coded → ℕ
 codedRefusal f (Rate baud) = restRefusal f baud
 codedRefusal f Unknown = 10
 
 -- the check of a whole record, in document 01's header order: 1, 10, 2, 3, 4, 5, 6, 7, 8
-unfoldable pub firstRefusal : Fields → ℕ
+unfoldable pub firstRefusal : PlainSettings → ℕ
 firstRefusal f = cond (leb (f .address) 125) (codedRefusal f (baudOf (f .«baud_code»))) 1
 
 -- two factors as the settings keep them: zero says that there are none
@@ -48,7 +48,7 @@ unfoldable pub pairOf : ℕ → ℕ → WatchdogFactors
 pairOf f1 f2 = cond (eqb f1 0) wf.None (wf.Some f1 f2)
 
 -- the settings with each field as given
-unfoldable pub builtAt : Fields → Coded → Created
+unfoldable pub builtAt : PlainSettings → Coded → Created
 builtAt f (Rate baud) =
     created.Accepted
     (record {
@@ -65,7 +65,7 @@ builtAt f (Rate baud) =
 builtAt f Unknown = created.Refused 10
 
 -- ParametersBuilder::build over a whole record: its first refusal, or the settings
-unfoldable pub buildOf : Fields → Created
+unfoldable pub buildOf : PlainSettings → Created
 buildOf f = cond (eqb (firstRefusal f) 0) (builtAt f (baudOf (f .«baud_code»))) (created.Refused (firstRefusal f))
 
 -- the two factors as numbers, zero where there are none
@@ -74,8 +74,8 @@ factorsPair wf.None = (0, 0)
 factorsPair (wf.Some f1 f2) = (f1, f2)
 
 -- the settings as plain numbers
-unfoldable pub fieldsOf : Parameters → Fields
-fieldsOf p =
+unfoldable pub plainOf : Parameters → PlainSettings
+plainOf p =
     record {
       «token_rotation_bits» = p .«token_rotation_bits»;
       «slot_bits» = p .«slot_bits»;

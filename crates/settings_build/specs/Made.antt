@@ -4,12 +4,12 @@ use mathlib.Core.Path.{_≡_, refl}
 use native.Mathlib.Omega.{arith}
 use borrow.Author.Tests.{le-leb, ne-eqb}
 use Rattle.bit_times.specs.Laws.{listed}
-use Rattle.watchdog.specs.declared.WatchdogFactors.{WatchdogFactors}
-use Rattle.watchdog.specs.declared.WatchdogFactors.the-variants as wf
+use Rattle.settings_watchdog.specs.declared.WatchdogFactors.{WatchdogFactors}
+use Rattle.settings_watchdog.specs.declared.WatchdogFactors.the-variants as wf
 use Rattle.settings.specs.declared.Parameters.{Parameters}
 use Rattle.settings.specs.declared.Created.the-variants as created
-use Rattle.settings.specs.Made.{Made, Watched, Sound, in-below, in-outside, made-sound}
-use Rattle.settings_build.specs.Build.{factorsRefusal, restRefusal, codedRefusal, firstRefusal, pairOf, builtAt, buildOf, factorsPair, fieldsOf}
+use Rattle.settings.specs.Made.{MadeSettings, Watched, SoundSettings, in-below, in-outside, made-sound}
+use Rattle.settings_build.specs.Build.{factorsRefusal, restRefusal, codedRefusal, firstRefusal, pairOf, builtAt, buildOf, factorsPair, plainOf}
 
 -- sound factors pass the rule of a whole record, and are kept as they were
 watched-passes : (w : WatchdogFactors) → Watched w → factorsRefusal (factorsPair w .0) (factorsPair w .1) ≡ 0
@@ -23,8 +23,8 @@ watched-pair wf.None h = refl
 watched-pair (wf.Some f1 f2) h = rw (ne-eqb f1 0 (λ e. omega (arith, h .0)))
 
 -- sound settings pass the check of a whole record
-pub sound-passes : (p : Parameters) → Sound p → firstRefusal (fieldsOf p) ≡ 0
-unfolding firstRefusal codedRefusal restRefusal fieldsOf
+pub sound-passes : (p : Parameters) → SoundSettings p → firstRefusal (plainOf p) ≡ 0
+unfolding firstRefusal codedRefusal restRefusal plainOf
 sound-passes p s =
     simp (
       le-leb _ _ (s .address),
@@ -39,12 +39,12 @@ sound-passes p s =
     )
 
 -- and are built from their own fields again
-pub sound-built : (p : Parameters) → Sound p → buildOf (fieldsOf p) ≡ created.Accepted p
-unfolding buildOf builtAt fieldsOf
+pub sound-built : (p : Parameters) → SoundSettings p → buildOf (plainOf p) ≡ created.Accepted p
+unfolding buildOf builtAt plainOf
 sound-built p s =
     simp
     (sound-passes p s, listed (p .baudrate) .back, watched-pair _ (s .watchdog))
 
 -- every record that `new` and accepted setters make passes the check of a whole record, and is built as it is
-pub made-passes : {p : Parameters} → Made p → (firstRefusal (fieldsOf p) ≡ 0) × (buildOf (fieldsOf p) ≡ created.Accepted p)
+pub made-passes : {p : Parameters} → MadeSettings p → (firstRefusal (plainOf p) ≡ 0) × (buildOf (plainOf p) ≡ created.Accepted p)
 made-passes {p} m = (sound-passes p (made-sound m), sound-built p (made-sound m))

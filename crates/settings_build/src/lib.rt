@@ -1,20 +1,20 @@
 // Settings from plain numbers: the one check of a whole record, in document 01's header order, and the settings that an
 // accepted record makes. Part of layer 2 of document 01 ("Settings", refusals 1 to 8 and 10 of a header), from profirust's
-// parameters.rs: ParametersBuilder::build. It leans on settings for the record and its rules, on watchdog for the factors
-// and on bit_times for the baud code.
+// parameters.rs: ParametersBuilder::build. It leans on settings for the record and its rules, on settings_watchdog for the
+// factors and on bit_times for the baud code.
 ghost use mathlib.Core.Path.{_≡_};
-ghost use Rattle.settings_build.specs.Build.{factorsRefusal, restRefusal, firstRefusal, pairOf, buildOf, factorsPair, fieldsOf};
+ghost use Rattle.settings_build.specs.Build.{factorsRefusal, restRefusal, firstRefusal, pairOf, buildOf, factorsPair, plainOf};
 use bit_times::Baud;
 use bit_times::Coded;
 use settings::Created;
 use settings::Parameters;
-use settings::below;
-use settings::outside;
-use watchdog::WatchdogFactors;
+use settings::refuse_below;
+use settings::refuse_outside;
+use settings_watchdog::WatchdogFactors;
 
 // The nine settings as ten plain numbers, unchecked: what a trace header carries. Both factors zero says that there
 // are none.
-pub struct Fields {
+pub struct PlainSettings {
     pub token_rotation_bits: u32,
     pub slot_bits: u16,
     pub address: u8,
@@ -74,14 +74,14 @@ fn factor_2_of(w: WatchdogFactors) -> u8
 }
 
 // The settings as plain numbers, and the check of a whole record.
-impl Fields {
+impl PlainSettings {
     // The settings as plain numbers.
-    pub fn of_parameters(p: Parameters) -> Fields
-        ensures { λ r. ⌜ r ≡ fieldsOf p ⌝ }
+    pub fn of_parameters(p: Parameters) -> PlainSettings
+        ensures { λ r. ⌜ r ≡ plainOf p ⌝ }
     {
         let baud = p.baudrate;
         let w = p.watchdog_factors;
-        Fields {
+        PlainSettings {
             token_rotation_bits: p.token_rotation_bits,
             slot_bits: p.slot_bits,
             address: p.address,
@@ -99,7 +99,7 @@ impl Fields {
     fn rest_refusal(self, baud: Baud) -> u8
         ensures { λ r. ⌜ r ≡ restRefusal self baud ⌝ }
     {
-        let slot_bits = below(
+        let slot_bits = refuse_below(
             bit_times::min_slot_bits(baud) as u64,
             self.slot_bits as u64,
             2,
@@ -107,7 +107,7 @@ impl Fields {
         if slot_bits != 0 {
             return slot_bits;
         }
-        let hsa = outside(
+        let hsa = refuse_outside(
             self.address as u64 + 1,
             self.highest_station_address as u64,
             126,
@@ -116,19 +116,19 @@ impl Fields {
         if hsa != 0 {
             return hsa;
         }
-        let rotation = outside(256, self.token_rotation_bits as u64, 16777960, 4);
+        let rotation = refuse_outside(256, self.token_rotation_bits as u64, 16777960, 4);
         if rotation != 0 {
             return rotation;
         }
-        let gap_wait = outside(1, self.gap_wait_rotations as u64, 100, 5);
+        let gap_wait = refuse_outside(1, self.gap_wait_rotations as u64, 100, 5);
         if gap_wait != 0 {
             return gap_wait;
         }
-        let retry = outside(1, self.max_retry_limit as u64, 15, 6);
+        let retry = refuse_outside(1, self.max_retry_limit as u64, 15, 6);
         if retry != 0 {
             return retry;
         }
-        let min_tsdr = below(11, self.min_tsdr_bits as u64, 7);
+        let min_tsdr = refuse_below(11, self.min_tsdr_bits as u64, 7);
         if min_tsdr != 0 {
             return min_tsdr;
         }

@@ -44,7 +44,7 @@ withOnline c x = record { «last_token_time» = c .«last_token_time»; «end_to
 abbrev pub stateNumber : State → ℕ
 stateNumber Offline = 0
 stateNumber (ListenToken request collisions) = 1
-stateNumber (ActiveIdle request previous collisions) = 2
+stateNumber (ActiveIdle request newPreviousStation collisions) = 2
 stateNumber (UseToken held cycle) = 3
 stateNumber (ClaimToken first) = 4
 stateNumber (AwaitDataResponse address held) = 5

@@ -1,6 +1,5 @@
--- What every state leans on, nearly in the order of active.rs: transitions, bus activity, the pause, sending, the slot; and
--- do_claim_token, which handle_lost_token needs. transition_offline, which the Rust never calls, and transition_passive_idle are
--- not taken.
+-- What every state leans on, nearly in the order of active.rs: transitions, bus activity, the pause, sending, the slot.
+-- transition_offline, which the Rust never calls, and transition_passive_idle are not taken.
 use Prim.Native.Nat.{ℕ, _+_, _*_}
 use mathlib.Core.Bool.{Bool, true, false, cond}
 use lib.Dec.{ltb, leb, eqb}
@@ -9,14 +8,13 @@ use Rattle.bit_times.specs.Times.{timeOf}
 use Rattle.settings.specs.declared.Parameters.{Parameters}
 use Rattle.settings.specs.Settings.{slotTimeOf, tokenLostOf}
 use Rattle.ring.specs.declared.Ring.{Ring}
-use Rattle.ring.specs.Ring.{claimOf}
-use Rattle.answers.specs.declared.Outcome.{Outcome}
-use Rattle.answers.specs.declared.Outcome.the-variants as outcome
-use Rattle.answers.specs.declared.Sent.{Sent}
-use Rattle.answers.specs.declared.Sent.the-variants as sent
-use Rattle.answers.specs.declared.Notice.the-variants as notice
-use Rattle.station.specs.declared.OptionAddress.the-variants as address
-use Rattle.station.specs.declared.OptionApplication.the-variants as application
+use Rattle.codec_answers.specs.declared.Outcome.{Outcome}
+use Rattle.codec_answers.specs.declared.Outcome.the-variants as outcome
+use Rattle.codec_answers.specs.declared.Sent.{Sent}
+use Rattle.codec_answers.specs.declared.Sent.the-variants as sent
+use Rattle.codec_answers.specs.declared.Notice.the-variants as notice
+use Rattle.station.specs.declared.OptionAddress.the-variants as optionAddress
+use Rattle.station.specs.declared.OptionApplication.the-variants as optionApplication
 use Rattle.station.specs.declared.Activity.{Activity}
 use Rattle.station.specs.declared.Activity.the-variants as activity
 use Rattle.station.specs.declared.PassTokenAttempt.{PassTokenAttempt}
@@ -32,15 +30,15 @@ use Rattle.station.specs.Parts.{withState, withActivity, withPending}
 
 -- UseTokenData::with_token_time: a new token has no first application
 unfoldable pub withTokenTime : Micros → UseTokenData
-withTokenTime now = record { «token_time» = now; «first_app» = application.None }
+withTokenTime now = record { «token_time» = now; «first_app» = optionApplication.None }
 
 -- State::transition_listen_token
 unfoldable pub toListenToken : Core → Core
-toListenToken c = withState c (ListenToken address.None 0)
+toListenToken c = withState c (ListenToken optionAddress.None 0)
 
 -- State::transition_active_idle: it clears request, predecessor and collisions
 unfoldable pub toActiveIdle : Core → Core
-toActiveIdle c = withState c (ActiveIdle address.None address.None 0)
+toActiveIdle c = withState c (ActiveIdle optionAddress.None optionAddress.None 0)
 
 -- State::transition_use_token
 unfoldable pub toUseToken : Core → UseTokenData → Core
@@ -127,25 +125,10 @@ unfoldable pub transmitOf : Parameters → Core → Micros → ℕ → Sent → 
 transmitOf p c now bytes x =
     record { core = withActivity c (sentAt p now bytes); sent = x; notice = notice.NoNotice; outcome = outcome.Transmission; consumed = 0 }
 
--- do_claim_token: the token is sent once more, or is ours
-unfoldable pub claimNext : Core → Micros → Bool → Core
-claimNext c now first = cond first (withState c (ClaimToken false)) (toUseToken c (withTokenTime now))
-
--- do_claim_token, once the pause is known
-unfoldable pub claimAfter : Parameters → Core → Ring → Micros → Bool → Waited → RingStep
-claimAfter p c ring now first pause =
-    cond (pause .over)
-    (record { step = transmitOf p (claimNext (withActivity c (activity.At (pause .last))) now first) now 3 (sent.Token (p .address)); ring = claimOf ring })
-    (record { step = doneOf (withActivity c (activity.At (pause .last))) outcome.Delay; ring = ring })
-
--- do_claim_token
-unfoldable pub claimTokenOf : Parameters → Core → Ring → Micros → Bool → RingStep
-claimTokenOf p c ring now first = claimAfter p c ring now first (pauseOf p (c .«last_bus_activity») now)
-
 -- what the telegrams of a poll have led to
 unfoldable pub heardOf : Core → Ring → Outcome → Heard
 heardOf c ring o = record { core = c; ring = ring; outcome = o }
 
 -- do_listen_token and handle_telegram: a status request, to us, that is the last telegram of its poll
-unfoldable pub toUs : ℕ → ℕ → Bool → Bool → Bool
-toUs destination own asks last = cond asks (cond (eqb destination own) last false) false
+unfoldable pub lastRequestToUs : ℕ → ℕ → Bool → Bool → Bool
+lastRequestToUs destination own asks last = cond asks (cond (eqb destination own) last false) false

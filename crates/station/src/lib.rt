@@ -1,18 +1,18 @@
 // The station's record and what every state leans on: states and their transitions, bus activity, the synchronization
 // pause, the slot, sending. Layer 5 of document 01 ("Station"), from profirust's active.rs, in its order. It leans on
-// bit_times, settings and ring, and on answers and telegrams for what a step reports.
+// bit_times, settings and ring, and on codec_answers and codec_telegrams for what a step reports.
 //
 // A step takes the settings, which never change, the part of the station that it may change (`Core`, and the ring where
 // it needs it) and the clock, and hands back that part with what the poll came to.
 ghost use mathlib.Core.Path.{_≡_};
 ghost use Prim.Native.Nat.{_<_, _^_};
 ghost use Rattle.station.specs.Parts.{withState, withActivity, withPending, withGap, withTokenTimes, withNextApplication, withOnline, stateNumber, freshCore, newStation};
-ghost use Rattle.station.specs.Steps.{toListenToken, toActiveIdle, toUseToken, toClaimToken, toAwaitDataResponse, toPassToken, toCheckTokenPass, toAwaitStatusResponse, withTokenTime, knownAt, elapsedOf, markedAt, ongoingOf, pauseOf, sentAt, busActivityOf, rxOf, slotExpiredOf, tokenLostWaitOf, doneOf, transmitOf, claimNext, claimTokenOf, heardOf, toUs};
-use answers::Notice;
-use answers::Outcome;
-use answers::Sent;
+ghost use Rattle.station.specs.Steps.{toListenToken, toActiveIdle, toUseToken, toClaimToken, toAwaitDataResponse, toPassToken, toCheckTokenPass, toAwaitStatusResponse, withTokenTime, knownAt, elapsedOf, markedAt, ongoingOf, pauseOf, sentAt, busActivityOf, rxOf, slotExpiredOf, tokenLostWaitOf, doneOf, transmitOf, heardOf, lastRequestToUs};
 use bit_times::Bits;
 use bit_times::Micros;
+use codec_answers::Notice;
+use codec_answers::Outcome;
+use codec_answers::Sent;
 use ring::GapState;
 use ring::Ring;
 use settings::Parameters;
@@ -521,41 +521,6 @@ pub fn transmit(p: Parameters, core: Core, now: Micros, bytes: u8, sent: Sent) -
     }
 }
 
-// do_claim_token.
-
-// The state after a claiming token: once more, or the token is ours.
-fn claim_next(core: Core, now: Micros, first: bool) -> Core
-    ensures { λ r. ⌜ r ≡ claimNext core now first ⌝ }
-{
-    if first {
-        return with_state(core, State::ClaimToken { first: false });
-    }
-    transition_use_token(core, with_token_time(now))
-}
-
-// do_claim_token: the token is claimed by sending it to ourselves twice.
-pub fn do_claim_token(p: Parameters, core: Core, ring: Ring, now: Micros, first: bool) -> RingStep
-    requires { ⌜ now .0 < 2 ^ 48 ⌝ }
-    ensures { λ r. ⌜ r ≡ claimTokenOf p core ring now first ⌝ }
-{
-    let activity = core.last_bus_activity;
-    let pause = wait_synchronization_pause(p, activity, now);
-    let last = pause.last;
-    let waited = with_activity(core, Activity::At(last));
-    if pause.over {
-        let next = claim_next(waited, now, first);
-        let own = p.address;
-        return RingStep {
-            step: transmit(p, next, now, 3, Sent::Token { destination: own }),
-            ring: ring.claim_token(),
-        };
-    }
-    RingStep {
-        step: done(waited, Outcome::Delay),
-        ring,
-    }
-}
-
 // What the telegrams of a poll have led to so far, made of its parts.
 pub fn hearing(core: Core, ring: Ring, outcome: Outcome) -> Heard
     ensures { λ r. ⌜ r ≡ heardOf core ring outcome ⌝ }
@@ -568,8 +533,8 @@ pub fn hearing(core: Core, ring: Ring, outcome: Outcome) -> Heard
 }
 
 // Is this a status request to us, and the last telegram of its poll?
-pub fn is_request_to_us(destination: u8, own: u8, status_request: bool, last: bool) -> bool
-    ensures { λ r. ⌜ r ≡ toUs destination own «status_request» last ⌝ }
+pub fn is_last_request_to_us(destination: u8, own: u8, status_request: bool, last: bool) -> bool
+    ensures { λ r. ⌜ r ≡ lastRequestToUs destination own «status_request» last ⌝ }
 {
     if status_request {
         if destination == own {

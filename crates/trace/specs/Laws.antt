@@ -13,21 +13,21 @@ use lib.ListN.{length, getD, take, drop, take-append-drop, length-drop, length-a
 use lib.Seq.{length-take-le, take-all, drop-drop, drop-cons, paste, length-paste, take-paste, drop-paste}
 use lib.Dec.{T, leb, lit≤}
 use Rattle.bit_times.specs.Laws.{and-true}
-use Rattle.fields.specs.Fields.{bytesOf, storedOf}
-use Rattle.fields.specs.Laws.{stored-room}
-use Rattle.answers.specs.declared.Answer.{Answer}
-use Rattle.answers.specs.Answers.{answerWord}
+use Rattle.codec_fields.specs.Fields.{bytesOf, storedOf}
+use Rattle.codec_fields.specs.Laws.{stored-room}
+use Rattle.codec_answers.specs.declared.Answer.{Answer}
+use Rattle.codec_answers.specs.Answers.{answerWord}
 use Rattle.station.specs.declared.Station.{Station}
 use Rattle.station.specs.declared.Started.{Started}
 use Rattle.station.specs.declared.Started.the-variants as started
-use Rattle.commands.specs.declared.Polled.{Polled}
+use Rattle.station_answer.specs.declared.Polled.{Polled}
 use Rattle.trace.specs.Trace.{startOf, startedOf, Run, ended, answered, runFrom, runOf, came, ranOf, replayOn, replayOf, numberOf, written, bufferOf}
-use Rattle.entries.specs.Entries.{recordLength, entryOf}
-use Rattle.headers.specs.Headers.{headerOf}
+use Rattle.trace.specs.Entries.{recordLength, entryOf}
+use Rattle.trace_headers.specs.Headers.{headerOf}
 
 -- answers given before, and then those of a run
-abbrev pub after : List Answer → Run → Run
-after given run = record { answers = given ++ run .answers; station = run .station; ending = run .ending }
+abbrev pub precededBy : List Answer → Run → Run
+precededBy given run = record { answers = given ++ run .answers; station = run .station; ending = run .ending }
 
 -- nothing is left to answer where no byte is left
 pub run-none : (most : ℕ) (s : Station) (room : ℕ) → runFrom most s [] room ≡ ended s 0
@@ -62,15 +62,15 @@ isStarted (started.Accepted s) = true
 isStarted (started.Refused n) = false
 
 -- a test that refuses did hold where a station was started
-passed : (test : Bool) (x : Started) (s : Station) → cond test x (started.Refused 17) ≡ started.Accepted s → test ≡ true
-passed true x s e = refl
-passed false x s e = absurd (subst T (ap isStarted (sym e)) tt)
+test-passed : (test : Bool) (x : Started) (s : Station) → cond test x (started.Refused 17) ≡ started.Accepted s → test ≡ true
+test-passed true x s e = refl
+test-passed false x s e = absurd (subst T (ap isStarted (sym e)) tt)
 
 -- a station starts only from a trace that has its header and no more than 2^32 bytes
 pub start-long : (trace : List ℕ) (s : Station) → startOf trace ≡ started.Accepted s → (16 ≤ length trace) × (length trace ≤ 2 ^ 32)
 unfolding startOf
 start-long trace s e =
-    let h = and-true _ _ (passed _ (startedOf (headerOf trace)) s e) in
+    let h = and-true _ _ (test-passed _ (startedOf (headerOf trace)) s e) in
     (leb-true _ _ (h .0), leb-true _ _ (h .1))
 
 -- answers after answers are written after them
@@ -85,7 +85,7 @@ unfolding written
 written-one given a = written-append given (a ∷ []) ∙ ap (λ (l : List ℕ). written given ++ l) (append-nil (bytesOf (answerWord a)))
 
 -- an answer before a run, after answers given, is one answer given more
-pub after-answered : (given : List Answer) (a : Answer) (run : Run) → after given (answered a run) ≡ after (given ++ (a ∷ [])) run
+pub after-answered : (given : List Answer) (a : Answer) (run : Run) → precededBy given (answered a run) ≡ precededBy (given ++ (a ∷ [])) run
 after-answered given a run =
     ap (λ (l : List Answer). record { answers = l; station = run .station; ending = run .ending }) (sym (append-assoc given (a ∷ []) (run .answers)))
 
@@ -109,7 +109,7 @@ pub record Going (fresh : Station) (trace before answers : List ℕ) (station : 
   pub given : List Answer
   pub many : length given ≡ entries
   pub stand : written given ≡ take out answers
-  pub run : runOf fresh (drop 16 trace) (length before) ≡ after given (runFrom (length trace - 16 - entries) station (drop at trace) (length before - out))
+  pub run : runOf fresh (drop 16 trace) (length before) ≡ precededBy given (runFrom (length trace - 16 - entries) station (drop at trace) (length before - out))
 
 -- before the first entry
 pub begins : (fresh : Station) (trace before : List ℕ) → 16 ≤ length trace → length trace ≤ 2 ^ 32 → Going fresh trace before before fresh 16 0 0
@@ -137,7 +137,7 @@ module _ {fresh : Station} {trace before answers : List ℕ} {station : Station}
       → (entries * 256 + n ≡ numberOf (ranOf fresh trace (length before))) × (answers ≡ bufferOf (ranOf fresh trace (length before)) before)
   unfolding ranOf numberOf bufferOf
   over s n e =
-      let whole : runOf fresh (drop 16 trace) (length before) ≡ after (g .given) (ended s n) = g .run ∙ ap (after (g .given)) e in
+      let whole : runOf fresh (drop 16 trace) (length before) ≡ precededBy (g .given) (ended s n) = g .run ∙ ap (precededBy (g .given)) e in
       let place : 8 * entries ≡ out = sym (g .place) in
       rw (whole, append-nil, g .many, place, g .stand, ← g .kept, take-append-drop) (refl, refl)
 
@@ -192,7 +192,7 @@ module _ {fresh : Station} {trace before answers : List ℕ} {station : Station}
           given = g .given ++ (polled .answer ∷ []);
           many = length-append (g .given) (polled .answer ∷ []) ∙ ap (λ (k : ℕ). k + 1) (g .many);
           stand = written-one (g .given) (polled .answer) ∙ ap (λ (l : List ℕ). l ++ bs) (g .stand) ∙ sym (take-paste answers out bs 8 (g .room) (lit≤ tt));
-          run = g .run ∙ ap (after (g .given)) more ∙ after-answered (g .given) (polled .answer) _;
+          run = g .run ∙ ap (precededBy (g .given)) more ∙ after-answered (g .given) (polled .answer) _;
         })
       where
         bs : List ℕ

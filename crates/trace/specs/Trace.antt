@@ -5,19 +5,19 @@ use mathlib.Core.List.{List, [], _∷_, _++_}
 use mathlib.Core.Bool.{cond, _&&_}
 use lib.ListN.{length, take, drop}
 use lib.Dec.{eqb, leb, ltb}
-use Rattle.fields.specs.Fields.{bytesOf}
+use Rattle.codec_fields.specs.Fields.{bytesOf}
 use Rattle.settings.specs.declared.Created.{Created}
 use Rattle.settings.specs.declared.Created.the-variants as created
 use Rattle.settings_build.specs.Build.{buildOf}
-use Rattle.answers.specs.declared.Answer.{Answer}
-use Rattle.answers.specs.Answers.{answerWord}
+use Rattle.codec_answers.specs.declared.Answer.{Answer}
+use Rattle.codec_answers.specs.Answers.{answerWord}
 use Rattle.station.specs.declared.Station.{Station}
 use Rattle.station.specs.declared.Started.{Started}
 use Rattle.station.specs.declared.Started.the-variants as started
 use Rattle.station.specs.Parts.{newStation}
-use Rattle.headers.specs.declared.Header.{Header}
-use Rattle.headers.specs.Headers.{headerOf, headerRefusal}
-use Rattle.entries.specs.Entries.{recordLength, entryOf}
+use Rattle.trace_headers.specs.declared.Header.{Header}
+use Rattle.trace_headers.specs.Headers.{headerOf, headerRefusal}
+use Rattle.trace.specs.Entries.{recordLength, entryOf}
 
 -- a station of settings that were built
 unfoldable pub startedAfter : Created → ℕ → Started
@@ -48,7 +48,7 @@ answered a run = record { answers = a ∷ run .answers; station = run .station; 
 
 -- the run over entries from a station, with room bytes left for answers: 17 where the bytes end inside an entry, then 18 where no 8
 -- bytes are left for its answer, else its answer and the run of the rest. There are at most `most` entries (that this never
--- cuts a run short is `run-enough` of every_trace)
+-- cuts a run short is `run-enough` of theorem_every_trace)
 unfoldable pub runFrom : ℕ → Station → List ℕ → ℕ → Run
 runFrom zero s entries room = ended s 0
 runFrom (suc most) s [] room = ended s 0

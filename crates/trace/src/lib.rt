@@ -1,15 +1,17 @@
 // A trace of document 01, replayed: a header of 16 bytes, then entries, each a command or a poll record, and each entry's
-// answer into the next eight bytes of the caller's buffer. `replay_trace` is what C and Rust hosts call. It leans on headers
-// and settings_build for the header, on entries and station for the entries, on answers and fields for the bytes.
+// answer into the next eight bytes of the caller's buffer. It leans on trace_headers and settings_build for the header, on
+// station_command and station_poll for the entries, on codec_answers and codec_fields for the bytes.
 ghost use mathlib.Core.Path.{_≡_};
 ghost use Prim.Native.Nat.{_+_, _*_, _≤_, _^_};
 ghost use lib.ListN.{length};
+ghost use Rattle.trace.specs.Entries.{recordLength, entryOf};
 ghost use Rattle.trace.specs.Trace.{startedAfter, startedOf, startOf, ranOf, replayOf, numberOf, bufferOf};
-use fields::store;
-use headers::Header;
+use codec_fields::store;
 use settings::Created;
 use station::Started;
 use station::Station;
+use station_answer::Polled;
+use trace_headers::Header;
 
 // A station of settings that were built.
 fn started_after(created: Created, applications: u8) -> Started
@@ -25,7 +27,7 @@ fn started_after(created: Created, applications: u8) -> Started
 fn started(header: Header) -> Started
     ensures { λ r. ⌜ r ≡ startedOf header ⌝ }
 {
-    let refusal = headers::header_refusal(header);
+    let refusal = trace_headers::header_refusal(header);
     if refusal == 0 {
         let fields = header.settings;
         return started_after(fields.build(), header.applications);
@@ -43,7 +45,33 @@ fn start(trace: &[u8]) -> Started
     if 4294967296 < trace.len() {
         return Started::Refused(17);
     }
-    started(headers::read_header(trace))
+    started(trace_headers::read_header(trace))
+}
+
+// How many bytes of record follow an entry's first byte.
+pub fn record_length(kind: u8) -> usize
+    ensures { λ r. ⌜ (r ≡ recordLength kind) × (r ≤ 255) ⌝ }
+{
+    if kind < 3 {
+        return 0;
+    }
+    kind as usize
+}
+
+// An entry: online, offline, passive, or a poll of the record.
+pub fn answer_entry(station: Station, kind: u8, bytes: &[u8]) -> Polled
+    ensures { λ r. ⌜ r ≡ entryOf station kind (now (bytes .entry)) ⌝ }
+{
+    if kind == 0 {
+        return station_command::set_online(station);
+    }
+    if kind == 1 {
+        return station_command::set_offline(station);
+    }
+    if kind == 2 {
+        return station_command::set_passive(station);
+    }
+    station_poll::poll(station, bytes)
 }
 
 // Answers the entries after the header one by one, from a fresh station: the tail of the buffer past the answers given is
@@ -59,7 +87,7 @@ fn run(fresh: Station, trace: &[u8], answers: &mut [u8]) -> u64
     let mut entries: u64 = 0;
     while at < trace.len() {
         let kind = trace[at];
-        let length = entries::record_length(kind);
+        let length = record_length(kind);
         let begin = at + 1;
         if trace.len() - begin < length {
             return entries * 256 + 17;
@@ -68,8 +96,8 @@ fn run(fresh: Station, trace: &[u8], answers: &mut [u8]) -> u64
             return entries * 256 + 18;
         }
         let end = begin + length;
-        let polled = entries::answer_entry(station, kind, &trace[begin..end]);
-        store(&mut answers[out..], answers::pack(polled.answer));
+        let polled = answer_entry(station, kind, &trace[begin..end]);
+        store(&mut answers[out..], codec_answers::pack(polled.answer));
         station = polled.station;
         at = end;
         out += 8;
@@ -80,8 +108,7 @@ fn run(fresh: Station, trace: &[u8], answers: &mut [u8]) -> u64
 
 // Replays a trace and returns the entries answered × 256 + the ending number. Each entry's answer stands in the next eight
 // bytes of `answers`; the bytes past them stay as they were.
-#[no_mangle]
-pub extern "C" fn replay_trace(trace: &[u8], answers: &mut [u8]) -> u64
+pub fn replay_trace(trace: &[u8], answers: &mut [u8]) -> u64
     ensures { λ r. ⌜ r ≡ numberOf (replayOf (now (trace .entry)) (length (now (answers .entry)))) ⌝ }
     ensures { λ _. ⌜ now (answers .exit) ≡ bufferOf (replayOf (now (trace .entry)) (length (now (answers .entry)))) (now (answers .entry)) ⌝ }
 {

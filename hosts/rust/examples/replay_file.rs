@@ -36,7 +36,7 @@ fn run() -> Result<(), String> {
 #[cfg(not(linked))]
 fn run() -> Result<(), String> {
     Err(
-        "built without the proved call: set AMSULFEZD_STATICLIB_DIR to the folder of libtrace.a"
+        "built without the proved call: set AMSULFEZD_STATICLIB_DIR to the folder of libamsulfezd.a"
             .to_string(),
     )
 }

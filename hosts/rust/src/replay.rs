@@ -6,7 +6,7 @@ use crate::trace::entries;
 
 extern "C" {
     /// The proved call as `hosts/c/amsulfezd.h` documents it.
-    fn replay_trace(
+    fn amsulfezd_replay_trace(
         trace: *const u8,
         trace_len: usize,
         answers: *mut u8,
@@ -38,7 +38,7 @@ pub fn replay(trace: &[u8], answers: &mut [u8]) -> Result<Run, NotARun> {
     // reading and writing; as `answers` is borrowed mutably the two do not overlap. The library keeps neither pointer,
     // and it is proved to stay inside both slices and to return.
     let returned = unsafe {
-        replay_trace(
+        amsulfezd_replay_trace(
             trace.as_ptr(),
             trace.len(),
             answers.as_mut_ptr(),

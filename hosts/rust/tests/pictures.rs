@@ -55,7 +55,7 @@ fn replay_of(name: &str, trace: Vec<u8>, answers: &str) -> Replay {
 
 /// The names of all traces of traces/, without their ending.
 fn all_traces() -> Vec<String> {
-    let list = package().join("../../crates/replay_traces/args");
+    let list = package().join("../../crates/run_traces/args");
     let text = std::fs::read_to_string(list).expect("the list of traces");
     text.lines()
         .map(|line| line.strip_suffix(".trace").expect("a trace").to_string())

@@ -82,7 +82,7 @@ fn the_program_replays_every_trace() {
         .output()
         .expect("make_traces runs");
     assert!(output.status.success());
-    let crate_folder = Path::new(env!("CARGO_MANIFEST_DIR")).join("../../crates/replay_traces");
+    let crate_folder = Path::new(env!("CARGO_MANIFEST_DIR")).join("../../crates/run_traces");
     let read = |path: &Path| std::fs::read_to_string(path).expect("a file");
     for name in ["args", "stdout"] {
         assert_eq!(

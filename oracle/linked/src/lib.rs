@@ -3,7 +3,7 @@
 mod proved {
     extern "C" {
         /// The call of the static library; its contract is document 01's "Trace".
-        pub fn replay_trace(
+        pub fn amsulfezd_replay_trace(
             trace: *const u8,
             trace_len: usize,
             answers: *mut u8,
@@ -16,7 +16,7 @@ mod proved {
 pub fn replay_trace(trace: &[u8], answers: &mut [u8]) -> u64 {
     // Safety: both are whole slices, and the call keeps to the two lengths that it is given.
     unsafe {
-        proved::replay_trace(
+        proved::amsulfezd_replay_trace(
             trace.as_ptr(),
             trace.len(),
             answers.as_mut_ptr(),

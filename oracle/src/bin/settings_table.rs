@@ -1,4 +1,4 @@
-//! Prints the table of crates/settings_table, worked out by the published `parameters.rs`, unchanged
+//! Prints the table of crates/run_settings_table, worked out by the published `parameters.rs`, unchanged
 //! (published/parameters.rs). Document 01's time and baud types and a list of peripherals stand in for
 //! the rest of profirust. A panic of the published code is printed as the refusal that document 01 gives.
 #![forbid(unsafe_code)]

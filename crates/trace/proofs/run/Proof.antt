@@ -8,10 +8,10 @@ use Rattle.trace.proofs.run.Statement.{statement}
 use Rattle.trace.proofs.run.Tie as tie
 use Rattle.trace.proofs.run.Reads as reads
 use Rattle.trace.proofs.run.Lts as lts
-use Rattle.answers.proofs.pack.Reads as pack-reads
-use Rattle.fields.proofs.store.Reads as store-reads
-use Rattle.entries.proofs.answer_entry.Reads as answer-entry-reads
-use Rattle.entries.proofs.record_length.Reads as record-length-reads
+use Rattle.codec_answers.proofs.pack.Reads as pack-reads
+use Rattle.codec_fields.proofs.store.Reads as store-reads
+use Rattle.trace.proofs.answer_entry.Reads as answer-entry-reads
+use Rattle.trace.proofs.record_length.Reads as record-length-reads
 
 abbrev Inv-loop : tie.InvT-loop
 Inv-loop trace answers₀ station₀ at₀ out₀ entries₀ answers station at out entries = Going station₀ trace answers₀ answers station at out entries

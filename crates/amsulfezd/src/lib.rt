@@ -1,0 +1,15 @@
+// The library for hosts: every call that C and Rust programs make of it, each thin over the crate that does the work. Their
+// names carry the prefix amsulfezd_, as a C library's names do. hosts/c/amsulfezd.h declares them. It leans on trace.
+ghost use mathlib.Core.Path.{_≡_};
+ghost use lib.ListN.{length};
+ghost use Rattle.trace.specs.Trace.{replayOf, numberOf, bufferOf};
+
+// Replays a trace and returns the entries answered × 256 + the ending number. Each entry's answer stands in the next eight
+// bytes of `answers`; the bytes past them stay as they were.
+#[no_mangle]
+pub extern "C" fn amsulfezd_replay_trace(trace: &[u8], answers: &mut [u8]) -> u64
+    ensures { λ r. ⌜ r ≡ numberOf (replayOf (now (trace .entry)) (length (now (answers .entry)))) ⌝ }
+    ensures { λ _. ⌜ now (answers .exit) ≡ bufferOf (replayOf (now (trace .entry)) (length (now (answers .entry)))) (now (answers .entry)) ⌝ }
+{
+    trace::replay_trace(trace, answers)
+}

@@ -1,0 +1,29 @@
+-- `codec_decisions::write_decision` meets its contract, return by return. Assumes nothing.
+use borrow.Author.Needs.{needs}
+use Rattle.codec_decisions.specs.Decisions.{decisionWord}
+use Rattle.codec_decisions.proofs.write_decision.Statement.{statement}
+use Rattle.codec_decisions.proofs.write_decision.Tie as tie
+
+pub write-decision-spec : {M : Type 1} → statement M
+unfolding decisionWord
+write-decision-spec =
+    tie.close
+    (tie.spec
+    (λ c. search needs)
+    (λ c κs. search needs)
+    (λ c κs. search needs)
+    (λ c. search needs)
+    (λ c κs. search needs)
+    (λ c κs. search needs)
+    (λ c κs. search needs)
+    (λ c κs. search needs)
+    (λ c κs. search needs)
+    (λ c. search needs)
+    (λ c κs. search needs)
+    (λ c κs. search needs)
+    (λ c κs. search needs)
+    (λ c κs. search needs)
+    (λ c κs. search needs)
+    (λ c. simp (c .before .before .enum-told .given .1, ← c .before .put .ensures, ← c .put2 .ensures))
+    (λ c. simp (c .before .before .before .before .before .before .decision .given .1, ← c .before .before .before .before .put3 .ensures, ← c .before .before .before .put4 .ensures, ← c .before .before .put5 .ensures, ← c .before .put-byte .ensures, ← c .put6 .ensures))
+    (λ c. simp (c .before .before .before .before .before .before .decision2 .given .1, ← c .before .before .before .before .put7 .ensures, ← c .before .before .before .put8 .ensures, ← c .before .before .put-byte2 .ensures, ← c .before .put-byte3 .ensures, ← c .put9 .ensures)))

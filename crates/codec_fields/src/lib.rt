@@ -1,0 +1,118 @@
+// Bit fields of document 01, most significant bit first: read by shift and mask, put by shift and or, loaded from bytes and
+// stored into bytes. Every call is total: bits above a word's sixty-four are zero, and so is what a slice is too short for.
+// It leans on no other crate.
+ghost use mathlib.Core.Path.{_≡_};
+ghost use Prim.Native.Nat.{_+_, _^_, _<_, _≤_};
+ghost use lib.ListN.{length, take, drop};
+ghost use Rattle.codec_fields.specs.Fields.{fieldOf, bitAt, upTo8, putOf, bitNumber, be, loadOf, storedOf};
+
+// The `width` bits of `word` that stand above its lowest `at`.
+pub fn field(word: u64, at: u64, width: u64) -> u64
+    ensures { λ r. ⌜ r ≡ fieldOf word at width ⌝ }
+{
+    if 64 <= at {
+        return 0;
+    }
+    if 64 <= width {
+        return word >> at;
+    }
+    (word >> at) & ((1u64 << width) - 1)
+}
+
+// A field of at most 8 bits as a byte: of a wider one the lowest 8.
+pub fn field_byte(word: u64, at: u64, width: u64) -> u8
+    ensures { λ r. ⌜ r ≡ fieldOf word at (upTo8 width) ⌝ }
+{
+    if 8 < width {
+        return field(word, at, 8) as u8;
+    }
+    field(word, at, width) as u8
+}
+
+// Whether the bit of `word` above its lowest `at` is one.
+pub fn bit(word: u64, at: u64) -> bool
+    ensures { λ r. ⌜ r ≡ bitAt word at ⌝ }
+{
+    field(word, at, 1) == 1
+}
+
+// `word` with the lowest `width` bits of `value` put below it; what stands above 64 bits falls away.
+pub fn put(word: u64, width: u64, value: u64) -> u64
+    ensures { λ r. ⌜ r ≡ putOf word width value ⌝ }
+{
+    if 64 <= width {
+        return value;
+    }
+    (word << width) | field(value, 0, width)
+}
+
+// The same for a byte.
+pub fn put_byte(word: u64, width: u64, value: u8) -> u64
+    ensures { λ r. ⌜ r ≡ putOf word width value ⌝ }
+{
+    put(word, width, wide(value))
+}
+
+// The same for one bit.
+pub fn put_bit(word: u64, value: bool) -> u64
+    ensures { λ r. ⌜ r ≡ putOf word 1 (bitNumber value) ⌝ }
+{
+    if value {
+        return put(word, 1, 1);
+    }
+    put(word, 1, 0)
+}
+
+// A byte as a wide number.
+fn wide(b: u8) -> u64
+    ensures { λ r. ⌜ (r ≡ b) × (r < 2 ^ 8) ⌝ }
+{
+    b as u64
+}
+
+// The number that `count` bytes of `s` from `at` are, the first the highest.
+fn number(s: &[u8], at: usize, count: usize) -> u64
+    requires { ⌜ (count ≤ 8) × (at + count ≤ length (now s)) ⌝ }
+    ensures { λ r. ⌜ r ≡ be (take count (drop at (now (s .entry)))) ⌝ }
+{
+    let mut word: u64 = 0;
+    let mut i: usize = 0;
+    while i < count {
+        word = put(word, 8, wide(s[at + i]));
+        i += 1;
+    }
+    word
+}
+
+// The number that `count` bytes of `s` from `at` are, the first the highest; 0 where `s` ends before, and for more than 8 bytes.
+pub fn load(s: &[u8], at: usize, count: usize) -> u64
+    ensures { λ r. ⌜ r ≡ loadOf (now (s .entry)) at count ⌝ }
+{
+    if 8 < count {
+        return 0;
+    }
+    if s.len() < at {
+        return 0;
+    }
+    if s.len() - at < count {
+        return 0;
+    }
+    number(s, at, count)
+}
+
+// Writes `word` into the first eight bytes of `s`, the highest first; a slice of fewer bytes stays as it is.
+pub fn store(s: &mut [u8], word: u64)
+    ensures { λ _. ⌜ now (s .exit) ≡ storedOf word (now (s .entry)) ⌝ }
+{
+    if s.len() < 8 {
+        return;
+    }
+    s[0] = field_byte(word, 56, 8);
+    s[1] = field_byte(word, 48, 8);
+    s[2] = field_byte(word, 40, 8);
+    s[3] = field_byte(word, 32, 8);
+    s[4] = field_byte(word, 24, 8);
+    s[5] = field_byte(word, 16, 8);
+    s[6] = field_byte(word, 8, 8);
+    s[7] = field_byte(word, 0, 8);
+}

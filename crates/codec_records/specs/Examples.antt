@@ -1,0 +1,44 @@
+-- Worked poll records for one application. Assumes nothing.
+use Prim.Native.Nat.{ℕ}
+use mathlib.Core.Path.{_≡_, refl}
+use mathlib.Core.Bool.{true, false}
+use mathlib.Core.List.{List, [], _∷_, _++_}
+use Rattle.codec_fields.specs.Fields.{fieldOf, beFrom, loadOf}
+use Rattle.codec_telegrams.specs.Words.{telegramOf, zeroOr14, telegramRefusal}
+use Rattle.codec_decisions.specs.Decisions.{decisionOf, lengthRefusal, decisionRefusal}
+use Rattle.codec_telegrams.specs.declared.Telegram.the-variants.{Token}
+use Rattle.codec_decisions.specs.declared.Decision.the-variants.{Decline, SendExpectReply}
+use Rattle.codec_records.specs.Records.{headOf, decisionAt, telegramAt, entryRefusal, wordsRefusal, recordRefusal}
+
+-- clock 1000, 5 pending bytes; the argument is 8 × the telegram count
+abbrev start : ℕ → List ℕ
+start eights = 0 ∷ 0 ∷ 0 ∷ 0 ∷ 3 ∷ 232 ∷ eights ∷ 5 ∷ []
+
+-- the normal decision sends 9 bytes and awaits a reply from 7; the high one is given
+abbrev asked : List ℕ → List ℕ
+asked high = 195 ∷ 132 ∷ 128 ∷ [] ++ high
+
+-- a token from 5 to 9, with its last byte given
+abbrev token : ℕ → List ℕ
+token last = 4 ∷ 133 ∷ 0 ∷ last ∷ []
+
+-- a decision that declines
+abbrev none : List ℕ
+none = 0 ∷ 0 ∷ 0 ∷ []
+
+-- a good record and what it says; then each refusal: short, nine telegrams, a byte more, a zero bit, no bytes, both at once, a telegram's zero bit
+pub examples :
+    (recordRefusal (start 8 ++ asked none ++ token 0) 1 ≡ 0)
+    × (headOf (start 8 ++ asked none ++ token 0) ≡ record { clock = 1000; pending = 5; telegrams = 1; transmitting = false })
+    × (decisionAt (start 8 ++ asked none ++ token 0) 1 0 false ≡ SendExpectReply 7 9)
+    × (decisionAt (start 8 ++ asked none ++ token 0) 1 0 true ≡ Decline)
+    × (telegramAt (start 8 ++ asked none ++ token 0) 1 0 ≡ Token 9 5)
+    × (recordRefusal (0 ∷ 0 ∷ 0 ∷ []) 1 ≡ 12)
+    × (recordRefusal (start 72 ++ asked none) 1 ≡ 13)
+    × (recordRefusal (start 0 ++ asked none ++ (0 ∷ [])) 1 ≡ 12)
+    × (recordRefusal (start 0 ++ asked (0 ∷ 0 ∷ 128 ∷ [])) 1 ≡ 14)
+    × (recordRefusal (start 0 ++ asked (128 ∷ 0 ∷ 0 ∷ [])) 1 ≡ 15)
+    × (recordRefusal (start 0 ++ asked (128 ∷ 0 ∷ 1 ∷ [])) 1 ≡ 14)
+    × (recordRefusal (start 8 ++ asked none ++ token 1) 1 ≡ 14)
+unfolding headOf decisionAt telegramAt entryRefusal wordsRefusal recordRefusal telegramOf zeroOr14 telegramRefusal decisionOf lengthRefusal decisionRefusal fieldOf beFrom loadOf
+examples = (refl, refl, refl, refl, refl, refl, refl, refl, refl, refl, refl, refl)

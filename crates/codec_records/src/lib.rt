@@ -1,0 +1,130 @@
+// A poll record of document 01, checked once and then read in place: the refusal of a record for a number of applications, what
+// its first 64 bits say, the decision of an application and a telegram. Every call is total on every slice and none reads past
+// its end. It leans on codec_fields for the bits and on codec_telegrams and codec_decisions for the
+// words.
+ghost use mathlib.Core.Path.{_≡_};
+ghost use Prim.Native.Nat.{_+_, _*_, _<_};
+ghost use Rattle.codec_fields.specs.Fields.{fieldOf, bitNumber};
+ghost use Rattle.codec_records.specs.Records.{headOf, entryRefusal, wordsRefusal, recordRefusal, decisionAt, telegramAt};
+use codec_decisions::Decision;
+use codec_decisions::decision_refusal;
+use codec_decisions::read_decision;
+use codec_fields::bit;
+use codec_fields::field;
+use codec_fields::field_byte;
+use codec_fields::load;
+use codec_telegrams::Telegram;
+use codec_telegrams::read_telegram;
+use codec_telegrams::telegram_refusal;
+
+// A record's first 64 bits: the clock, below 2 to the 48, the pending bytes, the number of telegrams, and whether a
+// transmission goes on.
+pub struct Head {
+    pub clock: u64,
+    pub pending: u16,
+    pub telegrams: u8,
+    pub transmitting: bool,
+}
+
+// The pending bytes of a record's first 64 bits.
+fn pending_bytes(word: u64) -> u16
+    ensures { λ r. ⌜ r ≡ fieldOf word 0 11 ⌝ }
+{
+    field(word, 0, 11) as u16
+}
+
+// What a record's first 64 bits say.
+pub fn read_head(bytes: &[u8]) -> Head
+    ensures { λ r. ⌜ r ≡ headOf (now (bytes .entry)) ⌝ }
+{
+    let word = load(bytes, 0, 8);
+    Head {
+        clock: field(word, 16, 48),
+        pending: pending_bytes(word),
+        telegrams: field_byte(word, 11, 4),
+        transmitting: bit(word, 15),
+    }
+}
+
+// Where a decision stands.
+fn decision_place(application: u8, high: bool) -> usize
+    ensures { λ r. ⌜ r ≡ 8 + 3 * (2 * application + bitNumber high) ⌝ }
+{
+    if high {
+        return 8 + 3 * (2 * (application as usize) + 1);
+    }
+    8 + 3 * (2 * (application as usize))
+}
+
+// Where a telegram stands.
+fn telegram_place(applications: u8, telegram: u8) -> usize
+    ensures { λ r. ⌜ r ≡ 8 + 6 * applications + 4 * telegram ⌝ }
+{
+    8 + 6 * (applications as usize) + 4 * (telegram as usize)
+}
+
+// The decision of an application, normal or high priority; an application past the last declines.
+pub fn decision(bytes: &[u8], applications: u8, application: u8, high: bool) -> Decision
+    ensures { λ r. ⌜ r ≡ decisionAt (now (bytes .entry)) applications application high ⌝ }
+{
+    if application < applications {
+        return read_decision(load(bytes, decision_place(application, high), 3));
+    }
+    Decision::Decline
+}
+
+// A telegram of a record; past its end a short confirmation.
+pub fn telegram(bytes: &[u8], applications: u8, index: u8) -> Telegram
+    ensures { λ r. ⌜ r ≡ telegramAt (now (bytes .entry)) applications index ⌝ }
+{
+    let at = telegram_place(applications, index);
+    if bytes.len() < at + 4 {
+        return Telegram::ShortConfirmation;
+    }
+    read_telegram(load(bytes, at, 4))
+}
+
+// The refusal of an entry: of a decision, and after the decisions of a telegram.
+fn entry_refusal(bytes: &[u8], applications: u8, entry: usize) -> u8
+    requires { ⌜ entry < 1024 ⌝ }
+    ensures { λ r. ⌜ r ≡ entryRefusal (now (bytes .entry)) applications entry ⌝ }
+{
+    let n = applications as usize;
+    if entry < 2 * n {
+        return decision_refusal(load(bytes, 8 + 3 * entry, 3));
+    }
+    telegram_refusal(load(bytes, 8 + 6 * n + 4 * (entry - 2 * n), 4))
+}
+
+// The first refusal among a record's entries from the left.
+fn entries_refusal(bytes: &[u8], applications: u8, telegrams: u8) -> u8
+    ensures { λ r. ⌜ r ≡ wordsRefusal (entryRefusal (now (bytes .entry)) applications) (2 * applications + telegrams) ⌝ }
+{
+    let n = 2 * (applications as usize) + telegrams as usize;
+    let mut entry: usize = 0;
+    while entry < n {
+        let number = entry_refusal(bytes, applications, entry);
+        if number != 0 {
+            return number;
+        }
+        entry += 1;
+    }
+    0
+}
+
+// The refusal of a record for a number of applications, 0 for a good one.
+pub fn record_refusal(bytes: &[u8], applications: u8) -> u8
+    ensures { λ r. ⌜ r ≡ recordRefusal (now (bytes .entry)) applications ⌝ }
+{
+    if bytes.len() < 8 {
+        return 12;
+    }
+    let telegrams = field_byte(load(bytes, 0, 8), 11, 4);
+    if 8 < telegrams {
+        return 13;
+    }
+    if bytes.len() != telegram_place(applications, telegrams) {
+        return 12;
+    }
+    entries_refusal(bytes, applications, telegrams)
+}

@@ -1,2 +1,0 @@
--- The definitions; there are no laws.
-pub mod Commands

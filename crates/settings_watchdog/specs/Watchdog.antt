@@ -1,0 +1,29 @@
+-- Document 01, "Settings": the watchdog's two factors, refusal 9, and the time that they make, beside profirust's parameters.rs.
+-- A refusal is document 01's number. `cond t a b` is a if the test t holds, else b.
+use Prim.Native.Nat.{ℕ, zero, suc, _+_, _-_, _*_, _/_}
+use mathlib.Core.Bool.{cond}
+use lib.Dec.{ltb, eqb}
+use Rattle.settings_watchdog.specs.declared.WatchdogFactors.{WatchdogFactors}
+use Rattle.settings_watchdog.specs.declared.WatchdogFactors.the-variants as wf
+use Rattle.settings_watchdog.specs.declared.Factored.{Factored}
+use Rattle.settings_watchdog.specs.declared.Factored.the-variants as factored
+use Rattle.settings_watchdog.specs.declared.Timeout.{Timeout}
+use Rattle.settings_watchdog.specs.declared.Timeout.the-variants as timeout
+
+-- u / f rounded up
+abbrev pub ceilOf : ℕ → ℕ → ℕ
+ceilOf u f = (u + f - 1) / f
+
+-- watchdog_factors: the least f1 of the k numbers from f on with u / f1 rounded up below 256, and that quotient; 9 where there is none
+unfoldable pub trial : ℕ → ℕ → ℕ → Factored
+trial u zero f = factored.Refused 9
+trial u (suc k) f = let rest = trial u k (suc f) in cond (ltb (ceilOf u f) 256) (factored.Factors f (ceilOf u f)) rest
+
+-- watchdog_factors: none of 0 ms, else by trial from 1 to 255, in units of 10 ms
+unfoldable pub factorsOf : ℕ → Factored
+factorsOf ms = cond (eqb ms 0) factored.None (trial (ms / 10) 255 1)
+
+-- Parameters::watchdog_timeout: f1 × f2 × 10 ms, where there are factors
+unfoldable pub watchdogTimeOf : WatchdogFactors → Timeout
+watchdogTimeOf wf.None = timeout.None
+watchdogTimeOf (wf.Some f1 f2) = timeout.After (record { 0 = f1 * f2 * 10000 })

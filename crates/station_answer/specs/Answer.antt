@@ -1,0 +1,34 @@
+-- What a call hands back (document 01, "Answer, 64 bits"): the station and the answer.
+use Prim.Native.Nat.{ℕ}
+use Rattle.settings.specs.declared.Parameters.{Parameters}
+use Rattle.ring.specs.Ring.{nextOf}
+use Rattle.codec_answers.specs.declared.Answer.{Answer}
+use Rattle.codec_answers.specs.Answers.{refusedAnswer}
+use Rattle.station.specs.declared.Station.{Station}
+use Rattle.station.specs.declared.RingStep.{RingStep}
+use Rattle.station.specs.Parts.{stateNumber}
+use Rattle.station_answer.specs.declared.Polled.{Polled}
+
+-- document 01: the answer of an entry that is not refused, with the state, next application and next station after it
+unfoldable pub stepAnswer : RingStep → Answer
+stepAnswer s =
+    record {
+      refusal = 0;
+      outcome = s .step .outcome;
+      state = stateNumber (s .step .core .state);
+      sent = s .step .sent;
+      consumed = s .step .consumed;
+      notice = s .step .notice;
+      «next_application» = s .step .core .«next_application»;
+      «next_station» = nextOf (s .ring);
+    }
+
+-- the station after a step, and the answer
+unfoldable pub polledOf : Parameters → ℕ → RingStep → Polled
+polledOf p n s =
+    record { station = record { core = s .step .core; «token_ring» = s .ring; p = p; applications = n }; answer = stepAnswer s }
+
+-- a refused entry: the station is unchanged
+unfoldable pub refusedPoll : Station → ℕ → Polled
+refusedPoll s refusal =
+    record { station = s; answer = refusedAnswer refusal (stateNumber (s .core .state)) (s .core .«next_application») (nextOf (s .«token_ring»)) }

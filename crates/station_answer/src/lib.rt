@@ -1,0 +1,71 @@
+// What any call on the station hands back: the station after it and its answer. The answer is document 01's; profirust's
+// PollDone is its outcome. It leans on station, codec_answers and ring.
+ghost use mathlib.Core.Path.{_≡_};
+ghost use Rattle.station_answer.specs.Answer.{stepAnswer, polledOf, refusedPoll};
+use codec_answers::Answer;
+use settings::Parameters;
+use station::RingStep;
+use station::Station;
+
+// What a call hands back: the station after it, and the answer.
+pub struct Polled {
+    pub station: Station,
+    pub answer: Answer,
+}
+
+// The answer of an entry that is not refused.
+fn answer_of(stepped: RingStep) -> Answer
+    ensures { λ r. ⌜ r ≡ stepAnswer stepped ⌝ }
+{
+    let ring = stepped.ring;
+    let step = stepped.step;
+    let core = step.core;
+    let state = core.state;
+    let outcome = step.outcome;
+    let sent = step.sent;
+    let notice = step.notice;
+    Answer {
+        refusal: 0,
+        outcome,
+        state: station::state_number(state),
+        sent,
+        consumed: step.consumed,
+        notice,
+        next_application: core.next_application,
+        next_station: ring.next_station(),
+    }
+}
+
+// The station after a step, with the step's answer.
+pub fn poll_done(p: Parameters, applications: u8, stepped: RingStep) -> Polled
+    ensures { λ r. ⌜ r ≡ polledOf p applications stepped ⌝ }
+{
+    let step = stepped.step;
+    let core = step.core;
+    let token_ring = stepped.ring;
+    Polled {
+        station: Station {
+            core,
+            token_ring,
+            p,
+            applications,
+        },
+        answer: answer_of(stepped),
+    }
+}
+
+// A refused entry leaves the station as it was.
+pub fn refused(station: Station, refusal: u8) -> Polled
+    ensures { λ r. ⌜ r ≡ refusedPoll station refusal ⌝ }
+{
+    let core = station.core;
+    let state = core.state;
+    let ring = station.token_ring;
+    let answer = codec_answers::refused_answer(
+        refusal,
+        station::state_number(state),
+        core.next_application,
+        ring.next_station(),
+    );
+    Polled { station, answer }
+}

@@ -1,0 +1,12 @@
+use borrow.Author.Needs.{needs}
+use Rattle.station_await_status.specs.AwaitStatus.{statusAnswered}
+use Rattle.station_await_status.proofs.do_await_status_response_answered.Statement.{statement}
+use Rattle.station_await_status.proofs.do_await_status_response_answered.Tie as tie
+
+pub do-await-status-response-answered-spec : {M : Type 1} → statement M
+unfolding statusAnswered
+do-await-status-response-answered-spec =
+    tie.close
+    (tie.spec
+    (λ c κs. search needs)
+    (λ c. simp (← c .transition-pass-token .ensures)))

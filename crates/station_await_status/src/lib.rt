@@ -1,0 +1,151 @@
+// AwaitStatusResponse: a gap question is answered, or its slot passes. From profirust's active.rs: do_await_status_response. It
+// leans on station_pass, since the token is passed on where nobody answers, on station and ring, and on codec_records for
+// what was received.
+ghost use mathlib.Core.Path.{_≡_};
+ghost use Prim.Native.Nat.{_<_, _^_};
+ghost use denote.Ref.{now as contents};
+ghost use Rattle.station_await_status.specs.AwaitStatus.{statusRing, statusAnswered, statusUnexpected, statusReceived, statusTimeout, awaitStatusOf};
+use bit_times::Micros;
+use codec_answers::Notice;
+use codec_answers::Outcome;
+use codec_answers::Sent;
+use codec_telegrams::ResponseState;
+use codec_telegrams::Telegram;
+use ring::Ring;
+use settings::Parameters;
+use station::Activity;
+use station::Core;
+use station::PassTokenAttempt;
+use station::RingStep;
+use station::Step;
+
+// do_await_status_response: a master that is ready for the token, or has it at times, is the next station from now on.
+fn do_await_status_response_ring(ring: Ring, address: u8, state: ResponseState, status: u8) -> Ring
+    ensures { λ r. ⌜ r ≡ statusRing ring address state status ⌝ }
+{
+    if status != 0 {
+        return ring;
+    }
+    match state {
+        ResponseState::Slave => ring,
+        ResponseState::MasterNotReady => ring,
+        ResponseState::MasterWithoutToken => ring.set_next_station(address),
+        ResponseState::MasterInRing => ring.set_next_station(address),
+    }
+}
+
+// do_await_status_response: the station that was asked has answered: to PassToken, and the pass is the next poll's.
+fn do_await_status_response_answered(core: Core, ring: Ring) -> RingStep
+    ensures { λ r. ⌜ r ≡ statusAnswered core ring ⌝ }
+{
+    RingStep {
+        step: Step {
+            core: station::transition_pass_token(core, false, PassTokenAttempt::First),
+            sent: Sent::Nothing,
+            notice: Notice::NoNotice,
+            outcome: Outcome::Delay,
+            consumed: 1,
+        },
+        ring,
+    }
+}
+
+// do_await_status_response: anything else is unexpected.
+fn do_await_status_response_unexpected(core: Core, ring: Ring) -> RingStep
+    ensures { λ r. ⌜ r ≡ statusUnexpected core ring ⌝ }
+{
+    RingStep {
+        step: Step {
+            core: station::transition_active_idle(core),
+            sent: Sent::Nothing,
+            notice: Notice::NoNotice,
+            outcome: Outcome::Bus,
+            consumed: 1,
+        },
+        ring,
+    }
+}
+
+// do_await_status_response: a telegram came.
+fn do_await_status_response_received(
+    p: Parameters,
+    core: Core,
+    ring: Ring,
+    address: u8,
+    telegram: Telegram,
+) -> RingStep
+    ensures { λ r. ⌜ r ≡ statusReceived p core ring address telegram ⌝ }
+{
+    let own = p.address;
+    match telegram {
+        Telegram::Token { .. } => do_await_status_response_unexpected(core, ring),
+        Telegram::ShortConfirmation => do_await_status_response_unexpected(core, ring),
+        Telegram::Request { .. } => do_await_status_response_unexpected(core, ring),
+        Telegram::Response {
+            destination,
+            source,
+            state,
+            status,
+        } => {
+            if source == address {
+                if destination == own {
+                    do_await_status_response_answered(
+                        core,
+                        do_await_status_response_ring(ring, address, state, status),
+                    )
+                } else {
+                    do_await_status_response_unexpected(core, ring)
+                }
+            } else {
+                do_await_status_response_unexpected(core, ring)
+            }
+        }
+    }
+}
+
+// do_await_status_response: no answer came in time. The bus is free, so the token is passed on at once.
+fn do_await_status_response_timeout(p: Parameters, core: Core, ring: Ring, now: Micros) -> RingStep
+    requires { ⌜ now .0 < 2 ^ 48 ⌝ }
+    ensures { λ r. ⌜ r ≡ statusTimeout p core ring now ⌝ }
+{
+    station_pass::do_pass_token(
+        p,
+        station::transition_pass_token(core, false, PassTokenAttempt::First),
+        ring,
+        now,
+        false,
+        PassTokenAttempt::First,
+    )
+}
+
+// do_await_status_response: only the first telegram is looked at.
+pub fn do_await_status_response(
+    p: Parameters,
+    core: Core,
+    ring: Ring,
+    now: Micros,
+    address: u8,
+    bytes: &[u8],
+    applications: u8,
+    telegrams: u8,
+) -> RingStep
+    requires { ⌜ now .0 < 2 ^ 48 ⌝ }
+    ensures { λ r. ⌜ r ≡ awaitStatusOf p core ring now address (contents (bytes .entry)) applications telegrams ⌝ }
+{
+    if 0 < telegrams {
+        let telegram = codec_records::telegram(bytes, applications, 0);
+        let marked = station::mark_rx(core, now);
+        return do_await_status_response_received(p, marked, ring, address, telegram);
+    }
+    let activity = core.last_bus_activity;
+    let slot = station::check_slot_expired(p, activity, now);
+    let last = slot.last;
+    let waited = station::with_activity(core, Activity::At(last));
+    if slot.over {
+        return do_await_status_response_timeout(p, waited, ring, now);
+    }
+    RingStep {
+        step: station::done(waited, Outcome::Bus),
+        ring,
+    }
+}

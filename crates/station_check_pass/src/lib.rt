@@ -1,0 +1,111 @@
+// CheckTokenPass: a passed token is heard of, or its slot passes and it is sent again, to the next station three times. From
+// profirust's active.rs: do_check_token_pass. It leans on station_pass, on station_listen for what is heard, and on station
+// and ring.
+ghost use mathlib.Core.Path.{_≡_};
+ghost use Prim.Native.Nat.{_<_, _^_};
+ghost use denote.Ref.{now as contents};
+ghost use Rattle.station_check_pass.specs.CheckPass.{resendOf, checkReceived, checkTokenPassOf};
+use bit_times::Micros;
+use codec_answers::Outcome;
+use ring::Ring;
+use settings::Parameters;
+use station::Activity;
+use station::Core;
+use station::PassTokenAttempt;
+use station::RingStep;
+
+// do_check_token_pass: the token was not taken up. It is sent again at once; after the third attempt the next station is
+// taken out of the ring, and the one behind it is tried.
+fn do_check_token_pass_resend(
+    p: Parameters,
+    core: Core,
+    ring: Ring,
+    now: Micros,
+    attempt: PassTokenAttempt,
+) -> RingStep
+    requires { ⌜ now .0 < 2 ^ 48 ⌝ }
+    ensures { λ r. ⌜ r ≡ resendOf p core ring now attempt ⌝ }
+{
+    match attempt {
+        PassTokenAttempt::First => station_pass::do_pass_token(
+            p,
+            station::transition_pass_token(core, false, PassTokenAttempt::Second),
+            ring,
+            now,
+            false,
+            PassTokenAttempt::Second,
+        ),
+        PassTokenAttempt::Second => station_pass::do_pass_token(
+            p,
+            station::transition_pass_token(core, false, PassTokenAttempt::Third),
+            ring,
+            now,
+            false,
+            PassTokenAttempt::Third,
+        ),
+        PassTokenAttempt::Third => station_pass::do_pass_token(
+            p,
+            station::transition_pass_token(core, false, PassTokenAttempt::First),
+            ring.remove_station(ring.next_station()),
+            now,
+            false,
+            PassTokenAttempt::First,
+        ),
+    }
+}
+
+// do_check_token_pass: any telegram ends the check, whoever sent it. They are handled as in ActiveIdle.
+fn do_check_token_pass_received(
+    p: Parameters,
+    core: Core,
+    ring: Ring,
+    now: Micros,
+    bytes: &[u8],
+    applications: u8,
+    telegrams: u8,
+) -> RingStep
+    ensures { λ r. ⌜ r ≡ checkReceived p core ring now (contents (bytes .entry)) applications telegrams ⌝ }
+{
+    if 0 < telegrams {
+        let idle = station::transition_active_idle(core);
+        let all = station_listen::receive_all_telegrams(
+            p,
+            idle,
+            ring,
+            now,
+            false,
+            bytes,
+            applications,
+            telegrams,
+        );
+        return station_listen::consumed_all(all, telegrams);
+    }
+    RingStep {
+        step: station::done(core, Outcome::Bus),
+        ring,
+    }
+}
+
+// do_check_token_pass: the slot is asked first.
+pub fn do_check_token_pass(
+    p: Parameters,
+    core: Core,
+    ring: Ring,
+    now: Micros,
+    attempt: PassTokenAttempt,
+    bytes: &[u8],
+    applications: u8,
+    telegrams: u8,
+) -> RingStep
+    requires { ⌜ now .0 < 2 ^ 48 ⌝ }
+    ensures { λ r. ⌜ r ≡ checkTokenPassOf p core ring now attempt (contents (bytes .entry)) applications telegrams ⌝ }
+{
+    let activity = core.last_bus_activity;
+    let slot = station::check_slot_expired(p, activity, now);
+    let last = slot.last;
+    let waited = station::with_activity(core, Activity::At(last));
+    if slot.over {
+        return do_check_token_pass_resend(p, waited, ring, now, attempt);
+    }
+    do_check_token_pass_received(p, waited, ring, now, bytes, applications, telegrams)
+}

@@ -1,0 +1,47 @@
+// ClaimToken: the token is claimed by sending it to ourselves twice. From profirust's active.rs: do_claim_token. It leans on
+// station and ring.
+ghost use mathlib.Core.Path.{_≡_};
+ghost use Prim.Native.Nat.{_<_, _^_};
+ghost use Rattle.station_claim.specs.Claim.{claimNext, claimTokenOf};
+use bit_times::Micros;
+use codec_answers::Outcome;
+use codec_answers::Sent;
+use ring::Ring;
+use settings::Parameters;
+use station::Activity;
+use station::Core;
+use station::RingStep;
+use station::State;
+
+// The state after a claiming token: once more, or the token is ours.
+fn claim_next(core: Core, now: Micros, first: bool) -> Core
+    ensures { λ r. ⌜ r ≡ claimNext core now first ⌝ }
+{
+    if first {
+        return station::with_state(core, State::ClaimToken { first: false });
+    }
+    station::transition_use_token(core, station::with_token_time(now))
+}
+
+// do_claim_token: the token is claimed by sending it to ourselves twice.
+pub fn do_claim_token(p: Parameters, core: Core, ring: Ring, now: Micros, first: bool) -> RingStep
+    requires { ⌜ now .0 < 2 ^ 48 ⌝ }
+    ensures { λ r. ⌜ r ≡ claimTokenOf p core ring now first ⌝ }
+{
+    let activity = core.last_bus_activity;
+    let pause = station::wait_synchronization_pause(p, activity, now);
+    let last = pause.last;
+    let waited = station::with_activity(core, Activity::At(last));
+    if pause.over {
+        let next = claim_next(waited, now, first);
+        let own = p.address;
+        return RingStep {
+            step: station::transmit(p, next, now, 3, Sent::Token { destination: own }),
+            ring: ring.claim_token(),
+        };
+    }
+    RingStep {
+        step: station::done(waited, Outcome::Delay),
+        ring,
+    }
+}

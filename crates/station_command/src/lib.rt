@@ -1,0 +1,44 @@
+// The three commands, online, offline and passive, each with its answer. From profirust's active.rs: set_online, set_offline,
+// set_passive. It leans on station, station_answer and ring.
+ghost use mathlib.Core.Path.{_≡_};
+ghost use Rattle.station_command.specs.Command.{onlineOf, offlineOf, passiveOf};
+use codec_answers::Outcome;
+use ring::Ring;
+use station::RingStep;
+use station::Station;
+use station_answer::Polled;
+use station_answer::poll_done;
+use station_answer::refused;
+
+// set_online.
+pub fn set_online(station: Station) -> Polled
+    ensures { λ r. ⌜ r ≡ onlineOf station ⌝ }
+{
+    let core = station.core;
+    let ring = station.token_ring;
+    let p = station.p;
+    let stepped = RingStep {
+        step: station::done(station::with_online(core, true), Outcome::None),
+        ring,
+    };
+    poll_done(p, station.applications, stepped)
+}
+
+// set_offline: a fresh station with the same settings and applications.
+pub fn set_offline(station: Station) -> Polled
+    ensures { λ r. ⌜ r ≡ offlineOf station ⌝ }
+{
+    let p = station.p;
+    let stepped = RingStep {
+        step: station::done(station::fresh_core(), Outcome::None),
+        ring: Ring::fresh(p.address),
+    };
+    poll_done(p, station.applications, stepped)
+}
+
+// set_passive. Refusal 16, always.
+pub fn set_passive(station: Station) -> Polled
+    ensures { λ r. ⌜ r ≡ passiveOf station ⌝ }
+{
+    refused(station, 16)
+}

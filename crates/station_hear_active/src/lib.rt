@@ -1,0 +1,288 @@
+// One telegram heard in ActiveIdle, and while a passed token is checked: handle_telegram of profirust's active.rs. It leans
+// on station and ring.
+ghost use mathlib.Core.Path.{_≡_};
+ghost use Rattle.station_hear_active.specs.HearActive.{activeCollided, remembers, acceptedOf, tokenToUs, tokenWitnessed, tokenHeard, activeRequested, activeHeard, handleTelegram};
+use bit_times::Micros;
+use codec_answers::Outcome;
+use codec_telegrams::Telegram;
+use ring::Ring;
+use settings::Parameters;
+use station::Core;
+use station::Heard;
+use station::OptionAddress;
+use station::State;
+
+// handle_telegram: a token with our own source. The first is counted, the second back to back leads to ListenToken.
+fn handle_telegram_collision(
+    core: Core,
+    ring: Ring,
+    status_request: OptionAddress,
+    new_previous_station: OptionAddress,
+    collision_count: u8,
+) -> Heard
+    ensures { λ r. ⌜ r ≡ activeCollided core ring «status_request» «new_previous_station» «collision_count» ⌝ }
+{
+    if collision_count == 0 {
+        return station::hearing(
+            station::with_state(
+                core,
+                State::ActiveIdle {
+                    status_request,
+                    new_previous_station,
+                    collision_count: 1,
+                },
+            ),
+            ring,
+            Outcome::Bus,
+        );
+    }
+    station::hearing(station::transition_listen_token(core), ring, Outcome::Bus)
+}
+
+// Is this the remembered address?
+fn is_remembered(remembered: OptionAddress, address: u8) -> bool
+    ensures { λ r. ⌜ r ≡ remembers remembered address ⌝ }
+{
+    match remembered {
+        OptionAddress::None => false,
+        OptionAddress::Some(a) => a == address,
+    }
+}
+
+// handle_telegram: the token is ours to use.
+fn handle_telegram_accept(core: Core, ring: Ring, now: Micros) -> Heard
+    ensures { λ r. ⌜ r ≡ acceptedOf core ring now ⌝ }
+{
+    station::hearing(
+        station::transition_use_token(core, station::with_token_time(now)),
+        ring,
+        Outcome::Delay,
+    )
+}
+
+// handle_telegram: a token to us, last of its poll and not by us: from the previous station or from the remembered one
+// it is accepted, from any other its sender is remembered.
+fn handle_telegram_to_us(
+    core: Core,
+    ring: Ring,
+    now: Micros,
+    status_request: OptionAddress,
+    new_previous_station: OptionAddress,
+    destination: u8,
+    source: u8,
+) -> Heard
+    ensures { λ r. ⌜ r ≡ tokenToUs core ring now «status_request» «new_previous_station» destination source ⌝ }
+{
+    if source == ring.previous_station() {
+        return handle_telegram_accept(core, ring, now);
+    }
+    if is_remembered(new_previous_station, source) {
+        return handle_telegram_accept(core, ring.witness_token_pass(source, destination), now);
+    }
+    station::hearing(
+        station::with_state(
+            core,
+            State::ActiveIdle {
+                status_request,
+                new_previous_station: OptionAddress::Some(source),
+                collision_count: 0,
+            },
+        ),
+        ring,
+        Outcome::Bus,
+    )
+}
+
+// handle_telegram: another station's token is witnessed; collisions are counted only back to back.
+fn handle_telegram_witness(
+    core: Core,
+    ring: Ring,
+    status_request: OptionAddress,
+    new_previous_station: OptionAddress,
+    destination: u8,
+    source: u8,
+) -> Heard
+    ensures { λ r. ⌜ r ≡ tokenWitnessed core ring «status_request» «new_previous_station» destination source ⌝ }
+{
+    station::hearing(
+        station::with_state(
+            core,
+            State::ActiveIdle {
+                status_request,
+                new_previous_station,
+                collision_count: 0,
+            },
+        ),
+        ring.witness_token_pass(source, destination),
+        Outcome::Bus,
+    )
+}
+
+// handle_telegram: a token telegram.
+fn handle_telegram_token(
+    p: Parameters,
+    core: Core,
+    ring: Ring,
+    now: Micros,
+    status_request: OptionAddress,
+    new_previous_station: OptionAddress,
+    collision_count: u8,
+    destination: u8,
+    source: u8,
+    last: bool,
+) -> Heard
+    ensures { λ r. ⌜ r ≡ tokenHeard p core ring now «status_request» «new_previous_station» «collision_count» destination source last ⌝ }
+{
+    if source == p.address {
+        return handle_telegram_collision(
+            core,
+            ring,
+            status_request,
+            new_previous_station,
+            collision_count,
+        );
+    }
+    if destination != p.address {
+        return handle_telegram_witness(
+            core,
+            ring,
+            status_request,
+            new_previous_station,
+            destination,
+            source,
+        );
+    }
+    if last {
+        return handle_telegram_to_us(
+            core,
+            ring,
+            now,
+            status_request,
+            new_previous_station,
+            destination,
+            source,
+        );
+    }
+    handle_telegram_witness(
+        core,
+        ring,
+        status_request,
+        new_previous_station,
+        destination,
+        source,
+    )
+}
+
+// handle_telegram: a status request to us that is last of its poll is noted.
+fn handle_telegram_request(
+    core: Core,
+    ring: Ring,
+    new_previous_station: OptionAddress,
+    collision_count: u8,
+    source: u8,
+    noted: bool,
+) -> Heard
+    ensures { λ r. ⌜ r ≡ activeRequested core ring «new_previous_station» «collision_count» source noted ⌝ }
+{
+    if noted {
+        return station::hearing(
+            station::with_state(
+                core,
+                State::ActiveIdle {
+                    status_request: OptionAddress::Some(source),
+                    new_previous_station,
+                    collision_count,
+                },
+            ),
+            ring,
+            Outcome::Delay,
+        );
+    }
+    station::hearing(core, ring, Outcome::Bus)
+}
+
+// handle_telegram: one telegram, while in ActiveIdle.
+fn handle_telegram_active(
+    p: Parameters,
+    core: Core,
+    ring: Ring,
+    now: Micros,
+    status_request: OptionAddress,
+    new_previous_station: OptionAddress,
+    collision_count: u8,
+    telegram: Telegram,
+    last: bool,
+) -> Heard
+    ensures { λ r. ⌜ r ≡ activeHeard p core ring now «status_request» «new_previous_station» «collision_count» telegram last ⌝ }
+{
+    match telegram {
+        Telegram::Token {
+            destination,
+            source,
+        } => handle_telegram_token(
+            p,
+            core,
+            ring,
+            now,
+            status_request,
+            new_previous_station,
+            collision_count,
+            destination,
+            source,
+            last,
+        ),
+        Telegram::ShortConfirmation => station::hearing(core, ring, Outcome::Bus),
+        Telegram::Request {
+            destination,
+            source,
+            status_request: asks,
+        } => handle_telegram_request(
+            core,
+            ring,
+            new_previous_station,
+            collision_count,
+            source,
+            station::is_last_request_to_us(destination, p.address, asks, last),
+        ),
+        Telegram::Response { .. } => station::hearing(core, ring, Outcome::Bus),
+    }
+}
+
+// handle_telegram: one telegram. Once a collision has led to ListenToken, the rest of the poll only marks activity.
+pub fn handle_telegram(
+    p: Parameters,
+    core: Core,
+    ring: Ring,
+    now: Micros,
+    telegram: Telegram,
+    last: bool,
+) -> Heard
+    ensures { λ r. ⌜ r ≡ handleTelegram p core ring now telegram last ⌝ }
+{
+    let state = core.state;
+    match state {
+        State::ActiveIdle {
+            status_request,
+            new_previous_station,
+            collision_count,
+        } => handle_telegram_active(
+            p,
+            core,
+            ring,
+            now,
+            status_request,
+            new_previous_station,
+            collision_count,
+            telegram,
+            last,
+        ),
+        State::Offline => station::hearing(core, ring, Outcome::Bus),
+        State::ListenToken { .. } => station::hearing(core, ring, Outcome::Bus),
+        State::UseToken { .. } => station::hearing(core, ring, Outcome::Bus),
+        State::ClaimToken { .. } => station::hearing(core, ring, Outcome::Bus),
+        State::AwaitDataResponse { .. } => station::hearing(core, ring, Outcome::Bus),
+        State::PassToken { .. } => station::hearing(core, ring, Outcome::Bus),
+        State::CheckTokenPass { .. } => station::hearing(core, ring, Outcome::Bus),
+        State::AwaitStatusResponse { .. } => station::hearing(core, ring, Outcome::Bus),
+    }
+}

@@ -1,0 +1,155 @@
+// One telegram heard in ListenToken: the closure of do_listen_token in profirust's active.rs, which receive_all_telegrams
+// hands each telegram to. It leans on station and ring.
+ghost use mathlib.Core.Path.{_≡_};
+ghost use Rattle.station_hear_listen.specs.HearListen.{collided, listened, listenHeard, listenTelegram};
+use codec_answers::Outcome;
+use codec_telegrams::Telegram;
+use ring::Ring;
+use settings::Parameters;
+use station::Core;
+use station::Heard;
+use station::OptionAddress;
+use station::State;
+
+// do_listen_token: a telegram with our own source. The first collision is counted, the second leads offline.
+fn do_listen_token_collision(
+    p: Parameters,
+    core: Core,
+    ring: Ring,
+    status_request: OptionAddress,
+    collision_count: u8,
+) -> Heard
+    ensures { λ r. ⌜ r ≡ collided p core ring «status_request» «collision_count» ⌝ }
+{
+    if collision_count == 0 {
+        return station::hearing(
+            station::with_state(
+                core,
+                State::ListenToken {
+                    status_request,
+                    collision_count: 1,
+                },
+            ),
+            ring,
+            Outcome::Bus,
+        );
+    }
+    station::hearing(station::fresh_core(), Ring::fresh(p.address), Outcome::Bus)
+}
+
+// do_listen_token: a status request to us that is last of its poll is noted.
+fn do_listen_token_request(
+    core: Core,
+    ring: Ring,
+    source: u8,
+    collision_count: u8,
+    noted: bool,
+) -> Heard
+    ensures { λ r. ⌜ r ≡ listened core ring source «collision_count» noted ⌝ }
+{
+    if noted {
+        return station::hearing(
+            station::with_state(
+                core,
+                State::ListenToken {
+                    status_request: OptionAddress::Some(source),
+                    collision_count,
+                },
+            ),
+            ring,
+            Outcome::Delay,
+        );
+    }
+    station::hearing(core, ring, Outcome::Bus)
+}
+
+// do_listen_token: one telegram, while in ListenToken.
+fn do_listen_token_heard(
+    p: Parameters,
+    core: Core,
+    ring: Ring,
+    status_request: OptionAddress,
+    collision_count: u8,
+    telegram: Telegram,
+    last: bool,
+) -> Heard
+    ensures { λ r. ⌜ r ≡ listenHeard p core ring «status_request» «collision_count» telegram last ⌝ }
+{
+    let own = p.address;
+    match telegram {
+        Telegram::Token {
+            destination,
+            source,
+        } => {
+            if source == own {
+                do_listen_token_collision(p, core, ring, status_request, collision_count)
+            } else {
+                station::hearing(
+                    core,
+                    ring.witness_token_pass(source, destination),
+                    Outcome::Bus,
+                )
+            }
+        }
+        Telegram::ShortConfirmation => station::hearing(core, ring, Outcome::Bus),
+        Telegram::Request {
+            destination,
+            source,
+            status_request: asks,
+        } => {
+            if source == own {
+                do_listen_token_collision(p, core, ring, status_request, collision_count)
+            } else {
+                do_listen_token_request(
+                    core,
+                    ring,
+                    source,
+                    collision_count,
+                    station::is_last_request_to_us(destination, own, asks, last),
+                )
+            }
+        }
+        Telegram::Response { source, .. } => {
+            if source == own {
+                do_listen_token_collision(p, core, ring, status_request, collision_count)
+            } else {
+                station::hearing(core, ring, Outcome::Bus)
+            }
+        }
+    }
+}
+
+// do_listen_token: one telegram. Once a collision has led offline, the rest of the poll only marks activity.
+pub fn do_listen_token_telegram(
+    p: Parameters,
+    core: Core,
+    ring: Ring,
+    telegram: Telegram,
+    last: bool,
+) -> Heard
+    ensures { λ r. ⌜ r ≡ listenTelegram p core ring telegram last ⌝ }
+{
+    let state = core.state;
+    match state {
+        State::ListenToken {
+            status_request,
+            collision_count,
+        } => do_listen_token_heard(
+            p,
+            core,
+            ring,
+            status_request,
+            collision_count,
+            telegram,
+            last,
+        ),
+        State::Offline => station::hearing(core, ring, Outcome::Bus),
+        State::ActiveIdle { .. } => station::hearing(core, ring, Outcome::Bus),
+        State::UseToken { .. } => station::hearing(core, ring, Outcome::Bus),
+        State::ClaimToken { .. } => station::hearing(core, ring, Outcome::Bus),
+        State::AwaitDataResponse { .. } => station::hearing(core, ring, Outcome::Bus),
+        State::PassToken { .. } => station::hearing(core, ring, Outcome::Bus),
+        State::CheckTokenPass { .. } => station::hearing(core, ring, Outcome::Bus),
+        State::AwaitStatusResponse { .. } => station::hearing(core, ring, Outcome::Bus),
+    }
+}

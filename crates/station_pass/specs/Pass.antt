@@ -1,0 +1,59 @@
+-- do_pass_token, in the order of active.rs.
+use Prim.Native.Nat.{ℕ, _+_}
+use mathlib.Core.Bool.{Bool, cond}
+use lib.Dec.{ltb, eqb}
+use Rattle.bit_times.specs.declared.Micros.{Micros}
+use Rattle.settings.specs.declared.Parameters.{Parameters}
+use Rattle.ring.specs.declared.Ring.{Ring}
+use Rattle.ring.specs.declared.GapState.{GapState}
+use Rattle.ring.specs.declared.GapState.the-variants.{Waiting, DoPoll}
+use Rattle.ring.specs.Ring.{nextOf, witnessOf, gapOf}
+use Rattle.codec_answers.specs.declared.Outcome.the-variants as outcome
+use Rattle.codec_answers.specs.declared.Sent.the-variants as sent
+use Rattle.station.specs.declared.Activity.the-variants as activity
+use Rattle.station.specs.declared.PassTokenAttempt.{PassTokenAttempt}
+use Rattle.station.specs.declared.Core.{Core}
+use Rattle.station.specs.declared.Waited.{Waited}
+use Rattle.station.specs.declared.RingStep.{RingStep}
+use Rattle.station.specs.Parts.{withActivity, withGap}
+use Rattle.station.specs.Steps.{toUseToken, toCheckTokenPass, toAwaitStatusResponse, withTokenTime, pauseOf, doneOf, transmitOf}
+
+-- do_pass_token and GapState::increment_wait: the gap's turn: a count above the settings' starts a walk from own, a walk goes on from where it is
+unfoldable pub gapAdvanced : Parameters → Ring → GapState → GapState
+gapAdvanced p ring (Waiting count) =
+    cond (ltb (p .«gap_wait_rotations») count) (gapOf ring (p .address) (p .«highest_station_address»)) (Waiting (count + 1))
+gapAdvanced p ring (DoPoll current) = gapOf ring current (p .«highest_station_address»)
+
+-- do_pass_token, once the ring has witnessed the pass to next: the token is ours again if the next station is ourselves, else
+-- the pass is checked
+unfoldable pub passSent : Parameters → Core → Micros → PassTokenAttempt → ℕ → Ring → RingStep
+passSent p c now attempt next witnessed =
+    cond (eqb (nextOf witnessed) (p .address))
+    (record { step = transmitOf p (toUseToken c (withTokenTime now)) now 3 (sent.Token next); ring = witnessed })
+    (record { step = transmitOf p (toCheckTokenPass c attempt) now 3 (sent.Token next); ring = witnessed })
+
+-- do_pass_token: the token is sent to the next station
+unfoldable pub passSend : Parameters → Core → Ring → Micros → PassTokenAttempt → RingStep
+passSend p c ring now attempt = passSent p c now attempt (nextOf ring) (witnessOf ring (p .address) (nextOf ring))
+
+-- do_pass_token, on the gap state: a gap question or the token
+unfoldable pub passPollOn : GapState → Parameters → Core → Ring → Micros → PassTokenAttempt → RingStep
+passPollOn (Waiting count) p c ring now attempt = passSend p c ring now attempt
+passPollOn (DoPoll current) p c ring now attempt =
+    record { step = transmitOf p (toAwaitStatusResponse c current) now 6 (sent.StatusRequest current); ring = ring }
+
+-- do_pass_token: a gap question or the token
+unfoldable pub passPoll : Parameters → Core → Ring → Micros → PassTokenAttempt → RingStep
+passPoll p c ring now attempt = passPollOn (c .«gap_state») p c ring now attempt
+
+-- do_pass_token, once the pause is known
+unfoldable pub passAfter : Parameters → Core → Ring → Micros → Bool → PassTokenAttempt → Waited → RingStep
+passAfter p c ring now gap attempt pause =
+    let waited = withActivity c (activity.At (pause .last)) in
+    cond (pause .over)
+    (cond gap (passPoll p (withGap waited (gapAdvanced p ring (c .«gap_state»))) ring now attempt) (passSend p waited ring now attempt))
+    (record { step = doneOf waited outcome.Delay; ring = ring })
+
+-- do_pass_token
+unfoldable pub passTokenOf : Parameters → Core → Ring → Micros → Bool → PassTokenAttempt → RingStep
+passTokenOf p c ring now gap attempt = passAfter p c ring now gap attempt (pauseOf p (c .«last_bus_activity») now)

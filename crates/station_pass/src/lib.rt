@@ -1,0 +1,132 @@
+// PassToken: the token is passed on, after a gap question if one is due. From profirust's active.rs: do_pass_token. It leans on
+// station and ring.
+ghost use mathlib.Core.Path.{_≡_};
+ghost use Prim.Native.Nat.{_<_, _^_};
+ghost use Rattle.station_pass.specs.Pass.{gapAdvanced, passSend, passPoll, passTokenOf};
+use bit_times::Micros;
+use codec_answers::Outcome;
+use codec_answers::Sent;
+use ring::GapState;
+use ring::Ring;
+use settings::Parameters;
+use station::Activity;
+use station::Core;
+use station::PassTokenAttempt;
+use station::RingStep;
+
+// do_pass_token: the gap's turn. Waiting goes on until more rotations were counted than the settings ask for.
+fn do_pass_token_gap(p: Parameters, ring: Ring, gap: GapState) -> GapState
+    ensures { λ r. ⌜ r ≡ gapAdvanced p ring gap ⌝ }
+{
+    match gap {
+        GapState::Waiting { rotation_count } => {
+            if (p.gap_wait_rotations as u16) < rotation_count {
+                ring.next_gap_poll(p.address, p.highest_station_address)
+            } else {
+                GapState::Waiting {
+                    rotation_count: rotation_count + 1,
+                }
+            }
+        }
+        GapState::DoPoll { current_address } => {
+            ring.next_gap_poll(current_address, p.highest_station_address)
+        }
+    }
+}
+
+// do_pass_token: the token is sent to the next station. If that is ourselves the token is used, else the pass is checked.
+fn do_pass_token_send(
+    p: Parameters,
+    core: Core,
+    ring: Ring,
+    now: Micros,
+    attempt: PassTokenAttempt,
+) -> RingStep
+    requires { ⌜ now .0 < 2 ^ 48 ⌝ }
+    ensures { λ r. ⌜ r ≡ passSend p core ring now attempt ⌝ }
+{
+    let own = p.address;
+    let next = ring.next_station();
+    let witnessed = ring.witness_token_pass(own, next);
+    if witnessed.next_station() == own {
+        return RingStep {
+            step: station::transmit(
+                p,
+                station::transition_use_token(core, station::with_token_time(now)),
+                now,
+                3,
+                Sent::Token { destination: next },
+            ),
+            ring: witnessed,
+        };
+    }
+    RingStep {
+        step: station::transmit(
+            p,
+            station::transition_check_token_pass(core, attempt),
+            now,
+            3,
+            Sent::Token { destination: next },
+        ),
+        ring: witnessed,
+    }
+}
+
+// do_pass_token: a gap question, if one is due, else the token.
+fn do_pass_token_poll(
+    p: Parameters,
+    core: Core,
+    ring: Ring,
+    now: Micros,
+    attempt: PassTokenAttempt,
+) -> RingStep
+    requires { ⌜ now .0 < 2 ^ 48 ⌝ }
+    ensures { λ r. ⌜ r ≡ passPoll p core ring now attempt ⌝ }
+{
+    let gap = core.gap_state;
+    match gap {
+        GapState::Waiting { .. } => do_pass_token_send(p, core, ring, now, attempt),
+        GapState::DoPoll { current_address } => RingStep {
+            step: station::transmit(
+                p,
+                station::transition_await_status_response(core, current_address),
+                now,
+                6,
+                Sent::StatusRequest {
+                    destination: current_address,
+                },
+            ),
+            ring,
+        },
+    }
+}
+
+// do_pass_token: after the pause, a gap question or the token.
+pub fn do_pass_token(
+    p: Parameters,
+    core: Core,
+    ring: Ring,
+    now: Micros,
+    do_gap: bool,
+    attempt: PassTokenAttempt,
+) -> RingStep
+    requires { ⌜ now .0 < 2 ^ 48 ⌝ }
+    ensures { λ r. ⌜ r ≡ passTokenOf p core ring now «do_gap» attempt ⌝ }
+{
+    let activity = core.last_bus_activity;
+    let pause = station::wait_synchronization_pause(p, activity, now);
+    let last = pause.last;
+    let waited = station::with_activity(core, Activity::At(last));
+    if pause.over {
+        if do_gap {
+            let gap = core.gap_state;
+            let advanced = do_pass_token_gap(p, ring, gap);
+            return do_pass_token_poll(p, station::with_gap(waited, advanced), ring, now, attempt);
+        }
+        return do_pass_token_send(p, waited, ring, now, attempt);
+    }
+    RingStep {
+        step: station::done(waited, Outcome::Delay),
+        ring,
+    }
+}

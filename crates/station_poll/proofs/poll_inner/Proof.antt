@@ -1,0 +1,15 @@
+use borrow.Author.Needs.{needs}
+use Rattle.station_poll.specs.Poll.{pollInner}
+use Rattle.station_poll.proofs.poll_inner.Statement.{statement}
+use Rattle.station_poll.proofs.poll_inner.Tie as tie
+
+pub poll-inner-spec : {M : Type 1} → statement M
+unfolding pollInner
+poll-inner-spec =
+    tie.close
+    (tie.spec
+    (λ c κs. search needs)
+    (λ c κs. search needs)
+    (λ c. simp (c .before .before .if1 .taken, ← c .before .poll-inner-connected .ensures, ← c .poll-inner-online .ensures))
+    (λ c κs. search needs)
+    (λ c. simp (c .before .if1 .left, ← c .done .ensures)))

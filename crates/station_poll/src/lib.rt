@@ -1,0 +1,233 @@
+// A poll of the station with its answer. From profirust's active.rs: poll_inner and poll_multi; the answer is document 01's.
+// It leans on all of the station's crates: on those of its states for what a poll does, on station_answer for what it hands
+// back.
+ghost use mathlib.Core.Path.{_≡_};
+ghost use Prim.Native.Nat.{_<_, _^_};
+ghost use denote.Ref.{now as contents};
+ghost use Rattle.station_poll.specs.Poll.{connectedOf, dispatchOf, pollOnline, pollInner, acceptedPoll, pollOf};
+use bit_times::Micros;
+use codec_answers::Outcome;
+use ring::Ring;
+use settings::Parameters;
+use station::Core;
+use station::RingStep;
+use station::State;
+use station::Station;
+use station_answer::Polled;
+
+// poll_inner: a station that was put online starts listening.
+fn poll_inner_connected(core: Core) -> Core
+    ensures { λ r. ⌜ r ≡ connectedOf core ⌝ }
+{
+    let state = core.state;
+    match state {
+        State::Offline => station::transition_listen_token(core),
+        State::ListenToken { .. } => core,
+        State::ActiveIdle { .. } => core,
+        State::UseToken { .. } => core,
+        State::ClaimToken { .. } => core,
+        State::AwaitDataResponse { .. } => core,
+        State::PassToken { .. } => core,
+        State::CheckTokenPass { .. } => core,
+        State::AwaitStatusResponse { .. } => core,
+    }
+}
+
+// poll_inner: what the state asks for. Offline cannot be: poll_inner_connected comes first.
+fn poll_inner_dispatch(
+    p: Parameters,
+    core: Core,
+    ring: Ring,
+    now: Micros,
+    bytes: &[u8],
+    applications: u8,
+    telegrams: u8,
+) -> RingStep
+    requires { ⌜ now .0 < 2 ^ 48 ⌝ }
+    ensures { λ r. ⌜ r ≡ dispatchOf p core ring now (contents (bytes .entry)) applications telegrams ⌝ }
+{
+    let state = core.state;
+    match state {
+        State::Offline => RingStep {
+            step: station::done(core, Outcome::Offline),
+            ring,
+        },
+        State::ListenToken {
+            status_request,
+            collision_count,
+        } => station_listen::do_listen_token(
+            p,
+            core,
+            ring,
+            now,
+            status_request,
+            collision_count,
+            bytes,
+            applications,
+            telegrams,
+        ),
+        State::ActiveIdle {
+            status_request,
+            new_previous_station,
+            collision_count,
+        } => station_listen::do_active_idle(
+            p,
+            core,
+            ring,
+            now,
+            status_request,
+            new_previous_station,
+            collision_count,
+            bytes,
+            applications,
+            telegrams,
+        ),
+        State::UseToken {
+            data,
+            first_cycle_done,
+        } => RingStep {
+            step: station_hold::do_use_token(
+                p,
+                core,
+                now,
+                data,
+                first_cycle_done,
+                bytes,
+                applications,
+            ),
+            ring,
+        },
+        State::ClaimToken { first } => station_claim::do_claim_token(p, core, ring, now, first),
+        State::AwaitDataResponse { address, data } => RingStep {
+            step: station_hold::do_await_data_response(
+                p,
+                core,
+                now,
+                address,
+                data,
+                bytes,
+                applications,
+                telegrams,
+            ),
+            ring,
+        },
+        State::PassToken { do_gap, attempt } => {
+            station_pass::do_pass_token(p, core, ring, now, do_gap, attempt)
+        }
+        State::CheckTokenPass { attempt } => station_check_pass::do_check_token_pass(
+            p,
+            core,
+            ring,
+            now,
+            attempt,
+            bytes,
+            applications,
+            telegrams,
+        ),
+        State::AwaitStatusResponse { address } => station_await_status::do_await_status_response(
+            p,
+            core,
+            ring,
+            now,
+            address,
+            bytes,
+            applications,
+            telegrams,
+        ),
+    }
+}
+
+// poll_inner: while a transmission goes on nothing else is done; then the bus is looked at, then the state.
+fn poll_inner_online(
+    p: Parameters,
+    core: Core,
+    ring: Ring,
+    now: Micros,
+    transmitting: bool,
+    pending: u16,
+    bytes: &[u8],
+    applications: u8,
+    telegrams: u8,
+) -> RingStep
+    requires { ⌜ now .0 < 2 ^ 48 ⌝ }
+    ensures { λ r. ⌜ r ≡ pollOnline p core ring now transmitting pending (contents (bytes .entry)) applications telegrams ⌝ }
+{
+    let activity = core.last_bus_activity;
+    if station::check_for_ongoing_transmission(activity, now, transmitting) {
+        let marked = station::mark_bus_activity(activity, now);
+        return RingStep {
+            step: station::done(station::with_activity(core, marked), Outcome::Transmission),
+            ring,
+        };
+    }
+    let checked = station::check_for_bus_activity(core, now, pending);
+    poll_inner_dispatch(p, checked, ring, now, bytes, applications, telegrams)
+}
+
+// poll_inner: a station that is not online does nothing.
+fn poll_inner(
+    p: Parameters,
+    core: Core,
+    ring: Ring,
+    now: Micros,
+    transmitting: bool,
+    pending: u16,
+    bytes: &[u8],
+    applications: u8,
+    telegrams: u8,
+) -> RingStep
+    requires { ⌜ now .0 < 2 ^ 48 ⌝ }
+    ensures { λ r. ⌜ r ≡ pollInner p core ring now transmitting pending (contents (bytes .entry)) applications telegrams ⌝ }
+{
+    if core.online {
+        return poll_inner_online(
+            p,
+            poll_inner_connected(core),
+            ring,
+            now,
+            transmitting,
+            pending,
+            bytes,
+            applications,
+            telegrams,
+        );
+    }
+    RingStep {
+        step: station::done(core, Outcome::Offline),
+        ring,
+    }
+}
+
+// A poll whose record is not refused.
+fn poll_accepted(station: Station, bytes: &[u8]) -> Polled
+    ensures { λ r. ⌜ r ≡ acceptedPoll station (contents (bytes .entry)) ⌝ }
+{
+    let head = codec_records::read_head(bytes);
+    let applications = station.applications;
+    let p = station.p;
+    let core = station.core;
+    let ring = station.token_ring;
+    let stepped = poll_inner(
+        p,
+        core,
+        ring,
+        Micros(head.clock),
+        head.transmitting,
+        head.pending,
+        bytes,
+        applications,
+        head.telegrams,
+    );
+    station_answer::poll_done(p, applications, stepped)
+}
+
+// poll_multi, on a poll record. Refusals 12 to 15.
+pub fn poll(station: Station, bytes: &[u8]) -> Polled
+    ensures { λ r. ⌜ r ≡ pollOf station (contents (bytes .entry)) ⌝ }
+{
+    let refusal = codec_records::record_refusal(bytes, station.applications);
+    if refusal == 0 {
+        return poll_accepted(station, bytes);
+    }
+    station_answer::refused(station, refusal)
+}

@@ -1,0 +1,257 @@
+-- One silent poll at each place of a token pass: the station stays where it is, or sends the one token that is next.
+use Prim.Native.Nat.{ℕ}
+use mathlib.Core.Bool.{Bool, true, false, cond}
+use mathlib.Core.Path.{_≡_, refl, sym, ap, _∙_}
+use mathlib.Core.List.{List, [], _∷_}
+use borrow.Author.Tests.{eq-eqb, ne-eqb}
+use borrow.Table.Steps.{cases}
+use Rattle.bit_times.specs.declared.Micros.{Micros}
+use Rattle.settings.specs.declared.Parameters.{Parameters}
+use Rattle.settings.specs.Settings.{slotTimeOf}
+use Rattle.ring_addresses.specs.Set.{headOr}
+use Rattle.ring_addresses.specs.SetLaws.{true≢false}
+use Rattle.ring.specs.declared.Ring.{Ring}
+use Rattle.ring.specs.declared.GapState.{GapState}
+use Rattle.ring.specs.declared.GapState.the-variants.{Waiting, DoPoll}
+use Rattle.ring.specs.Ring.{others, nextOf, witnessOf, removeOf}
+use Rattle.ring.specs.Laws.{next-is, next-alone, next-other, others-witness, others-remove}
+use Rattle.codec_answers.specs.declared.Outcome.the-variants as outcome
+use Rattle.codec_answers.specs.declared.Sent.the-variants as sent
+use Rattle.station.specs.declared.Activity.{Activity}
+use Rattle.station.specs.declared.Activity.the-variants as activity
+use Rattle.station.specs.declared.PassTokenAttempt.{PassTokenAttempt}
+use Rattle.station.specs.declared.PassTokenAttempt.the-variants.{First, Second, Third}
+use Rattle.station.specs.declared.State.{State}
+use Rattle.station.specs.declared.State.the-variants.{UseToken, PassToken, CheckTokenPass}
+use Rattle.station.specs.declared.Core.{Core}
+use Rattle.station.specs.declared.Waited.{Waited}
+use Rattle.station.specs.declared.RingStep.{RingStep}
+use Rattle.station.specs.Parts.{withState, withActivity, withGap}
+use Rattle.station.specs.Steps.{toUseToken, toPassToken, toCheckTokenPass, withTokenTime, markedAt, sentAt, busyOf, pauseOf, slotExpiredOf, doneOf, transmitOf}
+use Rattle.station_pass.specs.Pass.{gapAdvanced, passSent, passSend, passPollOn, passPoll, passAfter, passTokenOf}
+use Rattle.station_check_pass.specs.CheckPass.{resendOf, checkReceived, checkAfter, checkTokenPassOf}
+use Rattle.station_poll.specs.Poll.{dispatchOn, dispatchOf}
+use Rattle.theorem_sound.specs.Keeps.{RingGood, witness-good, remove-good}
+use Rattle.theorem_silence.specs.Silence.{asksOn, gapDue, slotAfter}
+use Rattle.theorem_silence.specs.Times.{Slotted, counted-free, counted-paused, counted-expired, expired-paused}
+use Rattle.theorem_silence.specs.Phases.{Phase, starting, checking, holding, sentTo, next, receiver}
+
+-- what holds at every place: online, a sound ring with the settings' address for its own, and these others
+pub record Ready (p : Parameters) (c : Core) (r : Ring) (os : List ℕ) : Type 0 where
+  pub on : c .online ≡ true
+  pub ring-good : RingGood p r
+  pub are : others r ≡ os
+
+-- the state in which a token pass starts with no gap question due
+pub record Passing (p : Parameters) (c : Core) (r : Ring) : Type 0 where
+  pub gap : Bool
+  pub passing : c .state ≡ PassToken gap First
+  pub no-question : gapDue p c r gap ≡ false
+
+-- the state that holds a new token
+pub record Holding (c : Core) : Type 0 where
+  pub since : Micros
+  pub held : c .state ≡ UseToken (withTokenTime since) false
+
+-- a station is at a place
+abbrev pub At : Phase → Parameters → Core → Ring → Type 0
+At (starting os) p c r = Ready p c r os × Passing p c r
+At (checking attempt x more) p c r = Ready p c r (x ∷ more) × (c .state ≡ CheckTokenPass attempt)
+At holding p c r = Ready p c r [] × Holding c
+
+-- a step that sends the token to this address now and leads to this place
+pub record Sends (p : Parameters) (now : Micros) (to : ℕ) (ph : Phase) (x : RingStep) : Type 0 where
+  pub token : x .step .sent ≡ sent.Token to
+  pub marks : x .step .core .«last_bus_activity» ≡ sentAt p now 3
+  pub place : At ph p (x .step .core) (x .ring)
+
+-- a step that sends nothing and stays at this place
+pub record Stays (p : Parameters) (ph : Phase) (x : RingStep) : Type 0 where
+  pub nothing : x .step .sent ≡ sent.Nothing
+  pub place : At ph p (x .step .core) (x .ring)
+
+-- one poll at a place, with whether it is counted
+pub data Turn (p : Parameters) (now : Micros) (ph : Phase) (counts : Bool) (x : RingStep) : Type 0 where
+  sends : Sends p now (receiver (p .address) ph) (next ph) x → Turn p now ph counts x
+  stays : counts ≡ false → Stays p ph x → Turn p now ph counts x
+
+-- a pass that the ring has witnessed: if the next station is then ourselves the token is held, else the pass is checked
+held-now : (p : Parameters) (c : Core) (now : Micros) (k : PassTokenAttempt) (to own : ℕ) (seen : Ring) → to ≡ own → Ready p c seen [] → Sends p now own holding (passSent p c now k to seen)
+unfolding passSent transmitOf toUseToken withState withActivity
+held-now p c now k to own seen e w =
+    let g = w .ring-good in
+    rw (eq-eqb (nextOf seen) (p .address) (next-alone seen (g .sound) (w .are) ∙ g .own))
+    (record { token = ap sent.Token e; marks = refl; place = (record { on = w .on; ring-good = g; are = w .are }, record { since = now; held = refl }) })
+
+checked-now : (p : Parameters) (c : Core) (now : Micros) (k : PassTokenAttempt) (to x : ℕ) (more : List ℕ) (seen : Ring) → to ≡ x → Ready p c seen (x ∷ more) → Sends p now x (checking k x more) (passSent p c now k to seen)
+unfolding passSent transmitOf toCheckTokenPass withState withActivity
+checked-now p c now k to x more seen e w =
+    let g = w .ring-good in
+    let other = next-other seen x more (g .sound) (w .are) in
+    rw (ne-eqb (nextOf seen) (p .address) (λ z. other .not-own (sym (next-is seen x more (g .sound) (w .are)) ∙ z ∙ sym (g .own))))
+    (record { token = ap sent.Token e; marks = refl; place = (record { on = w .on; ring-good = g; are = w .are }, refl) })
+
+-- the ring once it has witnessed the pass to the next station: the others stay
+seen-ready : (p : Parameters) (c : Core) (r : Ring) (os : List ℕ) → Ready p c r os → Ready p c (witnessOf r (p .address) (nextOf r)) os
+seen-ready p c r os w =
+    let g = w .ring-good in
+    record {
+      on = w .on;
+      ring-good = witness-good p r (p .address) (nextOf r) g;
+      are = ap (λ (a : ℕ). others (witnessOf r a (nextOf r))) (sym (g .own)) ∙ others-witness r (g .sound) ∙ w .are;
+    }
+
+-- a token that is sent goes to the first of the others; with none it goes to ourselves and is held
+first-sent : (p : Parameters) (c : Core) (r : Ring) (now : Micros) (k : PassTokenAttempt) (os : List ℕ) → Ready p c r os → Sends p now (headOr (p .address) os) (sentTo k os) (passSend p c r now k)
+unfolding passSend
+first-sent p c r now k [] w =
+    let g = w .ring-good in
+    held-now p c now k (nextOf r) (p .address) _ (next-alone r (g .sound) (w .are) ∙ g .own) (seen-ready p c r [] w)
+first-sent p c r now k (x ∷ more) w =
+    checked-now p c now k (nextOf r) x more _ (next-is r x more (w .ring-good .sound) (w .are)) (seen-ready p c r (x ∷ more) w)
+
+-- parts of the station that these places do not look at
+active-ready : (p : Parameters) (c : Core) (r : Ring) (os : List ℕ) (a : Activity) → Ready p c r os → Ready p (withActivity c a) r os
+unfolding withActivity
+active-ready p c r os a w = record { on = w .on; ring-good = w .ring-good; are = w .are }
+
+gap-ready : (p : Parameters) (c : Core) (r : Ring) (os : List ℕ) (g : GapState) → Ready p c r os → Ready p (withGap c g) r os
+unfolding withGap
+gap-ready p c r os g w = record { on = w .on; ring-good = w .ring-good; are = w .are }
+
+state-ready : (p : Parameters) (c : Core) (r : Ring) (os : List ℕ) (gap : Bool) (k : PassTokenAttempt) → Ready p c r os → Ready p (toPassToken c gap k) r os
+unfolding toPassToken withState
+state-ready p c r os gap k w = record { on = w .on; ring-good = w .ring-good; are = w .are }
+
+-- with no question due the token is sent
+unasked : (g : GapState) (p : Parameters) (c : Core) (r : Ring) (now : Micros) (k : PassTokenAttempt) → asksOn g ≡ false → passPollOn g p c r now k ≡ passSend p c r now k
+unfolding passPollOn
+unasked (Waiting count) p c r now k e = refl
+unasked (DoPoll current) p c r now k e = absurd (true≢false e)
+
+-- a pass whose pause is over: the token is sent
+paused-sent : (p : Parameters) (c : Core) (r : Ring) (now : Micros) (gap : Bool) (k : PassTokenAttempt) (os : List ℕ) (w : Waited) → Ready p c r os → gapDue p c r gap ≡ false → w .over ≡ true → Sends p now (headOr (p .address) os) (sentTo k os) (passAfter p c r now gap k w)
+unfolding passAfter passPoll gapDue withGap
+paused-sent p c r now true k os w b due e =
+    let advanced = gapAdvanced p r (c .«gap_state») in
+    let waited = withActivity c (activity.At (w .last)) in
+    rw (e, unasked advanced p (withGap waited advanced) r now k due) (first-sent p _ r now k os (gap-ready p _ r os _ (active-ready p c r os _ b)))
+paused-sent p c r now false k os w b due e = rw e (first-sent p _ r now k os (active-ready p c r os _ b))
+
+-- a pass whose pause is not over: nothing is sent and the station stays
+active-passing : (p : Parameters) (c : Core) (r : Ring) (a : Activity) → Passing p c r → Passing p (withActivity c a) r
+unfolding withActivity gapDue
+active-passing p c r a s = record { gap = s .gap; passing = s .passing; no-question = s .no-question }
+
+unpaused-stays : (p : Parameters) (c : Core) (r : Ring) (now : Micros) (gap : Bool) (k : PassTokenAttempt) (os : List ℕ) (w : Waited) → Ready p c r os → Passing p c r → w .over ≡ false → Stays p (starting os) (passAfter p c r now gap k w)
+unfolding passAfter doneOf
+unpaused-stays p c r now gap k os w b s e = rw e (record { nothing = refl; place = (active-ready p c r os _ b, active-passing p c r _ s) })
+
+-- What a silent poll comes to.
+
+-- the step of a silent poll: while a transmission goes on nothing happens, else what the state asks for
+unfoldable pub quietStep : Parameters → Core → Ring → Micros → List ℕ → ℕ → RingStep
+quietStep p c r now bytes n =
+    cond (busyOf (c .«last_bus_activity») now)
+    (record { step = doneOf (withActivity c (markedAt (c .«last_bus_activity») now)) outcome.Transmission; ring = r })
+    (dispatchOf p c r now bytes n 0)
+
+-- a test that would be true of a counted poll is false: the poll is not counted
+pub not-counted : (counts test : Bool) → (counts ≡ true → test ≡ true) → test ≡ false → counts ≡ false
+not-counted true test h e = absurd (true≢false (sym (h refl) ∙ e))
+not-counted false test h e = refl
+
+-- the same of a test that would be false
+pub not-counted-busy : (counts test : Bool) → (counts ≡ true → test ≡ false) → test ≡ true → counts ≡ false
+not-counted-busy true test h e = absurd (true≢false (sym e ∙ h refl))
+not-counted-busy false test h e = refl
+
+module _ (p : Parameters) (w : Slotted p) (c : Core) (r : Ring) (now : Micros) (bytes : List ℕ) (n : ℕ) where
+  -- is the poll counted
+  abbrev countsHere : Bool
+  countsHere = slotAfter (c .«last_bus_activity») (now .0) (slotTimeOf p .0)
+
+  -- the state asks for a token pass
+  pub dispatch-pass : (gap : Bool) (k : PassTokenAttempt) → c .state ≡ PassToken gap k → dispatchOf p c r now bytes n 0 ≡ passTokenOf p c r now gap k
+  unfolding dispatchOf dispatchOn
+  dispatch-pass gap k e = ap (λ (x : State). dispatchOn x p c r now bytes n 0) e
+
+  -- the state asks whether the pass was taken up
+  dispatch-check : (k : PassTokenAttempt) → c .state ≡ CheckTokenPass k → dispatchOf p c r now bytes n 0 ≡ checkTokenPassOf p c r now k bytes n 0
+  unfolding dispatchOf dispatchOn
+  dispatch-check k e = ap (λ (x : State). dispatchOn x p c r now bytes n 0) e
+
+  -- while a transmission goes on the station stays where it is
+  busy-starting : (os : List ℕ) → At (starting os) p c r → busyOf (c .«last_bus_activity») now ≡ true → Turn p now (starting os) countsHere (quietStep p c r now bytes n)
+  unfolding quietStep doneOf
+  busy-starting os s e =
+      rw e
+      (stays (not-counted-busy countsHere (busyOf (c .«last_bus_activity») now) (counted-free p w _ now) e)
+      (record { nothing = refl; place = (active-ready p c r os _ (s .0), active-passing p c r _ (s .1)) }))
+
+  busy-checking : (k : PassTokenAttempt) (x : ℕ) (more : List ℕ) → At (checking k x more) p c r → busyOf (c .«last_bus_activity») now ≡ true → Turn p now (checking k x more) countsHere (quietStep p c r now bytes n)
+  unfolding quietStep doneOf withActivity
+  busy-checking k x more s e =
+      rw e
+      (stays (not-counted-busy countsHere (busyOf (c .«last_bus_activity») now) (counted-free p w _ now) e)
+      (record { nothing = refl; place = (active-ready p c r (x ∷ more) _ (s .0), s .1) }))
+
+  -- a token pass is to start: the token is sent once the pause is over
+  free-starting : (os : List ℕ) → At (starting os) p c r → Turn p now (starting os) countsHere (dispatchOf p c r now bytes n 0)
+  unfolding passTokenOf
+  free-starting os s =
+      let pause = pauseOf p (c .«last_bus_activity») now in
+      rw (dispatch-pass (s .1 .gap) First (s .1 .passing))
+      (cases (pause .over) (λ e. sends (paused-sent p c r now (s .1 .gap) First os pause (s .0) (s .1 .no-question) e))
+      (λ e. stays (not-counted countsHere (pause .over) (counted-paused p w _ now) e) (unpaused-stays p c r now (s .1 .gap) First os pause (s .0) (s .1) e)))
+
+  pub turn-starting : (os : List ℕ) → At (starting os) p c r → Turn p now (starting os) countsHere (quietStep p c r now bytes n)
+  unfolding quietStep
+  turn-starting os s =
+      cases (busyOf (c .«last_bus_activity») now) (λ e. busy-starting os s e) (λ e. rw e (free-starting os s))
+
+-- a pass without a look at the gap has no question due
+no-gap : (p : Parameters) (c : Core) (r : Ring) → gapDue p c r false ≡ false
+unfolding gapDue
+no-gap p c r = refl
+
+-- a token that is sent again, or, after the third, to the next station behind the one that is taken out: the pause is over
+again : (p : Parameters) (c : Core) (r : Ring) (now : Micros) (k : PassTokenAttempt) (os : List ℕ) → Ready p c r os → pauseOf p (c .«last_bus_activity») now .over ≡ true → Sends p now (headOr (p .address) os) (sentTo k os) (passTokenOf p (toPassToken c false k) r now false k)
+unfolding passTokenOf toPassToken withState
+again p c r now k os w e =
+    paused-sent p (toPassToken c false k) r now false k os _ (state-ready p c r os false k w) (no-gap p _ r) e
+
+taken-out : (p : Parameters) (c : Core) (r : Ring) (x : ℕ) (more : List ℕ) → Ready p c r (x ∷ more) → Ready p c (removeOf r (nextOf r)) more
+taken-out p c r x more w =
+    let g = w .ring-good in
+    record {
+      on = w .on;
+      ring-good = remove-good p r (nextOf r) g;
+      are = ap (λ (a : ℕ). others (removeOf r a)) (next-is r x more (g .sound) (w .are)) ∙ others-remove r x more (g .sound) (w .are);
+    }
+
+resent : (k : PassTokenAttempt) (p : Parameters) (c : Core) (r : Ring) (now : Micros) (x : ℕ) (more : List ℕ) → Ready p c r (x ∷ more) → pauseOf p (c .«last_bus_activity») now .over ≡ true → Sends p now (receiver (p .address) (checking k x more)) (next (checking k x more)) (resendOf p c r now k)
+unfolding resendOf
+resent First p c r now x more w e = again p c r now Second (x ∷ more) w e
+resent Second p c r now x more w e = again p c r now Third (x ∷ more) w e
+resent Third p c r now x more w e = again p c (removeOf r (nextOf r)) now First more (taken-out p c r x more w) e
+
+module _ (p : Parameters) (w : Slotted p) (c : Core) (r : Ring) (now : Micros) (bytes : List ℕ) (n : ℕ) where
+  -- a pass is being checked: once the slot has expired the next token is sent, before that nothing happens
+  expired : (k : PassTokenAttempt) (x : ℕ) (more : List ℕ) → At (checking k x more) p c r → slotExpiredOf p (c .«last_bus_activity») now .over ≡ true → Sends p now (receiver (p .address) (checking k x more)) (next (checking k x more)) (checkTokenPassOf p c r now k bytes n 0)
+  unfolding checkTokenPassOf checkAfter withActivity
+  expired k x more s e =
+      rw e (resent k p _ r now x more (active-ready p c r (x ∷ more) _ (s .0)) (expired-paused p w (c .«last_bus_activity») now e))
+
+  unexpired : (k : PassTokenAttempt) (x : ℕ) (more : List ℕ) → At (checking k x more) p c r → slotExpiredOf p (c .«last_bus_activity») now .over ≡ false → Stays p (checking k x more) (checkTokenPassOf p c r now k bytes n 0)
+  unfolding checkTokenPassOf checkAfter checkReceived doneOf withActivity
+  unexpired k x more s e = rw e (record { nothing = refl; place = (active-ready p c r (x ∷ more) _ (s .0), s .1) })
+
+  pub turn-checking : (k : PassTokenAttempt) (x : ℕ) (more : List ℕ) → At (checking k x more) p c r → Turn p now (checking k x more) (slotAfter (c .«last_bus_activity») (now .0) (slotTimeOf p .0)) (quietStep p c r now bytes n)
+  unfolding quietStep
+  turn-checking k x more s =
+      let counts = slotAfter (c .«last_bus_activity») (now .0) (slotTimeOf p .0) in
+      let slot = slotExpiredOf p (c .«last_bus_activity») now in
+      cases (busyOf (c .«last_bus_activity») now) (λ e. busy-checking p w c r now bytes n k x more s e)
+      (λ b. rw (b, dispatch-check p w c r now bytes n k (s .1))
+      (cases (slot .over) (λ e. sends (expired k x more s e)) (λ e. stays (not-counted counts (slot .over) (counted-expired p w _ now) e) (unexpired k x more s e))))

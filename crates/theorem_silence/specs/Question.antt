@@ -1,0 +1,64 @@
+-- Why Silence asks that no gap question is due: with one due, the token pass asks it in place of the first token.
+use Prim.Native.Nat.{ℕ}
+use mathlib.Core.Bool.{Bool, true, false}
+use mathlib.Core.Path.{_≡_, refl, sym, ap, _∙_}
+use mathlib.Core.List.{List}
+use Rattle.bit_times.specs.declared.Micros.{Micros}
+use Rattle.settings.specs.declared.Parameters.{Parameters}
+use Rattle.settings_build.specs.Build.{firstRefusal, plainOf}
+use Rattle.settings.specs.Settings.{slotTimeOf}
+use Rattle.ring_addresses.specs.SetLaws.{true≢false}
+use Rattle.ring.specs.declared.Ring.{Ring}
+use Rattle.ring.specs.declared.GapState.{GapState}
+use Rattle.ring.specs.declared.GapState.the-variants.{Waiting, DoPoll}
+use Rattle.codec_answers.specs.declared.Sent.the-variants.{StatusRequest}
+use Rattle.station.specs.declared.Activity.the-variants as activity
+use Rattle.station.specs.declared.PassTokenAttempt.{PassTokenAttempt}
+use Rattle.station.specs.declared.PassTokenAttempt.the-variants.{First}
+use Rattle.station.specs.declared.State.the-variants.{PassToken}
+use Rattle.station.specs.declared.Core.{Core}
+use Rattle.station.specs.declared.Waited.{Waited}
+use Rattle.station.specs.declared.RingStep.{RingStep}
+use Rattle.station.specs.declared.Station.{Station}
+use Rattle.station.specs.Parts.{withActivity, withGap}
+use Rattle.station.specs.Steps.{pauseOf, transmitOf}
+use Rattle.station_pass.specs.Pass.{gapAdvanced, passPollOn, passPoll, passAfter, passTokenOf}
+use Rattle.station_answer.specs.declared.Polled.{Polled}
+use Rattle.station_answer.specs.Answer.{polledOf, stepAnswer}
+use Rattle.station_poll.specs.Poll.{pollOf}
+use Rattle.theorem_silence.specs.Silence.{asksOn, gapDue, online, Quiet, slotAfter, counted}
+use Rattle.theorem_silence.specs.Times.{Slotted, slotted, counted-free, counted-paused}
+use Rattle.theorem_silence.specs.OnePoll.{quietStep, dispatch-pass}
+use Rattle.theorem_silence.specs.Theorem.{clockOf, poll-is, connected-pass}
+
+-- a gap state that asks
+asked-on : (g : GapState) (p : Parameters) (c : Core) (r : Ring) (now : Micros) (k : PassTokenAttempt) → asksOn g ≡ true → (a : ℕ) × (passPollOn g p c r now k .step .sent ≡ StatusRequest a)
+unfolding passPollOn transmitOf
+asked-on (Waiting count) p c r now k e = absurd (true≢false (sym e))
+asked-on (DoPoll current) p c r now k e = (current, refl)
+
+-- a pass whose pause is over and that has a question due
+asked-after : (p : Parameters) (c : Core) (r : Ring) (now : Micros) (gap : Bool) (k : PassTokenAttempt) (w : Waited) → gapDue p c r gap ≡ true → w .over ≡ true → (a : ℕ) × (passAfter p c r now gap k w .step .sent ≡ StatusRequest a)
+unfolding passAfter passPoll gapDue withGap
+asked-after p c r now true k w due e =
+    let advanced = gapAdvanced p r (c .«gap_state») in
+    rw e (asked-on advanced p (withGap (withActivity c (activity.At (w .last))) advanced) r now k due)
+asked-after p c r now false k w due e = absurd (true≢false (sym due))
+
+-- the step of a counted poll in PassToken is the pass
+pass-step : (p : Parameters) (w : Slotted p) (c : Core) (r : Ring) (now : Micros) (bytes : List ℕ) (n : ℕ) (gap : Bool) → c .state ≡ PassToken gap First → slotAfter (c .«last_bus_activity») (now .0) (slotTimeOf p .0) ≡ true → quietStep p c r now bytes n ≡ passAfter p c r now gap First (pauseOf p (c .«last_bus_activity») now)
+unfolding quietStep passTokenOf
+pass-step p w c r now bytes n gap state e =
+    rw (counted-free p w (c .«last_bus_activity») now e) (dispatch-pass p w c r now bytes n gap First state)
+
+-- with a question due, a counted poll sends a status request
+pub question-first : (s : Station) (bytes : List ℕ) (gap : Bool) → firstRefusal (plainOf (s .p)) ≡ 0 → online s ≡ true → s .core .state ≡ PassToken gap First → gapDue (s .p) (s .core) (s .«token_ring») gap ≡ true → Quiet (s .applications) bytes → counted s bytes ≡ true → (a : ℕ) × (pollOf s bytes .answer .sent ≡ StatusRequest a)
+unfolding counted polledOf stepAnswer
+question-first s bytes gap settings on state due q e =
+    let c = s .core in
+    let r = s .«token_ring» in
+    let w = slotted (s .p) settings in
+    let polled = poll-is (s .p) (s .applications) c r bytes q on (connected-pass c gap First state) in
+    let step = pass-step (s .p) w c r (clockOf bytes) bytes (s .applications) gap state e in
+    let asked = asked-after (s .p) c r (clockOf bytes) gap First _ due (counted-paused (s .p) w (c .«last_bus_activity») (clockOf bytes) e) in
+    (asked .0, ap (λ (y : Polled). y .answer .sent) polled ∙ ap (λ (x : RingStep). x .step .sent) step ∙ asked .1)

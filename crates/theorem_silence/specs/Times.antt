@@ -1,0 +1,105 @@
+-- What accepted settings give: a slot time that is not zero and not shorter than the pause; and what a counted poll then knows.
+use Prim.Native.Nat.{ℕ, _+_, _*_, _<_, _≤_}
+use mathlib.Core.Bool.{true, false}
+use mathlib.Core.Path.{_≡_, refl, sym}
+use native.Mathlib.Omega.{arith}
+use native.Mathlib.Nat.{le-div-iff-mul-le, mul-le-mul-right}
+use lib.Ieee.Nearest.{div-mono}
+use borrow.Author.Tests.{le-leb, lt-leb, leb-true, eqb-true}
+use borrow.Table.Steps.{cases}
+use lib.Dec.{leb, eqb}
+use Rattle.bit_times.specs.declared.Baud.{Baud}
+use Rattle.bit_times.specs.declared.Micros.{Micros}
+use Rattle.bit_times.specs.Times.{leastSlotBits, rateOf, rounded, timeOf}
+use Rattle.bit_times.specs.Laws.{listed}
+use Rattle.settings.specs.declared.Parameters.{Parameters}
+use Rattle.ring_addresses.specs.SetLaws.{true≢false}
+use Rattle.station.specs.declared.Activity.{Activity}
+use Rattle.station.specs.declared.Activity.the-variants as activity
+use Rattle.station.specs.Steps.{knownAt, elapsedOf, busyOf, pauseOf, slotExpiredOf}
+use Rattle.theorem_silence.specs.Silence.{slotAfter}
+use Rattle.settings.specs.Settings.{refuseBelow, slotTimeOf}
+use Rattle.settings_build.specs.Build.{first, restRefusal, codedRefusal, firstRefusal, plainOf}
+
+-- the first of two refusals is none: the one before is none
+first-none : (n rest : ℕ) → first n rest ≡ 0 → n ≡ 0
+first-none n rest e = cases (eqb n 0) (λ t. eqb-true n 0 t) (λ f. rw f at e)
+
+one-zero : (n : ℕ) → 0 < n → n ≡ 0 → ⊥
+one-zero n l e = omega arith
+
+-- accepted settings have at least the rate's least slot bits
+pub slot-bits-least : (p : Parameters) → firstRefusal (plainOf p) ≡ 0 → leastSlotBits (p .baudrate) ≤ p .«slot_bits»
+unfolding firstRefusal codedRefusal restRefusal plainOf refuseBelow
+slot-bits-least p e =
+    cases (leb (p .address) 125)
+    (λ a. cases (leb (leastSlotBits (p .baudrate)) (p .«slot_bits»)) (λ b. leb-true _ _ b)
+    (λ b. absurd (one-zero 2 (omega arith) (rw (a, listed (p .baudrate) .back, b) at e))))
+    (λ a. absurd (one-zero 1 (omega arith) (rw a at e)))
+
+-- the time of the pause
+abbrev pub pauseTime : Parameters → ℕ
+pauseTime p = timeOf (record { 0 = 33 }) (p .baudrate) .0
+
+-- more bits take no less time
+time-grows : (a b : ℕ) (baud : Baud) → a ≤ b → timeOf (record { 0 = a }) baud .0 ≤ timeOf (record { 0 = b }) baud .0
+unfolding timeOf rounded
+time-grows a b baud l =
+    let some : 0 < rateOf baud = omega (arith, listed baud .slowest) in
+    div-mono (a * 1000000) (rateOf baud) (b * 1000000) (rateOf baud) some some (mul-le-mul-right (rateOf baud) (omega arith))
+
+-- a hundred bits take some time
+time-some : (a : ℕ) (baud : Baud) → 100 ≤ a → 1 ≤ timeOf (record { 0 = a }) baud .0
+unfolding timeOf rounded
+time-some a baud l =
+    let some : 0 < rateOf baud = omega (arith, listed baud .slowest) in
+    let whole : 1 * rateOf baud ≤ a * 1000000 = omega (arith, listed baud .fastest) in
+    le-div-iff-mul-le some .1 whole
+
+-- accepted settings: the slot time is not zero, and the pause is not longer
+pub record Slotted (p : Parameters) : Type 0 where
+  pub some : 1 ≤ slotTimeOf p .0
+  pub pause : pauseTime p ≤ slotTimeOf p .0
+
+pub slotted : (p : Parameters) → firstRefusal (plainOf p) ≡ 0 → Slotted p
+unfolding slotTimeOf
+slotted p e =
+    let least = slot-bits-least p e in
+    let hundred : 100 ≤ p .«slot_bits» = omega (arith, listed (p .baudrate) .slot-low) in
+    record { some = time-some _ (p .baudrate) hundred; pause = time-grows 33 _ (p .baudrate) (omega arith) }
+
+-- What the poll's tests say of a counted poll, and what a counted poll's tests say.
+module _ (p : Parameters) (w : Slotted p) (a : Activity) (now : Micros) where
+  -- a counted poll finds no transmission going on
+  pub counted-free : slotAfter a (now .0) (slotTimeOf p .0) ≡ true → busyOf a now ≡ false
+  unfolding slotAfter busyOf
+  counted-free = go a
+    where
+      go : (a : Activity) → slotAfter a (now .0) (slotTimeOf p .0) ≡ true → busyOf a now ≡ false
+      go activity.Unknown e = refl
+      go (activity.At last) e = lt-leb (now .0) (last .0) (omega (arith, leb-true (last .0 + slotTimeOf p .0) (now .0) e, w .some))
+
+  -- a counted poll finds the pause over
+  pub counted-paused : slotAfter a (now .0) (slotTimeOf p .0) ≡ true → pauseOf p a now .over ≡ true
+  unfolding slotAfter pauseOf elapsedOf knownAt
+  counted-paused = go a
+    where
+      go : (a : Activity) → slotAfter a (now .0) (slotTimeOf p .0) ≡ true → elapsedOf now (knownAt a now) (timeOf (record { 0 = 33 }) (p .baudrate)) ≡ true
+      go activity.Unknown e = absurd (true≢false (sym e))
+      go (activity.At last) e = le-leb (last .0 + pauseTime p) (now .0) (omega (arith, leb-true (last .0 + slotTimeOf p .0) (now .0) e, w .pause))
+
+  -- a counted poll finds the slot expired
+  pub counted-expired : slotAfter a (now .0) (slotTimeOf p .0) ≡ true → slotExpiredOf p a now .over ≡ true
+  unfolding slotAfter slotExpiredOf elapsedOf knownAt
+  counted-expired = go a
+    where
+      go : (a : Activity) → slotAfter a (now .0) (slotTimeOf p .0) ≡ true → elapsedOf now (knownAt a now) (slotTimeOf p) ≡ true
+      go activity.Unknown e = absurd (true≢false (sym e))
+      go (activity.At last) e = e
+
+  -- where the slot has expired, the pause since the same activity is over
+  pub expired-paused : slotExpiredOf p a now .over ≡ true → pauseOf p (activity.At (slotExpiredOf p a now .last)) now .over ≡ true
+  unfolding slotExpiredOf pauseOf elapsedOf knownAt
+  expired-paused e =
+      let last = knownAt a now .0 in
+      le-leb (last + pauseTime p) (now .0) (omega (arith, leb-true (last + slotTimeOf p .0) (now .0) e, w .pause))

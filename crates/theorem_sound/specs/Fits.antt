@@ -1,0 +1,447 @@
+-- An answer fits its 64 bits: every answer of a sound station lies within document 01's ranges (Fits), so `pack` cuts nothing off, and
+-- what `unpack` reads from the answer's word is the answer.
+use Prim.Native.Nat.{ℕ, zero, suc, _^_, _*_, _<_, _≤_}
+use mathlib.Core.Bool.{Bool, true, false}
+use mathlib.Core.List.{List}
+use mathlib.Core.Path.{_≡_, refl}
+use native.Mathlib.Omega.{arith}
+use borrow.Author.Tests.{eqb-true}
+use borrow.Table.Steps.{cases}
+use lib.ListN.{length}
+use lib.Dec.{ltb, leb, eqb, lit<, lit≤}
+use Rattle.codec_fields.specs.Fields.{fieldOf, bitAt}
+use Rattle.bit_times.specs.declared.Micros.{Micros}
+use Rattle.settings.specs.declared.Parameters.{Parameters}
+use Rattle.ring.specs.declared.Ring.{Ring}
+use Rattle.ring.specs.declared.GapState.{GapState}
+use Rattle.ring.specs.declared.GapState.the-variants.{Waiting, DoPoll}
+use Rattle.ring.specs.Ring.{nextOf}
+use Rattle.ring.specs.Laws.{next-low}
+use Rattle.codec_decisions.specs.declared.Decision.{Decision}
+use Rattle.codec_decisions.specs.declared.Decision.the-variants as decision
+use Rattle.codec_telegrams.specs.declared.Telegram.{Telegram}
+use Rattle.codec_telegrams.specs.declared.Telegram.the-variants as telegram
+use Rattle.codec_decisions.specs.Decisions.{DecisionFits, lengthRefusal, decisionRefusal}
+use Rattle.codec_telegrams.specs.Words.{zeroOr14, telegramRefusal}
+use Rattle.codec_records.specs.Records.{headOf, countOf, decisionAt, entryRefusal, wordsRefusal, recordRefusal}
+use Rattle.codec_records.specs.Laws.{good, good-decision}
+use Rattle.codec_answers.specs.declared.Outcome.{Outcome}
+use Rattle.codec_answers.specs.declared.Sent.{Sent}
+use Rattle.codec_answers.specs.declared.Notice.{Notice}
+use Rattle.codec_answers.specs.declared.Answer.{Answer}
+use Rattle.codec_answers.specs.declared.Unpacked.the-variants.{Is}
+use Rattle.codec_answers.specs.Answers.{lastState, answerWord, refusalKnown, unpackOf, SentFits, NoticeFits, Fits}
+use Rattle.codec_answers.specs.Laws.{refused-fits, answer-read}
+use Rattle.station.specs.declared.Activity.the-variants as activity
+use Rattle.station.specs.declared.OptionAddress.{OptionAddress}
+use Rattle.station.specs.declared.OptionAddress.the-variants as optionAddress
+use Rattle.station.specs.declared.PassTokenAttempt.{PassTokenAttempt}
+use Rattle.station.specs.declared.PassTokenAttempt.the-variants.{First, Second, Third}
+use Rattle.station.specs.declared.UseTokenData.{UseTokenData}
+use Rattle.station.specs.declared.State.{State}
+use Rattle.station.specs.declared.State.the-variants.{Offline, ListenToken, ActiveIdle, UseToken, ClaimToken, AwaitDataResponse, PassToken, CheckTokenPass, AwaitStatusResponse}
+use Rattle.station.specs.declared.Core.{Core}
+use Rattle.station.specs.declared.Station.{Station}
+use Rattle.station.specs.declared.Waited.{Waited}
+use Rattle.station.specs.declared.Step.{Step}
+use Rattle.station.specs.declared.RingStep.{RingStep}
+use Rattle.station.specs.Parts.{withState, withActivity, withGap, withNextApplication, stateNumber}
+use Rattle.station.specs.Steps.{ongoingOf, pauseOf, slotExpiredOf, tokenLostWaitOf, doneOf, transmitOf}
+use Rattle.station_claim.specs.Claim.{claimAfter, claimTokenOf}
+use Rattle.station_hold.specs.declared.Asked.{Asked}
+use Rattle.station_hold.specs.Hold.{validResponse, holdsOf, askedOf, appTransmitOf, usePassOf, useAppsAfter, useAppsOf, useTokenAfter, useTokenTimed, useTokenOf, receivedOf, withNotice, timeoutOf, awaitDataAfter, awaitDataOf}
+use Rattle.station.specs.declared.Heard.{Heard}
+use Rattle.station_listen.specs.Listen.{lostTokenOf, listenResponseAfter, listenResponse, consumedAll, listenTokenOn, listenTokenAfter, listenTokenOf, activeResponseAfter, activeResponse, activeIdleOn, activeIdleAfter, activeIdleOf}
+use Rattle.station_pass.specs.Pass.{passSent, passSend, passPollOn, passPoll, passAfter, passTokenOf}
+use Rattle.station_await_status.specs.AwaitStatus.{statusAnswered, statusUnexpected, statusReceived, statusTimeout, awaitStatusAfter, awaitStatusOf}
+use Rattle.station_check_pass.specs.CheckPass.{resendOf, checkReceived, checkAfter, checkTokenPassOf}
+use Rattle.station_poll.specs.Poll.{dispatchOn, dispatchOf, pollOnline, pollInner, acceptedAfter, acceptedPoll, pollOf}
+use Rattle.station_answer.specs.Answer.{stepAnswer, polledOf, refusedPoll}
+use Rattle.station_command.specs.Command.{onlineOf, offlineOf, passiveOf}
+use Rattle.theorem_sound.specs.Keeps.{Low, Addressed, GapAddressed, RingGood, CoreGood, RingStepGood, either, again-good, remove-good, waited-good, state-good, online-good, again-core-good, done-good, bus-good}
+use Rattle.theorem_sound.specs.Hold.{AskedGood, asked-good, hold-good}
+use Rattle.theorem_sound.specs.Pass.{advanced-good}
+use Rattle.theorem_sound.specs.Sound.{SoundStation, Call, poll, online, offline, passive, connected-good, poll-inner-good, part-core, part-ring}
+
+-- what a step sends, consumes and tells fits
+record StepFits (s : Step) : Type 0 where
+  pub sent-fits : SentFits (s .sent)
+  pub consumed-fits : s .consumed ≤ 8
+  pub notice-fits : NoticeFits (s .notice)
+
+-- the same of a step with a ring
+record Fit (x : RingStep) : Type 0 where
+  pub step-fits : StepFits (x .step)
+
+-- a step that sends and tells nothing, and one that sends
+done-fits : (c : Core) (o : Outcome) → StepFits (doneOf c o)
+unfolding doneOf
+done-fits c o = record { sent-fits = tt; consumed-fits = lit≤ tt; notice-fits = tt }
+
+transmit-fits : (p : Parameters) (c : Core) (now : Micros) (bytes : ℕ) (x : Sent) → SentFits x → StepFits (transmitOf p c now bytes x)
+unfolding transmitOf
+transmit-fits p c now bytes x f = record { sent-fits = f; consumed-fits = lit≤ tt; notice-fits = tt }
+
+-- What is known in a poll whose record is not refused: an address of settings, at most 8 applications and telegrams, and decisions
+-- that fit.
+record Given (p : Parameters) (n : ℕ) (bytes : List ℕ) (count : ℕ) : Type 0 where
+  pub own-low : p .address < 126
+  pub eight : n ≤ 8
+  pub telegrams : count ≤ 8
+  pub decisions : (a : ℕ) (high : Bool) → a < n → DecisionFits (decisionAt bytes n a high)
+
+module _ (p : Parameters) (n : ℕ) (bytes : List ℕ) (count : ℕ) (now : Micros) (k : Given p n bytes count) where
+  -- the next application has three bits
+  next-fits : (c : Core) → CoreGood n c → c .«next_application» < 2 ^ 3
+  next-fits c b = omega (arith, b .next-below, k .eight)
+
+  -- do_claim_token
+  claim-fits : (c : Core) (r : Ring) (first : Bool) → Fit (claimTokenOf p c r now first)
+  unfolding claimTokenOf claimAfter
+  claim-fits c r first =
+      either Fit (pauseOf p (c .«last_bus_activity») now .over) _ _
+      (record { step-fits = transmit-fits p _ now 3 _ (omega (arith, k .own-low)) })
+      (record { step-fits = done-fits _ _ })
+
+  -- do_use_token
+  use-pass-fits : (c : Core) → StepFits (usePassOf c)
+  unfolding usePassOf
+  use-pass-fits c = done-fits _ _
+
+  app-fits : (c : Core) (held : UseTokenData) (d : Decision) (high : Bool) → DecisionFits d → c .«next_application» < n → StepFits (appTransmitOf p c now held d high)
+  unfolding appTransmitOf
+  app-fits c held decision.Decline high f l = use-pass-fits c
+  app-fits c held (decision.Send size) high f l = transmit-fits p c now size _ (lit< tt, omega (arith, k .eight), f .0, f .1)
+  app-fits c held (decision.SendExpectReply a size) high f l = transmit-fits p _ now size _ (f .0, omega (arith, k .eight), f .1, f .2)
+
+  apps-after-fits : (c : Core) (held : UseTokenData) (high : Bool) (a : Asked) → AskedGood n a → StepFits (useAppsAfter p c now held bytes n high a)
+  unfolding useAppsAfter withState withNextApplication
+  apps-after-fits c held high a g =
+      either StepFits (a .sends) _ _ (app-fits _ _ _ high (k .decisions _ high (g .asked)) (g .asked)) (use-pass-fits _)
+
+  apps-fits : (c : Core) (held : UseTokenData) (high : Bool) → CoreGood n c → StepFits (useAppsOf p c now held bytes n high)
+  unfolding useAppsOf askedOf
+  apps-fits c held high b = apps-after-fits c held high _ (asked-good n bytes n _ _ high (b .next-below))
+
+  use-after-fits : (c : Core) (held : UseTokenData) (cycled : Bool) (w : Waited) → CoreGood n c → StepFits (useTokenAfter p c now held cycled bytes n w)
+  unfolding useTokenAfter
+  use-after-fits c held cycled w b =
+      let q = waited-good n c _ b in
+      either StepFits (w .over) _ _
+      (either StepFits (holdsOf now (withActivity c (activity.At (w .last)) .«end_token_hold_time»)) _ _ (apps-fits _ held false q)
+      (either StepFits cycled _ _ (use-pass-fits _) (apps-fits _ held true q)))
+      (done-fits _ _)
+
+  use-token-fits : (c : Core) (held : UseTokenData) (cycled : Bool) → CoreGood n c → StepFits (useTokenOf p c now held cycled bytes n)
+  unfolding useTokenOf useTokenTimed
+  use-token-fits c held cycled b = use-after-fits _ held cycled _ (hold-good p n c _ b)
+
+  -- do_await_data_response
+  received-fits : (c : Core) (a : ℕ) (held : UseTokenData) (t : Telegram) → a < 128 → CoreGood n c → StepFits (receivedOf p c now a held t)
+  unfolding receivedOf
+  received-fits c a held t l b =
+      either StepFits (validResponse t a (p .address)) _ _ (record { sent-fits = tt; consumed-fits = lit≤ tt; notice-fits = (next-fits c b, l) })
+      (record { sent-fits = tt; consumed-fits = lit≤ tt; notice-fits = tt })
+
+  noticed-fits : (s : Step) (x : Notice) → NoticeFits x → StepFits s → StepFits (withNotice s x)
+  unfolding withNotice
+  noticed-fits s x f g = record { sent-fits = g .sent-fits; consumed-fits = g .consumed-fits; notice-fits = f }
+
+  timeout-fits : (c : Core) (a : ℕ) (held : UseTokenData) → a < 128 → CoreGood n c → StepFits (timeoutOf p c now a held bytes n)
+  unfolding timeoutOf
+  timeout-fits c a held l b = noticed-fits _ _ (next-fits c b, l) (use-token-fits _ held true (state-good n c _ tt b))
+
+  await-after-fits : (c : Core) (a : ℕ) (held : UseTokenData) (w : Waited) → a < 128 → CoreGood n c → StepFits (awaitDataAfter p c now a held bytes n w)
+  unfolding awaitDataAfter
+  await-after-fits c a held w l b = either StepFits (w .over) _ _ (timeout-fits _ a held l (waited-good n c _ b)) (done-fits _ _)
+
+  await-data-fits : (c : Core) (a : ℕ) (held : UseTokenData) → a < 128 → CoreGood n c → StepFits (awaitDataOf p c now a held bytes n count)
+  unfolding awaitDataOf
+  await-data-fits c a held l b = either StepFits (ltb 0 count) _ _ (received-fits c a held _ l b) (await-after-fits c a held _ l b)
+
+  -- do_listen_token
+  lost-fits : (c : Core) (r : Ring) → Fit (lostTokenOf p c r now)
+  unfolding lostTokenOf
+  lost-fits c r = claim-fits _ r true
+
+  all-fits : (h : Heard) → Fit (consumedAll h count)
+  unfolding consumedAll
+  all-fits h = record { step-fits = record { sent-fits = tt; consumed-fits = k .telegrams; notice-fits = tt } }
+
+  response-fits : (c : Core) (r : Ring) (source collisions : ℕ) (w : Waited) → source < 128 → Fit (listenResponseAfter p c r now source collisions w)
+  unfolding listenResponseAfter
+  response-fits c r source collisions w l =
+      either Fit (w .over) _ _ (record { step-fits = transmit-fits p _ now 6 _ l }) (record { step-fits = done-fits _ _ })
+
+  listen-on-fits : (q : OptionAddress) (c : Core) (r : Ring) (collisions : ℕ) → Low q → Fit (listenTokenOn q p c r now collisions bytes n count)
+  unfolding listenTokenOn listenResponse
+  listen-on-fits optionAddress.None c r collisions l = all-fits _
+  listen-on-fits (optionAddress.Some source) c r collisions l = response-fits c r source collisions _ l
+
+  listen-fits : (c : Core) (r : Ring) (q : OptionAddress) (collisions : ℕ) → Low q → Fit (listenTokenOf p c r now q collisions bytes n count)
+  unfolding listenTokenOf listenTokenAfter
+  listen-fits c r q collisions l =
+      either Fit (tokenLostWaitOf p (c .«last_bus_activity») now .over) _ _ (lost-fits _ r) (listen-on-fits q _ r collisions l)
+
+  -- do_active_idle
+  active-response-fits : (c : Core) (r : Ring) (source : ℕ) (m : OptionAddress) (collisions : ℕ) (w : Waited) → source < 128 → Fit (activeResponseAfter p c r now source m collisions w)
+  unfolding activeResponseAfter
+  active-response-fits c r source m collisions w l =
+      either Fit (w .over) _ _ (record { step-fits = transmit-fits p _ now 6 _ l }) (record { step-fits = done-fits _ _ })
+
+  active-on-fits : (q : OptionAddress) (c : Core) (r : Ring) (m : OptionAddress) (collisions : ℕ) → Low q → Fit (activeIdleOn q p c r now m collisions bytes n count)
+  unfolding activeIdleOn activeResponse
+  active-on-fits optionAddress.None c r m collisions l = all-fits _
+  active-on-fits (optionAddress.Some source) c r m collisions l = active-response-fits c r source m collisions _ l
+
+  active-fits : (c : Core) (r : Ring) (q m : OptionAddress) (collisions : ℕ) → Low q → Fit (activeIdleOf p c r now q m collisions bytes n count)
+  unfolding activeIdleOf activeIdleAfter
+  active-fits c r q m collisions l =
+      either Fit (tokenLostWaitOf p (c .«last_bus_activity») now .over) _ _ (lost-fits _ r) (active-on-fits q _ r m collisions l)
+
+  -- do_pass_token
+  pass-sent-fits : (c : Core) (a : PassTokenAttempt) (next : ℕ) (r : Ring) → next < 126 → Fit (passSent p c now a next r)
+  unfolding passSent
+  pass-sent-fits c a next r l =
+      either Fit (eqb (nextOf r) (p .address)) _ _
+      (record { step-fits = transmit-fits p _ now 3 _ (omega arith) })
+      (record { step-fits = transmit-fits p _ now 3 _ (omega arith) })
+
+  pass-send-fits : (c : Core) (r : Ring) (a : PassTokenAttempt) → RingGood p r → Fit (passSend p c r now a)
+  unfolding passSend
+  pass-send-fits c r a g = pass-sent-fits c a _ _ (next-low r (g .sound))
+
+  pass-poll-fits : (s : GapState) (c : Core) (r : Ring) (a : PassTokenAttempt) → GapAddressed s → RingGood p r → Fit (passPollOn s p c r now a)
+  unfolding passPollOn
+  pass-poll-fits (Waiting count) c r a l g = pass-send-fits c r a g
+  pass-poll-fits (DoPoll current) c r a l g = record { step-fits = transmit-fits p _ now 6 _ (omega arith) }
+
+  pass-fits : (c : Core) (r : Ring) (gap : Bool) (a : PassTokenAttempt) → RingGood p r → Fit (passTokenOf p c r now gap a)
+  unfolding passTokenOf passAfter passPoll withGap
+  pass-fits c r gap a g =
+      either Fit (pauseOf p (c .«last_bus_activity») now .over) _ _
+      (either Fit gap _ _ (pass-poll-fits _ _ r a (advanced-good p r (c .«gap_state») g) g) (pass-send-fits _ r a g))
+      (record { step-fits = done-fits _ _ })
+
+  -- do_await_status_response
+  answered-fits : (c : Core) (r : Ring) → Fit (statusAnswered c r)
+  unfolding statusAnswered
+  answered-fits c r = record { step-fits = record { sent-fits = tt; consumed-fits = lit≤ tt; notice-fits = tt } }
+
+  unexpected-fits : (c : Core) (r : Ring) → Fit (statusUnexpected c r)
+  unfolding statusUnexpected
+  unexpected-fits c r = record { step-fits = record { sent-fits = tt; consumed-fits = lit≤ tt; notice-fits = tt } }
+
+  status-fits : (c : Core) (r : Ring) (a : ℕ) (t : Telegram) → Fit (statusReceived p c r a t)
+  unfolding statusReceived
+  status-fits c r a (telegram.Token destination source) = unexpected-fits c r
+  status-fits c r a telegram.ShortConfirmation = unexpected-fits c r
+  status-fits c r a (telegram.Request destination source asks) = unexpected-fits c r
+  status-fits c r a (telegram.Response destination source state status) =
+      either Fit (eqb source a) _ _ (either Fit (eqb destination (p .address)) _ _ (answered-fits c _) (unexpected-fits c r)) (unexpected-fits c r)
+
+  await-status-fits : (c : Core) (r : Ring) (a : ℕ) → RingGood p r → Fit (awaitStatusOf p c r now a bytes n count)
+  unfolding awaitStatusOf awaitStatusAfter statusTimeout
+  await-status-fits c r a g =
+      either Fit (ltb 0 count) _ _ (status-fits _ r a _)
+      (either Fit (slotExpiredOf p (c .«last_bus_activity») now .over) _ _ (pass-fits _ r false First g) (record { step-fits = done-fits _ _ }))
+
+  -- do_check_token_pass
+  resend-fits : (c : Core) (r : Ring) (a : PassTokenAttempt) → RingGood p r → Fit (resendOf p c r now a)
+  unfolding resendOf
+  resend-fits c r First g = pass-fits _ r false Second g
+  resend-fits c r Second g = pass-fits _ r false Third g
+  resend-fits c r Third g = pass-fits _ _ false First (remove-good p r (nextOf r) g)
+
+  check-fits : (c : Core) (r : Ring) (a : PassTokenAttempt) → RingGood p r → Fit (checkTokenPassOf p c r now a bytes n count)
+  unfolding checkTokenPassOf checkAfter checkReceived
+  check-fits c r a g =
+      either Fit (slotExpiredOf p (c .«last_bus_activity») now .over) _ _ (resend-fits _ r a g)
+      (either Fit (ltb 0 count) _ _ (all-fits _) (record { step-fits = done-fits _ _ }))
+
+  -- poll_inner
+  dispatch-fits : (x : State) (c : Core) (r : Ring) → Addressed x → CoreGood n c → RingGood p r → Fit (dispatchOn x p c r now bytes n count)
+  unfolding dispatchOn
+  dispatch-fits Offline c r l b g = record { step-fits = done-fits _ _ }
+  dispatch-fits (ListenToken q m) c r l b g = listen-fits c r q m l
+  dispatch-fits (ActiveIdle q m i) c r l b g = active-fits c r q m i (l .0)
+  dispatch-fits (UseToken d i) c r l b g = record { step-fits = use-token-fits c d i b }
+  dispatch-fits (ClaimToken f) c r l b g = claim-fits c r f
+  dispatch-fits (AwaitDataResponse a d) c r l b g = record { step-fits = await-data-fits c a d l b }
+  dispatch-fits (PassToken x a) c r l b g = pass-fits c r x a g
+  dispatch-fits (CheckTokenPass a) c r l b g = check-fits c r a g
+  dispatch-fits (AwaitStatusResponse a) c r l b g = await-status-fits c r a g
+
+  poll-online-fits : (c : Core) (r : Ring) (t : Bool) (pending : ℕ) → CoreGood n c → RingGood p r → Fit (pollOnline p c r now t pending bytes n count)
+  unfolding pollOnline dispatchOf
+  poll-online-fits c r t pending b g =
+      let q = bus-good n c now pending b in
+      either Fit (ongoingOf (c .«last_bus_activity») now t) _ _ (record { step-fits = done-fits _ _ }) (dispatch-fits _ _ r (q .addressed) q g)
+
+  poll-inner-fits : (c : Core) (r : Ring) (t : Bool) (pending : ℕ) → CoreGood n c → RingGood p r → Fit (pollInner p c r now t pending bytes n count)
+  unfolding pollInner
+  poll-inner-fits c r t pending b g =
+      either Fit (c .online) _ _ (poll-online-fits _ r t pending (connected-good n c b) g) (record { step-fits = done-fits _ _ })
+
+-- a state's number is one of document 01's
+state-known : (x : State) → stateNumber x ≤ lastState
+state-known Offline = lit≤ tt
+state-known (ListenToken q k) = lit≤ tt
+state-known (ActiveIdle q m k) = lit≤ tt
+state-known (UseToken d k) = lit≤ tt
+state-known (ClaimToken f) = lit≤ tt
+state-known (AwaitDataResponse a d) = lit≤ tt
+state-known (PassToken x a) = lit≤ tt
+state-known (CheckTokenPass a) = lit≤ tt
+state-known (AwaitStatusResponse a) = lit≤ tt
+
+-- the answer of an entry that is not refused
+polled-fits : (p : Parameters) (n : ℕ) (x : RingStep) → n ≤ 8 → RingStepGood p n x → Fit x → Fits (polledOf p n x .answer)
+unfolding polledOf stepAnswer refusalKnown
+polled-fits p n x e g f =
+    record {
+      refusal = refl;
+      plain = λ z. absurd (z refl);
+      state = state-known (x .step .core .state);
+      sent = f .step-fits .sent-fits;
+      consumed = f .step-fits .consumed-fits;
+      notice = f .step-fits .notice-fits;
+      application = omega (arith, g .good-step .step-core .next-below);
+      station = omega (arith, next-low (x .ring) (g .good-ring .sound));
+    }
+
+-- the answer of a refused entry
+refused-poll-fits : (s : Station) (k : ℕ) → SoundStation s → refusalKnown k ≡ true → Fits (refusedPoll s k .answer)
+unfolding refusedPoll
+refused-poll-fits s k w e =
+    refused-fits k _ _ _ e (state-known (s .core .state)) (omega (arith, w .next-one, w .eight)) (omega (arith, next-low (s .«token_ring») (w .ring-sound)))
+
+-- a record's refusal is none or one of a record's: 12 to 15
+abbrev Known : ℕ → Type 0
+Known k = refusalKnown k ≡ true
+
+none-known : Known 0
+unfolding refusalKnown
+none-known = refl
+
+known-12 : Known 12
+unfolding refusalKnown
+known-12 = refl
+
+known-13 : Known 13
+unfolding refusalKnown
+known-13 = refl
+
+known-14 : Known 14
+unfolding refusalKnown
+known-14 = refl
+
+known-15 : Known 15
+unfolding refusalKnown
+known-15 = refl
+
+zero-known : (bits : ℕ) → Known (zeroOr14 bits)
+unfolding zeroOr14
+zero-known bits = either Known (eqb bits 0) _ _ none-known known-14
+
+length-known : (l : ℕ) → Known (lengthRefusal l)
+unfolding lengthRefusal
+length-known l = either Known (eqb l 0) _ _ known-15 none-known
+
+telegram-known : (w : ℕ) → Known (telegramRefusal w)
+unfolding telegramRefusal
+telegram-known w =
+    either Known (leb (2 ^ 32) w) _ _ known-14
+    (either Known (eqb (fieldOf w 30 2) 0) _ _ (zero-known _)
+    (either Known (eqb (fieldOf w 30 2) 1) _ _ (zero-known _)
+    (either Known (eqb (fieldOf w 30 2) 2) _ _ (zero-known _)
+    (either Known (bitAt w 15) _ _ known-14 (zero-known _)))))
+
+decision-known : (w : ℕ) → Known (decisionRefusal w)
+unfolding decisionRefusal
+decision-known w =
+    either Known (leb (2 ^ 24) w) _ _ known-14
+    (either Known (bitAt w 23) _ _
+    (either Known (eqb (fieldOf w 0 7) 0) _ _
+    (either Known (bitAt w 22) _ _ (length-known _) (either Known (eqb (fieldOf w 15 7) 0) _ _ (length-known _) known-14))
+    known-14)
+    (zero-known _))
+
+entry-known : (bytes : List ℕ) (n i : ℕ) → Known (entryRefusal bytes n i)
+unfolding entryRefusal
+entry-known bytes n i = either Known (ltb i (2 * n)) _ _ (decision-known _) (telegram-known _)
+
+first-known : (g : ℕ → ℕ) → ((i : ℕ) → Known (g i)) → (k : ℕ) → Known (wordsRefusal g k)
+unfolding wordsRefusal
+first-known g h zero = none-known
+first-known g h (suc k) = either Known (eqb (wordsRefusal g k) 0) _ _ (h k) (first-known g h k)
+
+record-known : (bytes : List ℕ) (n : ℕ) → Known (recordRefusal bytes n)
+unfolding recordRefusal
+record-known bytes n =
+    either Known (ltb (length bytes) 8) _ _ known-12
+    (either Known (ltb 8 (countOf bytes)) _ _ known-13
+    (either Known (eqb (length bytes) _) _ _ (first-known _ (entry-known bytes n) _) known-12))
+
+-- what is known of a sound station's poll whose record is not refused
+given : (s : Station) (bytes : List ℕ) → SoundStation s → recordRefusal bytes (s .applications) ≡ 0 → Given (s .p) (s .applications) bytes (headOf bytes .telegrams)
+given s bytes w z =
+    let g = good bytes (s .applications) z in
+    record {
+      own-low = rw (w .own-is) at (w .ring-sound .own-low);
+      eight = w .eight;
+      telegrams = g .telegrams;
+      decisions = λ a high l. good-decision g a high l .1;
+    }
+
+accepted-fits : (s : Station) (bytes : List ℕ) → SoundStation s → recordRefusal bytes (s .applications) ≡ 0 → Fits (acceptedPoll s bytes .answer)
+unfolding acceptedPoll acceptedAfter
+accepted-fits s bytes w z =
+    let b = part-core s w in
+    let g = part-ring s w in
+    polled-fits (s .p) (s .applications) _ (w .eight) (poll-inner-good (s .p) (s .applications) (s .core) (s .«token_ring») _ _ _ bytes _ b g)
+    (poll-inner-fits (s .p) (s .applications) bytes _ _ (given s bytes w z) (s .core) (s .«token_ring») _ _ b g)
+
+-- The theorem, call by call: the answers of a sound station fit.
+pub poll-fits : (s : Station) (bytes : List ℕ) → SoundStation s → Fits (pollOf s bytes .answer)
+unfolding pollOf
+poll-fits s bytes w =
+    cases (eqb (recordRefusal bytes (s .applications)) 0)
+    (λ e. rw e (accepted-fits s bytes w (eqb-true (recordRefusal bytes (s .applications)) 0 e)))
+    (λ e. rw e (refused-poll-fits s (recordRefusal bytes (s .applications)) w (record-known bytes (s .applications))))
+
+pub online-fits : (s : Station) → SoundStation s → Fits (onlineOf s .answer)
+unfolding onlineOf
+online-fits s w =
+    polled-fits (s .p) (s .applications) _ (w .eight)
+    (record { good-step = done-good _ _ _ (online-good _ (s .core) true (part-core s w)); good-ring = part-ring s w })
+    (record { step-fits = done-fits _ _ })
+
+pub offline-fits : (s : Station) → SoundStation s → Fits (offlineOf s .answer)
+unfolding offlineOf
+offline-fits s w =
+    polled-fits (s .p) (s .applications) _ (w .eight)
+    (record { good-step = done-good _ _ _ (again-core-good _ (s .core) (part-core s w)); good-ring = again-good (s .p) (s .«token_ring») (part-ring s w) })
+    (record { step-fits = done-fits _ _ })
+
+pub passive-fits : (s : Station) → SoundStation s → Fits (passiveOf s .answer)
+unfolding passiveOf refusalKnown
+passive-fits s w = refused-poll-fits s 16 w refl
+
+-- the answer to a call
+abbrev pub answerTo : Station → Call → Answer
+answerTo s (poll bytes) = pollOf s bytes .answer
+answerTo s online = onlineOf s .answer
+answerTo s offline = offlineOf s .answer
+answerTo s passive = passiveOf s .answer
+
+-- the answer of a sound station to any call fits
+pub every-answer-fits : (s : Station) (c : Call) → SoundStation s → Fits (answerTo s c)
+every-answer-fits s (poll bytes) w = poll-fits s bytes w
+every-answer-fits s online w = online-fits s w
+every-answer-fits s offline w = offline-fits s w
+every-answer-fits s passive w = passive-fits s w
+
+-- so what is read from its 64 bits is the answer itself
+pub every-answer-reads-back : (s : Station) (c : Call) → SoundStation s → unpackOf (answerWord (answerTo s c)) ≡ Is (answerTo s c)
+every-answer-reads-back s c w = answer-read (answerTo s c) (every-answer-fits s c w)

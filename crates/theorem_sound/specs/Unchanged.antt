@@ -1,0 +1,65 @@
+-- Refused means unchanged: a call whose answer carries a refusal leaves the station as it was.
+use Prim.Native.Nat.{ℕ}
+use mathlib.Core.Path.{_≡_, refl, sym, _∙_}
+use mathlib.Core.Bool.{false}
+use mathlib.Core.List.{List}
+use borrow.Author.Tests.{eqb-true}
+use borrow.Table.Steps.{cases}
+use lib.Dec.{eqb}
+use Rattle.codec_records.specs.Records.{recordRefusal}
+use Rattle.codec_answers.specs.Answers.{refusedAnswer}
+use Rattle.station.specs.declared.Station.{Station}
+use Rattle.station_answer.specs.Answer.{stepAnswer, polledOf, refusedPoll}
+use Rattle.station_command.specs.Command.{onlineOf, offlineOf, passiveOf}
+use Rattle.station_poll.specs.Poll.{acceptedAfter, acceptedPoll, pollOf}
+
+-- a refused entry has its number and leaves the station
+refused-station : (s : Station) (k : ℕ) → refusedPoll s k .station ≡ s
+unfolding refusedPoll
+refused-station s k = refl
+
+refused-number : (s : Station) (k : ℕ) → refusedPoll s k .answer .refusal ≡ k
+unfolding refusedPoll refusedAnswer
+refused-number s k = refl
+
+-- a poll whose record is good is not refused
+accepted-number : (s : Station) (bytes : List ℕ) → acceptedPoll s bytes .answer .refusal ≡ 0
+unfolding acceptedPoll acceptedAfter polledOf stepAnswer
+accepted-number s bytes = refl
+
+-- a poll is refused exactly with its record's number
+pub poll-refusal : (s : Station) (bytes : List ℕ) → pollOf s bytes .answer .refusal ≡ recordRefusal bytes (s .applications)
+unfolding pollOf
+poll-refusal s bytes =
+    cases (eqb (recordRefusal bytes (s .applications)) 0)
+    (λ e. rw e (accepted-number s bytes ∙ sym (eqb-true (recordRefusal bytes (s .applications)) 0 e)))
+    (λ e. rw e (refused-number s (recordRefusal bytes (s .applications))))
+
+kept : (s : Station) (bytes : List ℕ) → eqb (recordRefusal bytes (s .applications)) 0 ≡ false → pollOf s bytes .station ≡ s
+unfolding pollOf
+kept s bytes e = rw e (refused-station s (recordRefusal bytes (s .applications)))
+
+-- a refused poll leaves the station as it was
+pub poll-unchanged : (s : Station) (bytes : List ℕ) → (pollOf s bytes .answer .refusal ≡ 0 → ⊥) → pollOf s bytes .station ≡ s
+poll-unchanged s bytes n =
+    cases (eqb (recordRefusal bytes (s .applications)) 0)
+    (λ e. absurd (n (poll-refusal s bytes ∙ eqb-true (recordRefusal bytes (s .applications)) 0 e)))
+    (λ e. kept s bytes e)
+
+-- passive is refused with 16 and leaves the station as it was
+pub passive-refusal : (s : Station) → passiveOf s .answer .refusal ≡ 16
+unfolding passiveOf
+passive-refusal s = refused-number s 16
+
+pub passive-unchanged : (s : Station) → passiveOf s .station ≡ s
+unfolding passiveOf
+passive-unchanged s = refused-station s 16
+
+-- online and offline are never refused
+pub online-refusal : (s : Station) → onlineOf s .answer .refusal ≡ 0
+unfolding onlineOf polledOf stepAnswer
+online-refusal s = refl
+
+pub offline-refusal : (s : Station) → offlineOf s .answer .refusal ≡ 0
+unfolding offlineOf polledOf stepAnswer
+offline-refusal s = refl

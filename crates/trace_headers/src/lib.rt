@@ -1,0 +1,119 @@
+// A trace's header (document 01, "Trace"): its 16 bytes as plain numbers, and their first refusal. It leans on
+// settings_build for what they are refused by, and on codec_fields for the bytes.
+ghost use mathlib.Core.Path.{_≡_};
+ghost use Rattle.codec_fields.specs.Fields.{fieldOf};
+ghost use Rattle.trace_headers.specs.Headers.{headerAt, headerOf, applicationsRefusal, zeroRefusal, lateRefusal, headerRefusalOn, headerRefusal};
+use codec_fields::field;
+use codec_fields::field_byte;
+use codec_fields::load;
+use settings_build::PlainSettings;
+
+// A trace's header as plain numbers, unchecked.
+pub struct Header {
+    pub settings: PlainSettings,
+    pub applications: u8,
+    pub zero_bits: u8,
+}
+
+// The slot bits of a header's first word.
+fn read_slot_bits(high: u64) -> u16
+    ensures { λ r. ⌜ r ≡ fieldOf high 32 16 ⌝ }
+{
+    field(high, 32, 16) as u16
+}
+
+// The rotation bits of a header's first word.
+fn read_rotation_bits(high: u64) -> u32
+    ensures { λ r. ⌜ r ≡ fieldOf high 0 32 ⌝ }
+{
+    field(high, 0, 32) as u32
+}
+
+// What a header's two words say.
+fn header_at(high: u64, low: u64) -> Header
+    ensures { λ r. ⌜ r ≡ headerAt high low ⌝ }
+{
+    Header {
+        settings: PlainSettings {
+            token_rotation_bits: read_rotation_bits(high),
+            slot_bits: read_slot_bits(high),
+            address: field_byte(high, 56, 8),
+            baud_code: field_byte(high, 48, 8),
+            gap_wait_rotations: field_byte(low, 56, 8),
+            highest_station_address: field_byte(low, 48, 8),
+            max_retry_limit: field_byte(low, 40, 8),
+            min_tsdr_bits: field_byte(low, 32, 8),
+            factor_1: field_byte(low, 16, 8),
+            factor_2: field_byte(low, 8, 8),
+        },
+        applications: field_byte(low, 24, 8),
+        zero_bits: field_byte(low, 0, 8),
+    }
+}
+
+// A trace's header, its first 16 bytes. Of a shorter trace each of its two words that is not whole reads as zeros.
+pub fn read_header(trace: &[u8]) -> Header
+    ensures { λ r. ⌜ r ≡ headerOf (now (trace .entry)) ⌝ }
+{
+    let high = load(trace, 0, 8);
+    let low = load(trace, 8, 8);
+    header_at(high, low)
+}
+
+// Refusal 11 unless there are 1 to 8 applications, else 0.
+fn applications_refusal(applications: u8) -> u8
+    ensures { λ r. ⌜ r ≡ applicationsRefusal applications ⌝ }
+{
+    if applications < 1 {
+        return 11;
+    }
+    if 8 < applications {
+        return 11;
+    }
+    0
+}
+
+// Refusal 14 unless the header's last byte is zero, else 0.
+fn zero_refusal(zero_bits: u8) -> u8
+    ensures { λ r. ⌜ r ≡ zeroRefusal «zero_bits» ⌝ }
+{
+    if zero_bits == 0 {
+        return 0;
+    }
+    14
+}
+
+// A header's refusal after 7: 11, 8, 14. `refusal` is that of its settings, 8 or none.
+fn late_refusal(header: Header, refusal: u8) -> u8
+    ensures { λ r. ⌜ r ≡ lateRefusal header refusal ⌝ }
+{
+    let eleven = applications_refusal(header.applications);
+    if eleven != 0 {
+        return eleven;
+    }
+    if refusal != 0 {
+        return refusal;
+    }
+    zero_refusal(header.zero_bits)
+}
+
+// A header's first refusal. `refusal` is that of its settings.
+fn header_refusal_on(header: Header, refusal: u8) -> u8
+    ensures { λ r. ⌜ r ≡ headerRefusalOn header refusal ⌝ }
+{
+    if refusal == 0 {
+        return late_refusal(header, refusal);
+    }
+    if refusal == 8 {
+        return late_refusal(header, refusal);
+    }
+    refusal
+}
+
+// A header's first refusal, in document 01's order: 1, 10, 2, 3, 4, 5, 6, 7, 11, 8, 14; 0 for none.
+pub fn header_refusal(header: Header) -> u8
+    ensures { λ r. ⌜ r ≡ headerRefusal header ⌝ }
+{
+    let fields = header.settings;
+    header_refusal_on(header, fields.first_refusal())
+}
