@@ -227,16 +227,16 @@ answer-fits w m =
     rw z (refused-fits (fieldOf w 59 5) (fieldOf w 52 4) (fieldOf w 9 3) (fieldOf w 2 7) (p .refusal) (p .state) (field-below w 9 3) (field-below w 2 7)))
 
 -- an answer within document 01's ranges is what its word says
-pub answer-read : (a : Answer) → Fits a → unpackOf (answerWord a) ≡ Is a
+pub answer-unpacks : (a : Answer) → Fits a → unpackOf (answerWord a) ≡ Is a
 unfolding unpackOf
-answer-read a f =
+answer-unpacks a f =
     let r = answer-read (answerWord a) a f (word-fields a f) in
     rw (r, eq-eqb (answerWord a) (answerWord a) refl, fits-meant a f)
 
 -- what a word says is an answer within document 01's ranges, and packs to that word
-pub answer-written : (w : ℕ) (a : Answer) → unpackOf w ≡ Is a → (answerWord a ≡ w) × Fits a
+pub answer-packs : (w : ℕ) (a : Answer) → unpackOf w ≡ Is a → (answerWord a ≡ w) × Fits a
 unfolding unpackOf
-answer-written w a h =
+answer-packs w a h =
     cases (eqb (answerWord (answerOf w)) w)
     (λ x.
     cases (meant (answerOf w))

@@ -31,7 +31,7 @@ use Rattle.codec_answers.specs.declared.Notice.{Notice}
 use Rattle.codec_answers.specs.declared.Answer.{Answer}
 use Rattle.codec_answers.specs.declared.Unpacked.the-variants.{Is}
 use Rattle.codec_answers.specs.Answers.{lastState, answerWord, refusalKnown, unpackOf, SentFits, NoticeFits, Fits}
-use Rattle.codec_answers.specs.Laws.{refused-fits, answer-read}
+use Rattle.codec_answers.specs.Laws.{refused-fits, answer-unpacks}
 use Rattle.station.specs.declared.Activity.the-variants as activity
 use Rattle.station.specs.declared.OptionAddress.{OptionAddress}
 use Rattle.station.specs.declared.OptionAddress.the-variants as optionAddress
@@ -444,4 +444,4 @@ every-answer-fits s passive w = passive-fits s w
 
 -- so what is read from its 64 bits is the answer itself
 pub every-answer-reads-back : (s : Station) (c : Call) → SoundStation s → unpackOf (answerWord (answerTo s c)) ≡ Is (answerTo s c)
-every-answer-reads-back s c w = answer-read (answerTo s c) (every-answer-fits s c w)
+every-answer-reads-back s c w = answer-unpacks (answerTo s c) (every-answer-fits s c w)
