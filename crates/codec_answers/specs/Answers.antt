@@ -40,13 +40,22 @@ abbrev pub sending : ℕ → ℕ → ℕ → ℕ → Bool → ℕ → SentFields
 sending kind destination state application high bytes =
     record { kind = kind; destination = destination; state = state; application = application; high = high; bytes = bytes }
 
--- sent: kind, destination, response type, application, high, bytes. A token has 3 bytes, a status request or response 6
+-- how many bytes were sent: a token has 3, an FDL status request or response 6, an application's telegram as many as it said
+abbrev pub sentBytes : Sent → ℕ
+sentBytes Nothing = 0
+sentBytes (Token destination) = 3
+sentBytes (StatusRequest destination) = 6
+sentBytes (StatusResponse destination state) = 6
+sentBytes (Application destination application high bytes) = bytes
+
+-- sent: kind, destination, response type, application, high, bytes
 unfoldable pub sentFields : Sent → SentFields
-sentFields Nothing = sending 0 0 0 0 false 0
-sentFields (Token destination) = sending 1 destination 0 0 false 3
-sentFields (StatusRequest destination) = sending 2 destination 0 0 false 6
-sentFields (StatusResponse destination state) = sending 3 destination (responseNumber state) 0 false 6
-sentFields (Application destination application high bytes) = sending 4 destination 0 application high bytes
+sentFields Nothing = sending 0 0 0 0 false (sentBytes Nothing)
+sentFields (Token destination) = sending 1 destination 0 0 false (sentBytes (Token destination))
+sentFields (StatusRequest destination) = sending 2 destination 0 0 false (sentBytes (StatusRequest destination))
+sentFields (StatusResponse destination state) = sending 3 destination (responseNumber state) 0 false (sentBytes (StatusResponse destination state))
+sentFields (Application destination application high bytes) =
+    sending 4 destination 0 application high (sentBytes (Application destination application high bytes))
 
 -- what was sent, by its fields; nothing where there is no such kind
 unfoldable pub sentFrom : SentFields → Sent

@@ -2,7 +2,7 @@
 // that has no meaning in a case is zero, since the case has no number for it. It leans on codec_fields for the bits and
 // on codec_telegrams for the station type.
 ghost use mathlib.Core.Path.{_≡_};
-ghost use Rattle.codec_answers.specs.Answers.{outcomeNumber, outcomeOf, sentFields, sentFrom, noticeFields, noticeFrom, refusedAnswer, answerWord, fullOf, answerOf, refusalKnown, sentMeant, meant, unpackOf};
+ghost use Rattle.codec_answers.specs.Answers.{sentBytes, outcomeNumber, outcomeOf, sentFields, sentFrom, noticeFields, noticeFrom, refusedAnswer, answerWord, fullOf, answerOf, refusalKnown, sentMeant, meant, unpackOf};
 use codec_fields::bit;
 use codec_fields::field_byte;
 use codec_fields::put;
@@ -120,10 +120,24 @@ fn outcome_of(number: u8) -> Outcome
     Outcome::None
 }
 
+// How many bytes were sent: a token has 3, an FDL status request or response 6, an application's telegram as many as it said.
+pub fn sent_bytes(sent: Sent) -> u8
+    ensures { λ r. ⌜ r ≡ sentBytes sent ⌝ }
+{
+    match sent {
+        Sent::Nothing => 0,
+        Sent::Token { .. } => 3,
+        Sent::StatusRequest { .. } => 6,
+        Sent::StatusResponse { .. } => 6,
+        Sent::Application { bytes, .. } => bytes,
+    }
+}
+
 // The fields of what was sent.
 fn sent_fields(sent: Sent) -> SentFields
     ensures { λ r. ⌜ r ≡ sentFields sent ⌝ }
 {
+    let bytes = sent_bytes(sent);
     match sent {
         Sent::Nothing => SentFields {
             kind: 0,
@@ -131,7 +145,7 @@ fn sent_fields(sent: Sent) -> SentFields
             state: 0,
             application: 0,
             high: false,
-            bytes: 0,
+            bytes,
         },
         Sent::Token { destination } => SentFields {
             kind: 1,
@@ -139,7 +153,7 @@ fn sent_fields(sent: Sent) -> SentFields
             state: 0,
             application: 0,
             high: false,
-            bytes: 3,
+            bytes,
         },
         Sent::StatusRequest { destination } => SentFields {
             kind: 2,
@@ -147,7 +161,7 @@ fn sent_fields(sent: Sent) -> SentFields
             state: 0,
             application: 0,
             high: false,
-            bytes: 6,
+            bytes,
         },
         Sent::StatusResponse { destination, state } => SentFields {
             kind: 3,
@@ -155,20 +169,20 @@ fn sent_fields(sent: Sent) -> SentFields
             state: response_state_number(state),
             application: 0,
             high: false,
-            bytes: 6,
+            bytes,
         },
         Sent::Application {
             destination,
             application,
             high,
-            bytes,
+            ..
         } => SentFields {
             kind: 4,
             destination: destination,
             state: 0,
             application: application,
             high: high,
-            bytes: bytes,
+            bytes,
         },
     }
 }

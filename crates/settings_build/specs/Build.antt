@@ -1,47 +1,38 @@
 -- Document 01, "Settings" and its header order of refusals 1 to 8 and 10, beside profirust's parameters.rs: the check of a whole
 -- record, and the settings that an accepted one makes.
 -- A refusal is document 01's number; 0 stands for no refusal. `cond t a b` is a if the test t holds, else b.
-use Prim.Native.Nat.{ℕ, _+_}
+use Prim.Native.Nat.{ℕ}
 use mathlib.Core.Bool.{cond}
-use lib.Dec.{leb, eqb}
-use Rattle.bit_times.specs.declared.Baud.{Baud}
+use mathlib.Core.List.{[], _∷_}
+use lib.Dec.{eqb}
 use Rattle.bit_times.specs.declared.Coded.{Coded}
 use Rattle.bit_times.specs.declared.Coded.the-variants.{Rate, Unknown}
-use Rattle.bit_times.specs.Times.{codeOf, leastSlotBits, baudOf}
+use Rattle.bit_times.specs.Times.{codeOf, baudOf}
 use Rattle.settings_watchdog.specs.declared.WatchdogFactors.{WatchdogFactors}
 use Rattle.settings_watchdog.specs.declared.WatchdogFactors.the-variants as wf
 use Rattle.settings.specs.declared.Parameters.{Parameters}
 use Rattle.settings.specs.declared.Created.{Created}
 use Rattle.settings.specs.declared.Created.the-variants as created
-use Rattle.settings.specs.Settings.{refuseBelow, refuseOutside}
+use Rattle.settings.specs.Rules.{addressRefusal, baudRefusal, leastOf, slotBitsRefusal, hsaRefusal, rotationRefusal, gapWaitRefusal, retryRefusal, minTsdrRefusal, factorsRefusal, firstOf}
 use Rattle.settings_build.specs.declared.PlainSettings.{PlainSettings}
 
--- 8 where one factor is zero and the other is not
-unfoldable pub factorsRefusal : ℕ → ℕ → ℕ
-factorsRefusal f1 f2 = cond (eqb f1 0) (cond (eqb f2 0) 0 8) (cond (eqb f2 0) 8 0)
+-- the first refusal up to min Tsdr, in document 01's header order: 1, 10, 2, 3, 4, 5, 6, 7
+unfoldable pub earlyRefusal : PlainSettings → ℕ
+earlyRefusal f =
+    firstOf
+    (addressRefusal (f .address)
+    ∷ baudRefusal (baudOf (f .«baud_code»))
+    ∷ slotBitsRefusal (leastOf (baudOf (f .«baud_code»))) (f .«slot_bits»)
+    ∷ hsaRefusal (f .address) (f .«highest_station_address»)
+    ∷ rotationRefusal (f .«token_rotation_bits»)
+    ∷ gapWaitRefusal (f .«gap_wait_rotations»)
+    ∷ retryRefusal (f .«max_retry_limit»)
+    ∷ minTsdrRefusal (f .«min_tsdr_bits»)
+    ∷ [])
 
--- the first refusal of two
-abbrev pub first : ℕ → ℕ → ℕ
-first n rest = cond (eqb n 0) rest n
-
--- document 01's header order after 1 and 10: 2, 3, 4, 5, 6, 7, 8
-unfoldable pub restRefusal : PlainSettings → Baud → ℕ
-restRefusal f baud =
-    first (refuseBelow (leastSlotBits baud) (f .«slot_bits») 2)
-    (first (refuseOutside (f .address + 1) (f .«highest_station_address») 126 3)
-    (first (refuseOutside 256 (f .«token_rotation_bits») 16777960 4)
-    (first (refuseOutside 1 (f .«gap_wait_rotations») 100 5)
-    (first (refuseOutside 1 (f .«max_retry_limit») 15 6)
-    (first (refuseBelow 11 (f .«min_tsdr_bits») 7) (factorsRefusal (f .«factor_1») (f .«factor_2»)))))))
-
--- 10 where the code has no rate, then the rest
-unfoldable pub codedRefusal : PlainSettings → Coded → ℕ
-codedRefusal f (Rate baud) = restRefusal f baud
-codedRefusal f Unknown = 10
-
--- the check of a whole record, in document 01's header order: 1, 10, 2, 3, 4, 5, 6, 7, 8
+-- the check of a whole record: 1, 10, 2, 3, 4, 5, 6, 7, then 8
 unfoldable pub firstRefusal : PlainSettings → ℕ
-firstRefusal f = cond (leb (f .address) 125) (codedRefusal f (baudOf (f .«baud_code»))) 1
+firstRefusal f = firstOf (earlyRefusal f ∷ factorsRefusal (f .«factor_1») (f .«factor_2») ∷ [])
 
 -- two factors as the settings keep them: zero says that there are none
 unfoldable pub pairOf : ℕ → ℕ → WatchdogFactors
@@ -62,7 +53,7 @@ builtAt f (Rate baud) =
       «min_tsdr_bits» = f .«min_tsdr_bits»;
       «watchdog_factors» = pairOf (f .«factor_1») (f .«factor_2»);
     })
-builtAt f Unknown = created.Refused 10
+builtAt f Unknown = created.Refused (baudRefusal Unknown)
 
 -- ParametersBuilder::build over a whole record: its first refusal, or the settings
 unfoldable pub buildOf : PlainSettings → Created

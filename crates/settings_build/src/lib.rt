@@ -3,13 +3,20 @@
 // parameters.rs: ParametersBuilder::build. It leans on settings for the record and its rules, on settings_watchdog for the
 // factors and on bit_times for the baud code.
 ghost use mathlib.Core.Path.{_≡_};
-ghost use Rattle.settings_build.specs.Build.{factorsRefusal, restRefusal, firstRefusal, pairOf, buildOf, factorsPair, plainOf};
-use bit_times::Baud;
+ghost use Rattle.settings_build.specs.Build.{earlyRefusal, firstRefusal, pairOf, buildOf, factorsPair, plainOf};
 use bit_times::Coded;
 use settings::Created;
 use settings::Parameters;
-use settings::refuse_below;
-use settings::refuse_outside;
+use settings::address_refusal;
+use settings::baud_refusal;
+use settings::factors_refusal;
+use settings::gap_wait_refusal;
+use settings::hsa_refusal;
+use settings::least_of;
+use settings::min_tsdr_refusal;
+use settings::retry_refusal;
+use settings::rotation_refusal;
+use settings::slot_bits_refusal;
 use settings_watchdog::WatchdogFactors;
 
 // The nine settings as ten plain numbers, unchecked: what a trace header carries. Both factors zero says that there
@@ -25,22 +32,6 @@ pub struct PlainSettings {
     pub min_tsdr_bits: u8,
     pub factor_1: u8,
     pub factor_2: u8,
-}
-
-// Refusal 8 of a whole record: one factor is zero and the other is not.
-fn factors_refusal(factor_1: u8, factor_2: u8) -> u8
-    ensures { λ r. ⌜ r ≡ factorsRefusal «factor_1» «factor_2» ⌝ }
-{
-    if factor_1 == 0 {
-        if factor_2 == 0 {
-            return 0;
-        }
-        return 8;
-    }
-    if factor_2 == 0 {
-        return 8;
-    }
-    0
 }
 
 // Two factors as a record keeps them.
@@ -95,58 +86,59 @@ impl PlainSettings {
         }
     }
 
-    // The first refusal after 1 and 10 in document 01's header order, for a known baud rate; 0 for none.
-    fn rest_refusal(self, baud: Baud) -> u8
-        ensures { λ r. ⌜ r ≡ restRefusal self baud ⌝ }
+    // The first refusal up to min Tsdr, in document 01's header order: 1, 10, 2, 3, 4, 5, 6, 7; 0 for none.
+    pub fn early_refusal(self) -> u8
+        ensures { λ r. ⌜ r ≡ earlyRefusal self ⌝ }
     {
-        let slot_bits = refuse_below(
-            bit_times::min_slot_bits(baud) as u64,
-            self.slot_bits as u64,
-            2,
-        );
+        let address = address_refusal(self.address);
+        if address != 0 {
+            return address;
+        }
+        let coded = bit_times::baud_of(self.baud_code);
+        let baud = baud_refusal(coded);
+        if baud != 0 {
+            return baud;
+        }
+        let slot_bits = slot_bits_refusal(least_of(coded), self.slot_bits);
         if slot_bits != 0 {
             return slot_bits;
         }
-        let hsa = refuse_outside(
-            self.address as u64 + 1,
-            self.highest_station_address as u64,
-            126,
-            3,
-        );
+        let hsa = hsa_refusal(self.address, self.highest_station_address);
         if hsa != 0 {
             return hsa;
         }
-        let rotation = refuse_outside(256, self.token_rotation_bits as u64, 16777960, 4);
+        let rotation = rotation_refusal(self.token_rotation_bits);
         if rotation != 0 {
             return rotation;
         }
-        let gap_wait = refuse_outside(1, self.gap_wait_rotations as u64, 100, 5);
+        let gap_wait = gap_wait_refusal(self.gap_wait_rotations);
         if gap_wait != 0 {
             return gap_wait;
         }
-        let retry = refuse_outside(1, self.max_retry_limit as u64, 15, 6);
+        let retry = retry_refusal(self.max_retry_limit);
         if retry != 0 {
             return retry;
         }
-        let min_tsdr = refuse_below(11, self.min_tsdr_bits as u64, 7);
+        let min_tsdr = min_tsdr_refusal(self.min_tsdr_bits);
         if min_tsdr != 0 {
             return min_tsdr;
         }
-        factors_refusal(self.factor_1, self.factor_2)
+        0
     }
 
     // The one check of a whole record: its first refusal in document 01's header order, 0 for none.
     pub fn first_refusal(self) -> u8
         ensures { λ r. ⌜ r ≡ firstRefusal self ⌝ }
     {
-        if 125 < self.address {
-            return 1;
+        let early = self.early_refusal();
+        if early != 0 {
+            return early;
         }
-        let coded = bit_times::baud_of(self.baud_code);
-        match coded {
-            Coded::Rate(baud) => self.rest_refusal(baud),
-            Coded::Unknown => 10,
+        let factors = factors_refusal(self.factor_1, self.factor_2);
+        if factors != 0 {
+            return factors;
         }
+        0
     }
 
     // ParametersBuilder::build: the settings, each field as given, or the record's first refusal.
@@ -170,7 +162,7 @@ impl PlainSettings {
                 min_tsdr_bits: self.min_tsdr_bits,
                 watchdog_factors: pair(self.factor_1, self.factor_2),
             }),
-            Coded::Unknown => Created::Refused(10),
+            Coded::Unknown => Created::Refused(baud_refusal(coded)),
         }
     }
 }

@@ -1,9 +1,10 @@
 -- The station's parts: one part changed, document 01's numbers of the states, and a fresh station.
 use Prim.Native.Nat.{ℕ}
-use mathlib.Core.Bool.{Bool, true, false, cond, _&&_}
-use lib.Dec.{leb}
+use mathlib.Core.Bool.{Bool, true, false, cond}
+use lib.Dec.{eqb}
 use Rattle.bit_times.specs.declared.Micros.{Micros}
 use Rattle.settings.specs.declared.Parameters.{Parameters}
+use Rattle.settings.specs.Rules.{applicationsRefusal}
 use Rattle.ring.specs.declared.Ring.{Ring}
 use Rattle.ring.specs.declared.GapState.{GapState}
 use Rattle.ring.specs.declared.GapState.the-variants.{Waiting}
@@ -66,4 +67,4 @@ freshStation p n = record { core = freshCore; «token_ring» = freshOf (p .addre
 
 -- FdlActiveStation::new: 11 unless there are 1 to 8 applications
 unfoldable pub newStation : Parameters → ℕ → Started
-newStation p n = cond (leb 1 n && leb n 8) (started.Accepted (freshStation p n)) (started.Refused 11)
+newStation p n = cond (eqb (applicationsRefusal n) 0) (started.Accepted (freshStation p n)) (started.Refused (applicationsRefusal n))

@@ -13,6 +13,7 @@ use Rattle.codec_answers.specs.declared.Outcome.the-variants as outcome
 use Rattle.codec_answers.specs.declared.Sent.{Sent}
 use Rattle.codec_answers.specs.declared.Sent.the-variants as sent
 use Rattle.codec_answers.specs.declared.Notice.the-variants as notice
+use Rattle.codec_answers.specs.Answers.{sentBytes}
 use Rattle.station.specs.declared.OptionAddress.the-variants as optionAddress
 use Rattle.station.specs.declared.OptionApplication.the-variants as optionApplication
 use Rattle.station.specs.declared.Activity.{Activity}
@@ -120,10 +121,10 @@ tokenLostWaitOf p a now = waitedOf a now (tokenLostOf p)
 unfoldable pub doneOf : Core → Outcome → Step
 doneOf c o = record { core = c; sent = sent.Nothing; notice = notice.NoNotice; outcome = o; consumed = 0 }
 
--- mark_tx, in a step that sends
-unfoldable pub transmitOf : Parameters → Core → Micros → ℕ → Sent → Step
-transmitOf p c now bytes x =
-    record { core = withActivity c (sentAt p now bytes); sent = x; notice = notice.NoNotice; outcome = outcome.Transmission; consumed = 0 }
+-- mark_tx, in a step that sends: the bytes of what is sent
+unfoldable pub transmitOf : Parameters → Core → Micros → Sent → Step
+transmitOf p c now x =
+    record { core = withActivity c (sentAt p now (sentBytes x)); sent = x; notice = notice.NoNotice; outcome = outcome.Transmission; consumed = 0 }
 
 -- what the telegrams of a poll have led to
 unfoldable pub heardOf : Core → Ring → Outcome → Heard

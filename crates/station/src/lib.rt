@@ -371,11 +371,9 @@ impl Station {
     pub fn new(p: Parameters, applications: u8) -> Started
         ensures { λ r. ⌜ r ≡ newStation p applications ⌝ }
     {
-        if applications < 1 {
-            return Started::Refused(11);
-        }
-        if 8 < applications {
-            return Started::Refused(11);
+        let n = settings::applications_refusal(applications);
+        if n != 0 {
+            return Started::Refused(n);
         }
         Started::Accepted(Station {
             core: fresh_core(),
@@ -507,11 +505,12 @@ pub fn done(core: Core, outcome: Outcome) -> Step
     }
 }
 
-// mark_tx after a send: bytes were sent, and the bus is busy until they are out.
-pub fn transmit(p: Parameters, core: Core, now: Micros, bytes: u8, sent: Sent) -> Step
+// mark_tx after a send: the bus is busy until its bytes are out.
+pub fn transmit(p: Parameters, core: Core, now: Micros, sent: Sent) -> Step
     requires { ⌜ now .0 < 2 ^ 48 ⌝ }
-    ensures { λ r. ⌜ r ≡ transmitOf p core now bytes sent ⌝ }
+    ensures { λ r. ⌜ r ≡ transmitOf p core now sent ⌝ }
 {
+    let bytes = codec_answers::sent_bytes(sent);
     Step {
         core: with_activity(core, mark_tx(p, now, bytes)),
         sent,

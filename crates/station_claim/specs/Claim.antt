@@ -22,7 +22,7 @@ claimNext c now first = cond first (withState c (ClaimToken false)) (toUseToken 
 unfoldable pub claimAfter : Parameters → Core → Ring → Micros → Bool → Waited → RingStep
 claimAfter p c ring now first pause =
     cond (pause .over)
-    (record { step = transmitOf p (claimNext (withActivity c (activity.At (pause .last))) now first) now 3 (sent.Token (p .address)); ring = claimOf ring })
+    (record { step = transmitOf p (claimNext (withActivity c (activity.At (pause .last))) now first) now (sent.Token (p .address)); ring = claimOf ring })
     (record { step = doneOf (withActivity c (activity.At (pause .last))) outcome.Delay; ring = ring })
 
 -- do_claim_token

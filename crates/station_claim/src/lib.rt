@@ -36,7 +36,7 @@ pub fn do_claim_token(p: Parameters, core: Core, ring: Ring, now: Micros, first:
         let next = claim_next(waited, now, first);
         let own = p.address;
         return RingStep {
-            step: station::transmit(p, next, now, 3, Sent::Token { destination: own }),
+            step: station::transmit(p, next, now, Sent::Token { destination: own }),
             ring: ring.claim_token(),
         };
     }

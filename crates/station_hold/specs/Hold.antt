@@ -51,9 +51,9 @@ usePassOf c = doneOf (toPassToken c true First) outcome.Delay
 -- that this one sends; the case is filled
 unfoldable pub appTransmitOf : Parameters → Core → Micros → UseTokenData → Decision → Bool → Step
 appTransmitOf p c now held decision.Decline high = usePassOf c
-appTransmitOf p c now held (decision.Send length) high = transmitOf p c now length (sent.Application 0 (c .«next_application») high length)
+appTransmitOf p c now held (decision.Send length) high = transmitOf p c now (sent.Application 0 (c .«next_application») high length)
 appTransmitOf p c now held (decision.SendExpectReply address length) high =
-    transmitOf p (toAwaitDataResponse c address held) now length (sent.Application address (c .«next_application») high length)
+    transmitOf p (toAwaitDataResponse c address held) now (sent.Application address (c .«next_application») high length)
 
 -- schedule_next_application: first_app.get_or_insert(next_application)
 unfoldable pub firstOr : OptionApplication → ℕ → ℕ

@@ -63,7 +63,6 @@ fn app_transmit_telegram(
             p,
             core,
             now,
-            length,
             Sent::Application {
                 destination: 0,
                 application,
@@ -75,7 +74,6 @@ fn app_transmit_telegram(
             p,
             station::transition_await_data_response(core, address, data),
             now,
-            length,
             Sent::Application {
                 destination: address,
                 application,

@@ -46,7 +46,7 @@ unfoldable pub listenResponseAfter : Parameters → Core → Ring → Micros →
 listenResponseAfter p c ring now source collisions pause =
     let waited = withActivity c (activity.At (pause .last)) in
     cond (pause .over)
-    (record { step = transmitOf p (listenAnswered waited ring collisions) now 6 (sent.StatusResponse source (responseState ring source)); ring = ring })
+    (record { step = transmitOf p (listenAnswered waited ring collisions) now (sent.StatusResponse source (responseState ring source)); ring = ring })
     (record { step = doneOf waited outcome.Delay; ring = ring })
 
 -- do_listen_token: the answer to a status request
@@ -97,7 +97,7 @@ unfoldable pub activeResponseAfter : Parameters → Core → Ring → Micros →
 activeResponseAfter p c ring now source newPreviousStation collisions pause =
     let waited = withActivity c (activity.At (pause .last)) in
     cond (pause .over)
-    (record { step = transmitOf p (withState waited (ActiveIdle optionAddress.None newPreviousStation collisions)) now 6 (sent.StatusResponse source MasterInRing); ring = ring })
+    (record { step = transmitOf p (withState waited (ActiveIdle optionAddress.None newPreviousStation collisions)) now (sent.StatusResponse source MasterInRing); ring = ring })
     (record { step = doneOf waited outcome.Delay; ring = ring })
 
 -- do_active_idle: the answer to a status request

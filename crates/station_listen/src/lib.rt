@@ -82,7 +82,6 @@ fn do_listen_token_respond(
                 p,
                 answered,
                 now,
-                6,
                 Sent::StatusResponse {
                     destination: source,
                     state,
@@ -259,7 +258,6 @@ fn do_active_idle_respond(
                 p,
                 answered,
                 now,
-                6,
                 Sent::StatusResponse {
                     destination: source,
                     state: ResponseState::MasterInRing,

@@ -29,8 +29,8 @@ gapAdvanced p ring (DoPoll current) = gapOf ring current (p .«highest_station_a
 unfoldable pub passSent : Parameters → Core → Micros → PassTokenAttempt → ℕ → Ring → RingStep
 passSent p c now attempt next witnessed =
     cond (eqb (nextOf witnessed) (p .address))
-    (record { step = transmitOf p (toUseToken c (withTokenTime now)) now 3 (sent.Token next); ring = witnessed })
-    (record { step = transmitOf p (toCheckTokenPass c attempt) now 3 (sent.Token next); ring = witnessed })
+    (record { step = transmitOf p (toUseToken c (withTokenTime now)) now (sent.Token next); ring = witnessed })
+    (record { step = transmitOf p (toCheckTokenPass c attempt) now (sent.Token next); ring = witnessed })
 
 -- do_pass_token: the token is sent to the next station
 unfoldable pub passSend : Parameters → Core → Ring → Micros → PassTokenAttempt → RingStep
@@ -40,7 +40,7 @@ passSend p c ring now attempt = passSent p c now attempt (nextOf ring) (witnessO
 unfoldable pub passPollOn : GapState → Parameters → Core → Ring → Micros → PassTokenAttempt → RingStep
 passPollOn (Waiting count) p c ring now attempt = passSend p c ring now attempt
 passPollOn (DoPoll current) p c ring now attempt =
-    record { step = transmitOf p (toAwaitStatusResponse c current) now 6 (sent.StatusRequest current); ring = ring }
+    record { step = transmitOf p (toAwaitStatusResponse c current) now (sent.StatusRequest current); ring = ring }
 
 -- do_pass_token: a gap question or the token
 unfoldable pub passPoll : Parameters → Core → Ring → Micros → PassTokenAttempt → RingStep

@@ -54,7 +54,6 @@ fn do_pass_token_send(
                 p,
                 station::transition_use_token(core, station::with_token_time(now)),
                 now,
-                3,
                 Sent::Token { destination: next },
             ),
             ring: witnessed,
@@ -65,7 +64,6 @@ fn do_pass_token_send(
             p,
             station::transition_check_token_pass(core, attempt),
             now,
-            3,
             Sent::Token { destination: next },
         ),
         ring: witnessed,
@@ -91,7 +89,6 @@ fn do_pass_token_poll(
                 p,
                 station::transition_await_status_response(core, current_address),
                 now,
-                6,
                 Sent::StatusRequest {
                     destination: current_address,
                 },

@@ -9,8 +9,9 @@ use Rattle.codec_fields.specs.Fields.{fieldOf, beFrom, loadOf}
 use Rattle.bit_times.specs.declared.Baud.the-variants.{B500000}
 use Rattle.bit_times.specs.Times.{baudOf, rounded, timeOf}
 use Rattle.settings.specs.declared.Parameters.{Parameters}
-use Rattle.settings.specs.Settings.{refuseBelow, refuseOutside, defaultOf, slotTimeOf, tokenLostOf, rotationTimeOf}
-use Rattle.settings_build.specs.Build.{factorsRefusal, restRefusal, codedRefusal, firstRefusal, plainOf}
+use Rattle.settings.specs.Rules.{refuseBelow, refuseOutside, addressRefusal, baudRefusal, slotBitsRefusal, hsaRefusal, rotationRefusal, gapWaitRefusal, retryRefusal, minTsdrRefusal, factorsRefusal, applicationsRefusal}
+use Rattle.settings.specs.Settings.{defaultOf, slotTimeOf, tokenLostOf, rotationTimeOf}
+use Rattle.settings_build.specs.Build.{earlyRefusal, firstRefusal, plainOf}
 use Rattle.ring_addresses.specs.Set.{takeOut, walk, nearest, betweenOf, keeps, sameSet}
 use Rattle.ring_addresses.specs.Words.{bitOf, wordOf, hasIn}
 use Rattle.ring.specs.Ring.{has, make, others, removeOf, freshOf, roundOf, lapsOf, passed, witnessOf, claimOf, nextOf, prevOf}
@@ -137,11 +138,11 @@ worked = (
 
 -- the settings are accepted, and `new` gives the station that the calls start from
 here-accepted : firstRefusal (plainOf here) ≡ 0
-unfolding firstRefusal codedRefusal restRefusal plainOf refuseBelow refuseOutside factorsRefusal baudOf
+unfolding firstRefusal earlyRefusal plainOf refuseBelow refuseOutside addressRefusal baudRefusal slotBitsRefusal hsaRefusal rotationRefusal gapWaitRefusal retryRefusal minTsdrRefusal factorsRefusal baudOf
 here-accepted = refl
 
 here-new : newStation here 1 ≡ started.Accepted (freshStation here 1)
-unfolding newStation
+unfolding newStation applicationsRefusal refuseOutside
 here-new = refl
 
 -- A station with k others that calls make and that meets the premises of Silence; and runs of it that show that the bound is sharp.

@@ -18,24 +18,18 @@ use Rattle.station.specs.declared.Activity.{Activity}
 use Rattle.station.specs.declared.Activity.the-variants as activity
 use Rattle.station.specs.Steps.{knownAt, elapsedOf, busyOf, pauseOf, slotExpiredOf}
 use Rattle.theorem_silence.specs.Silence.{slotAfter}
-use Rattle.settings.specs.Settings.{refuseBelow, slotTimeOf}
-use Rattle.settings_build.specs.Build.{first, restRefusal, codedRefusal, firstRefusal, plainOf}
-
--- the first of two refusals is none: the one before is none
-first-none : (n rest : ℕ) → first n rest ≡ 0 → n ≡ 0
-first-none n rest e = cases (eqb n 0) (λ t. eqb-true n 0 t) (λ f. rw f at e)
-
-one-zero : (n : ℕ) → 0 < n → n ≡ 0 → ⊥
-one-zero n l e = omega arith
+use Rattle.settings.specs.Rules.{slotBitsRefusal}
+use Rattle.settings.specs.RuleLaws.{below-in, none-first}
+use Rattle.settings.specs.Settings.{slotTimeOf}
+use Rattle.settings_build.specs.Build.{earlyRefusal, firstRefusal, plainOf}
 
 -- accepted settings have at least the rate's least slot bits
 pub slot-bits-least : (p : Parameters) → firstRefusal (plainOf p) ≡ 0 → leastSlotBits (p .baudrate) ≤ p .«slot_bits»
-unfolding firstRefusal codedRefusal restRefusal plainOf refuseBelow
+unfolding firstRefusal earlyRefusal plainOf slotBitsRefusal
 slot-bits-least p e =
-    cases (leb (p .address) 125)
-    (λ a. cases (leb (leastSlotBits (p .baudrate)) (p .«slot_bits»)) (λ b. leb-true _ _ b)
-    (λ b. absurd (one-zero 2 (omega arith) (rw (a, listed (p .baudrate) .back, b) at e))))
-    (λ a. absurd (one-zero 1 (omega arith) (rw a at e)))
+    let early = none-first _ _ e .0 in
+    let slot = none-first _ _ (none-first _ _ (none-first _ _ early .1) .1) .0 in
+    below-in _ _ 2 (omega arith) (rw (listed (p .baudrate) .back) at slot)
 
 -- the time of the pause
 abbrev pub pauseTime : Parameters → ℕ

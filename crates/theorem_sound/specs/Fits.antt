@@ -78,9 +78,9 @@ done-fits : (c : Core) (o : Outcome) → StepFits (doneOf c o)
 unfolding doneOf
 done-fits c o = record { sent-fits = tt; consumed-fits = lit≤ tt; notice-fits = tt }
 
-transmit-fits : (p : Parameters) (c : Core) (now : Micros) (bytes : ℕ) (x : Sent) → SentFits x → StepFits (transmitOf p c now bytes x)
+transmit-fits : (p : Parameters) (c : Core) (now : Micros) (x : Sent) → SentFits x → StepFits (transmitOf p c now x)
 unfolding transmitOf
-transmit-fits p c now bytes x f = record { sent-fits = f; consumed-fits = lit≤ tt; notice-fits = tt }
+transmit-fits p c now x f = record { sent-fits = f; consumed-fits = lit≤ tt; notice-fits = tt }
 
 -- What is known in a poll whose record is not refused: an address of settings, at most 8 applications and telegrams, and decisions
 -- that fit.
@@ -100,7 +100,7 @@ module _ (p : Parameters) (n : ℕ) (bytes : List ℕ) (count : ℕ) (now : Micr
   unfolding claimTokenOf claimAfter
   claim-fits c r first =
       either Fit (pauseOf p (c .«last_bus_activity») now .over) _ _
-      (record { step-fits = transmit-fits p _ now 3 _ (omega (arith, k .own-low)) })
+      (record { step-fits = transmit-fits p _ now _ (omega (arith, k .own-low)) })
       (record { step-fits = done-fits _ _ })
 
   -- do_use_token
@@ -111,8 +111,8 @@ module _ (p : Parameters) (n : ℕ) (bytes : List ℕ) (count : ℕ) (now : Micr
   app-fits : (c : Core) (held : UseTokenData) (d : Decision) (high : Bool) → DecisionFits d → c .«next_application» < n → StepFits (appTransmitOf p c now held d high)
   unfolding appTransmitOf
   app-fits c held decision.Decline high f l = use-pass-fits c
-  app-fits c held (decision.Send size) high f l = transmit-fits p c now size _ (lit< tt, omega (arith, k .eight), f .0, f .1)
-  app-fits c held (decision.SendExpectReply a size) high f l = transmit-fits p _ now size _ (f .0, omega (arith, k .eight), f .1, f .2)
+  app-fits c held (decision.Send size) high f l = transmit-fits p c now _ (lit< tt, omega (arith, k .eight), f .0, f .1)
+  app-fits c held (decision.SendExpectReply a size) high f l = transmit-fits p _ now _ (f .0, omega (arith, k .eight), f .1, f .2)
 
   apps-after-fits : (c : Core) (held : UseTokenData) (high : Bool) (a : Asked) → AskedGood n a → StepFits (useAppsAfter p c now held bytes n high a)
   unfolding useAppsAfter withState withNextApplication
@@ -171,7 +171,7 @@ module _ (p : Parameters) (n : ℕ) (bytes : List ℕ) (count : ℕ) (now : Micr
   response-fits : (c : Core) (r : Ring) (source collisions : ℕ) (w : Waited) → source < 128 → Fit (listenResponseAfter p c r now source collisions w)
   unfolding listenResponseAfter
   response-fits c r source collisions w l =
-      either Fit (w .over) _ _ (record { step-fits = transmit-fits p _ now 6 _ l }) (record { step-fits = done-fits _ _ })
+      either Fit (w .over) _ _ (record { step-fits = transmit-fits p _ now _ l }) (record { step-fits = done-fits _ _ })
 
   listen-on-fits : (q : OptionAddress) (c : Core) (r : Ring) (collisions : ℕ) → Low q → Fit (listenTokenOn q p c r now collisions bytes n count)
   unfolding listenTokenOn listenResponse
@@ -187,7 +187,7 @@ module _ (p : Parameters) (n : ℕ) (bytes : List ℕ) (count : ℕ) (now : Micr
   active-response-fits : (c : Core) (r : Ring) (source : ℕ) (m : OptionAddress) (collisions : ℕ) (w : Waited) → source < 128 → Fit (activeResponseAfter p c r now source m collisions w)
   unfolding activeResponseAfter
   active-response-fits c r source m collisions w l =
-      either Fit (w .over) _ _ (record { step-fits = transmit-fits p _ now 6 _ l }) (record { step-fits = done-fits _ _ })
+      either Fit (w .over) _ _ (record { step-fits = transmit-fits p _ now _ l }) (record { step-fits = done-fits _ _ })
 
   active-on-fits : (q : OptionAddress) (c : Core) (r : Ring) (m : OptionAddress) (collisions : ℕ) → Low q → Fit (activeIdleOn q p c r now m collisions bytes n count)
   unfolding activeIdleOn activeResponse
@@ -204,8 +204,8 @@ module _ (p : Parameters) (n : ℕ) (bytes : List ℕ) (count : ℕ) (now : Micr
   unfolding passSent
   pass-sent-fits c a next r l =
       either Fit (eqb (nextOf r) (p .address)) _ _
-      (record { step-fits = transmit-fits p _ now 3 _ (omega arith) })
-      (record { step-fits = transmit-fits p _ now 3 _ (omega arith) })
+      (record { step-fits = transmit-fits p _ now _ (omega arith) })
+      (record { step-fits = transmit-fits p _ now _ (omega arith) })
 
   pass-send-fits : (c : Core) (r : Ring) (a : PassTokenAttempt) → RingGood p r → Fit (passSend p c r now a)
   unfolding passSend
@@ -214,7 +214,7 @@ module _ (p : Parameters) (n : ℕ) (bytes : List ℕ) (count : ℕ) (now : Micr
   pass-poll-fits : (s : GapState) (c : Core) (r : Ring) (a : PassTokenAttempt) → GapAddressed s → RingGood p r → Fit (passPollOn s p c r now a)
   unfolding passPollOn
   pass-poll-fits (Waiting count) c r a l g = pass-send-fits c r a g
-  pass-poll-fits (DoPoll current) c r a l g = record { step-fits = transmit-fits p _ now 6 _ (omega arith) }
+  pass-poll-fits (DoPoll current) c r a l g = record { step-fits = transmit-fits p _ now _ (omega arith) }
 
   pass-fits : (c : Core) (r : Ring) (gap : Bool) (a : PassTokenAttempt) → RingGood p r → Fit (passTokenOf p c r now gap a)
   unfolding passTokenOf passAfter passPoll withGap

@@ -47,9 +47,9 @@ use-pass-good n c b = done-good n _ _ (pass-good n c _ _ b)
 app-good : (p : Parameters) (n : ℕ) (c : Core) (now : Micros) (held : UseTokenData) (d : Decision) (high : Bool) → ReplyLow d → CoreGood n c → StepGood n (appTransmitOf p c now held d high)
 unfolding appTransmitOf
 app-good p n c now held decision.Decline high l b = use-pass-good n c b
-app-good p n c now held (decision.Send length) high l b = transmit-good p n c now length _ b
+app-good p n c now held (decision.Send length) high l b = transmit-good p n c now _ b
 app-good p n c now held (decision.SendExpectReply address length) high l b =
-    transmit-good p n _ now length _ (await-data-good n c address held l b)
+    transmit-good p n _ now _ (await-data-good n c address held l b)
 
 turned-good : (n : ℕ) (c : Core) (a : ℕ) → a < n → CoreGood n c → CoreGood n (withNextApplication c a)
 unfolding withNextApplication

@@ -199,9 +199,9 @@ pub done-good : (n : ℕ) (c : Core) (o : Outcome) → CoreGood n c → StepGood
 unfolding doneOf
 done-good n c o b = record { step-core = b }
 
-pub transmit-good : (p : Parameters) (n : ℕ) (c : Core) (now : Micros) (bytes : ℕ) (x : Sent) → CoreGood n c → StepGood n (transmitOf p c now bytes x)
+pub transmit-good : (p : Parameters) (n : ℕ) (c : Core) (now : Micros) (x : Sent) → CoreGood n c → StepGood n (transmitOf p c now x)
 unfolding transmitOf withActivity
-transmit-good p n c now bytes x b = record { step-core = record { next-below = b .next-below; addressed = b .addressed; gap-addressed = b .gap-addressed } }
+transmit-good p n c now x b = record { step-core = record { next-below = b .next-below; addressed = b .addressed; gap-addressed = b .gap-addressed } }
 
 -- bus activity
 pub bus-good : (n : ℕ) (c : Core) (now : Micros) (pending : ℕ) → CoreGood n c → CoreGood n (busActivityOf c now pending)
@@ -217,5 +217,5 @@ pub claim-token-good : (p : Parameters) (n : ℕ) (c : Core) (r : Ring) (now : M
 unfolding claimTokenOf claimAfter
 claim-token-good p n c r now first b g =
     either (RingStepGood p n) (pauseOf p (c .«last_bus_activity») now .over) _ _
-    (record { good-step = transmit-good p n _ now 3 _ (claim-next-good n _ now first (waited-good n c _ b)); good-ring = claim-good p r g })
+    (record { good-step = transmit-good p n _ now _ (claim-next-good n _ now first (waited-good n c _ b)); good-ring = claim-good p r g })
     (record { good-step = done-good n _ _ (waited-good n c _ b); good-ring = g })

@@ -47,7 +47,7 @@ unfolding listenResponseAfter
 response-after-good p n c r now source k w b g =
     let q = waited-good n c _ b in
     either (RingStepGood p n) (w .over) _ _
-    (record { good-step = transmit-good p n _ now 6 _ (answered-good n _ r k q); good-ring = g })
+    (record { good-step = transmit-good p n _ now _ (answered-good n _ r k q); good-ring = g })
     (record { good-step = done-good n _ _ q; good-ring = g })
 
 response-good : (p : Parameters) (n : ℕ) (c : Core) (r : Ring) (now : Micros) (source k : ℕ) → CoreGood n c → RingGood p r → RingStepGood p n (listenResponse p c r now source k)
@@ -191,7 +191,7 @@ unfolding activeResponseAfter
 active-after-good p n c r now source m k w l b g =
     let q = waited-good n c _ b in
     either (RingStepGood p n) (w .over) _ _
-    (record { good-step = transmit-good p n _ now 6 _ (state-good n _ _ (tt, l) q); good-ring = g })
+    (record { good-step = transmit-good p n _ now _ (state-good n _ _ (tt, l) q); good-ring = g })
     (record { good-step = done-good n _ _ q; good-ring = g })
 
 active-response-good : (p : Parameters) (n : ℕ) (c : Core) (r : Ring) (now : Micros) (source : ℕ) (m : OptionAddress) (k : ℕ) → Low m → CoreGood n c → RingGood p r → RingStepGood p n (activeResponse p c r now source m k)

@@ -35,8 +35,8 @@ sent-good : (p : Parameters) (n : ℕ) (c : Core) (now : Micros) (k : PassTokenA
 unfolding passSent
 sent-good p n c now k next r b g =
     either (RingStepGood p n) (eqb (nextOf r) (p .address)) _ _
-    (record { good-step = transmit-good p n _ now 3 _ (use-good n c _ b); good-ring = g })
-    (record { good-step = transmit-good p n _ now 3 _ (check-good n c k b); good-ring = g })
+    (record { good-step = transmit-good p n _ now _ (use-good n c _ b); good-ring = g })
+    (record { good-step = transmit-good p n _ now _ (check-good n c k b); good-ring = g })
 
 send-good : (p : Parameters) (n : ℕ) (c : Core) (r : Ring) (now : Micros) (k : PassTokenAttempt) → CoreGood n c → RingGood p r → RingStepGood p n (passSend p c r now k)
 unfolding passSend
@@ -46,7 +46,7 @@ poll-on-good : (s : GapState) (p : Parameters) (n : ℕ) (c : Core) (r : Ring) (
 unfolding passPollOn
 poll-on-good (Waiting count) p n c r now k l b g = send-good p n c r now k b g
 poll-on-good (DoPoll current) p n c r now k l b g =
-    record { good-step = transmit-good p n _ now 6 _ (await-status-good n c current (omega arith) b); good-ring = g }
+    record { good-step = transmit-good p n _ now _ (await-status-good n c current (omega arith) b); good-ring = g }
 
 poll-good : (p : Parameters) (n : ℕ) (c : Core) (r : Ring) (now : Micros) (k : PassTokenAttempt) → CoreGood n c → RingGood p r → RingStepGood p n (passPoll p c r now k)
 unfolding passPoll

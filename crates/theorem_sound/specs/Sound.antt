@@ -1,14 +1,16 @@
 -- Every station that the public calls make is sound: one that `new` accepts for an address of settings, and what any list of
 -- polls and commands makes of it.
 use Prim.Native.Nat.{ℕ, _<_, _≤_}
-use mathlib.Core.Bool.{Bool, true, false, cond, _&&_}
+use mathlib.Core.Bool.{Bool, true, false, cond}
 use mathlib.Core.Path.{_≡_, refl}
 use mathlib.Core.List.{List, [], _∷_}
 use native.Mathlib.Omega.{arith}
-use borrow.Author.Tests.{leb-true}
-use lib.Dec.{leb, eqb}
+use borrow.Author.Tests.{eqb-true}
+use lib.Dec.{eqb}
 use Rattle.bit_times.specs.declared.Micros.{Micros}
 use Rattle.settings.specs.declared.Parameters.{Parameters}
+use Rattle.settings.specs.Rules.{applicationsRefusal}
+use Rattle.settings.specs.RuleLaws.{outside-in}
 use Rattle.ring.specs.declared.Ring.{Ring}
 use Rattle.ring.specs.Laws.{SoundRing}
 use Rattle.codec_records.specs.Records.{recordRefusal}
@@ -179,13 +181,14 @@ fresh-sound p n l one eight =
 
 -- `new`: with an address up to 125 it gives a sound station or none
 pub new-sound : (p : Parameters) (n : ℕ) → p .address < 126 → SoundStarted (newStation p n)
-unfolding newStation
-new-sound p n l = go (leb 1 n) refl (leb n 8) refl
+unfolding newStation applicationsRefusal
+new-sound p n l = go (eqb (applicationsRefusal n) 0) refl
   where
-    go : (a : Bool) → leb 1 n ≡ a → (b : Bool) → leb n 8 ≡ b → SoundStarted (cond (a && b) (started.Accepted (freshStation p n)) (started.Refused 11))
-    go true e true f = fresh-sound p n l (leb-true 1 n e) (leb-true n 8 f)
-    go true e false f = tt
-    go false e b f = tt
+    go : (a : Bool) → eqb (applicationsRefusal n) 0 ≡ a → SoundStarted (cond a (started.Accepted (freshStation p n)) (started.Refused (applicationsRefusal n)))
+    go true e =
+        let range = outside-in 1 n 8 11 (omega arith) (eqb-true _ _ e) in
+        fresh-sound p n l (range .0) (range .1)
+    go false e = tt
 
 -- The theorem: any list of calls leaves a sound station sound, so every station that calls make of a new one is.
 pub sound : (cs : List Call) (s : Station) → SoundStation s → SoundStation (run s cs)

@@ -1,10 +1,11 @@
 -- A trace's header (document 01, "Trace"), read and refused. Assumes nothing.
 use Prim.Native.Nat.{ℕ}
-use mathlib.Core.List.{List}
-use mathlib.Core.Bool.{cond, _&&_, _||_}
-use lib.Dec.{eqb, leb}
+use mathlib.Core.List.{List, [], _∷_}
+use mathlib.Core.Bool.{cond}
+use lib.Dec.{eqb}
 use Rattle.codec_fields.specs.Fields.{fieldOf, loadOf}
-use Rattle.settings_build.specs.Build.{first, firstRefusal}
+use Rattle.settings.specs.Rules.{factorsRefusal, applicationsRefusal, firstOf}
+use Rattle.settings_build.specs.Build.{earlyRefusal}
 use Rattle.trace_headers.specs.declared.Header.{Header}
 
 -- the header's two words, most significant bit first: address 8, baud 8, slot 16, rotation 32; gap 8, HSA 8, retry 8, min Tsdr 8,
@@ -21,22 +22,16 @@ headerAt high low =
 unfoldable pub headerOf : List ℕ → Header
 headerOf trace = headerAt (loadOf trace 0 8) (loadOf trace 8 8)
 
--- 11 unless there are 1 to 8 applications
-unfoldable pub applicationsRefusal : ℕ → ℕ
-applicationsRefusal n = cond (leb 1 n && leb n 8) 0 11
-
 -- 14 unless the last 8 bits are zero
 unfoldable pub zeroRefusal : ℕ → ℕ
 zeroRefusal n = cond (eqb n 0) 0 14
 
--- document 01's header order after 7: 11, 8, 14; the settings' refusal is 8 or none here
-unfoldable pub lateRefusal : Header → ℕ → ℕ
-lateRefusal h n = first (applicationsRefusal (h .applications)) (first n (zeroRefusal (h .«zero_bits»)))
-
--- a header's first refusal, with n that of its settings: 1, 10, 2, 3, 4, 5, 6, 7 come before all else
-unfoldable pub headerRefusalOn : Header → ℕ → ℕ
-headerRefusalOn h n = cond (eqb n 0 || eqb n 8) (lateRefusal h n) n
-
--- a header's first refusal, in document 01's order: 1, 10, 2, 3, 4, 5, 6, 7, 11, 8, 14
+-- a header's first refusal, in document 01's order: 1, 10, 2, 3, 4, 5, 6, 7 (`earlyRefusal`), then 11, 8, 14
 unfoldable pub headerRefusal : Header → ℕ
-headerRefusal h = headerRefusalOn h (firstRefusal (h .settings))
+headerRefusal h =
+    firstOf
+    (earlyRefusal (h .settings)
+    ∷ applicationsRefusal (h .applications)
+    ∷ factorsRefusal (h .settings .«factor_1») (h .settings .«factor_2»)
+    ∷ zeroRefusal (h .«zero_bits»)
+    ∷ [])

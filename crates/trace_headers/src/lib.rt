@@ -2,7 +2,7 @@
 // settings_build for what they are refused by, and on codec_fields for the bytes.
 ghost use mathlib.Core.Path.{_≡_};
 ghost use Rattle.codec_fields.specs.Fields.{fieldOf};
-ghost use Rattle.trace_headers.specs.Headers.{headerAt, headerOf, applicationsRefusal, zeroRefusal, lateRefusal, headerRefusalOn, headerRefusal};
+ghost use Rattle.trace_headers.specs.Headers.{headerAt, headerOf, zeroRefusal, headerRefusal};
 use codec_fields::field;
 use codec_fields::field_byte;
 use codec_fields::load;
@@ -60,19 +60,6 @@ pub fn read_header(trace: &[u8]) -> Header
     header_at(high, low)
 }
 
-// Refusal 11 unless there are 1 to 8 applications, else 0.
-fn applications_refusal(applications: u8) -> u8
-    ensures { λ r. ⌜ r ≡ applicationsRefusal applications ⌝ }
-{
-    if applications < 1 {
-        return 11;
-    }
-    if 8 < applications {
-        return 11;
-    }
-    0
-}
-
 // Refusal 14 unless the header's last byte is zero, else 0.
 fn zero_refusal(zero_bits: u8) -> u8
     ensures { λ r. ⌜ r ≡ zeroRefusal «zero_bits» ⌝ }
@@ -83,37 +70,26 @@ fn zero_refusal(zero_bits: u8) -> u8
     14
 }
 
-// A header's refusal after 7: 11, 8, 14. `refusal` is that of its settings, 8 or none.
-fn late_refusal(header: Header, refusal: u8) -> u8
-    ensures { λ r. ⌜ r ≡ lateRefusal header refusal ⌝ }
-{
-    let eleven = applications_refusal(header.applications);
-    if eleven != 0 {
-        return eleven;
-    }
-    if refusal != 0 {
-        return refusal;
-    }
-    zero_refusal(header.zero_bits)
-}
-
-// A header's first refusal. `refusal` is that of its settings.
-fn header_refusal_on(header: Header, refusal: u8) -> u8
-    ensures { λ r. ⌜ r ≡ headerRefusalOn header refusal ⌝ }
-{
-    if refusal == 0 {
-        return late_refusal(header, refusal);
-    }
-    if refusal == 8 {
-        return late_refusal(header, refusal);
-    }
-    refusal
-}
-
 // A header's first refusal, in document 01's order: 1, 10, 2, 3, 4, 5, 6, 7, 11, 8, 14; 0 for none.
 pub fn header_refusal(header: Header) -> u8
     ensures { λ r. ⌜ r ≡ headerRefusal header ⌝ }
 {
-    let fields = header.settings;
-    header_refusal_on(header, fields.first_refusal())
+    let plain = header.settings;
+    let early = plain.early_refusal();
+    if early != 0 {
+        return early;
+    }
+    let applications = settings::applications_refusal(header.applications);
+    if applications != 0 {
+        return applications;
+    }
+    let factors = settings::factors_refusal(plain.factor_1, plain.factor_2);
+    if factors != 0 {
+        return factors;
+    }
+    let zero_bits = zero_refusal(header.zero_bits);
+    if zero_bits != 0 {
+        return zero_bits;
+    }
+    0
 }

@@ -9,14 +9,15 @@ unfolding sentFields
 sent-fields-spec =
     tie.close
     (tie.spec
+    (λ c κs. search needs)
     (λ c. search needs)
     (λ c. search needs)
     (λ c. search needs)
     (λ c. search needs)
     (λ c κs. search needs)
     (λ c. search needs)
-    (λ c. simp (c .enum-told .given .1))
-    (λ c. simp (c .before .sent .given .1))
-    (λ c. simp (c .before .sent2 .given .1))
-    (λ c. simp (c .before .before .sent3 .given .1, ← c .response-state-number .ensures))
-    (λ c. simp (c .before .sent4 .given .1)))
+    (λ c. simp (c .before .before .sent-bytes .ensures, c .enum-told .given .1))
+    (λ c. simp (c .before .before .before .sent-bytes .ensures, c .before .sent .given .1))
+    (λ c. simp (c .before .before .before .sent-bytes .ensures, c .before .sent2 .given .1))
+    (λ c. simp (c .before .before .before .before .sent-bytes .ensures, c .before .before .sent3 .given .1, ← c .response-state-number .ensures))
+    (λ c. simp (c .before .before .before .sent-bytes .ensures, c .before .sent4 .given .1)))

@@ -1,5 +1,5 @@
 use borrow.Author.Tests.{le-leb, lt-leb}
-use Rattle.settings.specs.Settings.{refuseBelow}
+use Rattle.settings.specs.Rules.{refuseBelow}
 use Rattle.settings.proofs.refuse_below.Statement.{statement}
 use Rattle.settings.proofs.refuse_below.Tie as tie
 

@@ -1,5 +1,5 @@
 use borrow.Author.Tests.{le-leb, lt-leb}
-use Rattle.settings.specs.Settings.{refuseOutside}
+use Rattle.settings.specs.Rules.{refuseOutside}
 use Rattle.settings.proofs.refuse_outside.Statement.{statement}
 use Rattle.settings.proofs.refuse_outside.Tie as tie
 

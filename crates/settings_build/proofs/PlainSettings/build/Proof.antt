@@ -15,5 +15,6 @@ build-spec =
     (λ c. search needs)
     (λ c κs. search needs)
     (λ c. search needs)
+    (λ c κs. search needs)
     (λ c. simp (← c .before .before .before .before .before .before .first-refusal .ensures, eq-eqb _ _ (c .before .before .before .before .before .if1 .left), ← c .before .before .before .before .baud-of .ensures, c .before .before .coded .given .1, ← c .pair .ensures))
-    (λ c. simp (← c .before .before .before .before .first-refusal .ensures, eq-eqb _ _ (c .before .before .before .if1 .left), ← c .before .before .baud-of .ensures, c .enum-told .given .1)))
+    (λ c. simp (← c .before .before .before .before .before .first-refusal .ensures, eq-eqb _ _ (c .before .before .before .before .if1 .left), ← c .before .before .before .baud-of .ensures, c .baud-refusal .ensures, c .before .enum-told .given .1)))

@@ -1,7 +1,7 @@
 use borrow.Author.Tests.{eq-eqb, ne-eqb}
-use Rattle.settings_build.specs.Build.{factorsRefusal}
-use Rattle.settings_build.proofs.factors_refusal.Statement.{statement}
-use Rattle.settings_build.proofs.factors_refusal.Tie as tie
+use Rattle.settings.specs.Rules.{factorsRefusal}
+use Rattle.settings.proofs.factors_refusal.Statement.{statement}
+use Rattle.settings.proofs.factors_refusal.Tie as tie
 
 pub factors-refusal-spec : {M : Type 1} → statement M
 unfolding factorsRefusal
