@@ -26,6 +26,7 @@ PASSIVE = "PassiveIdle is not taken"
 
 # The functions of the Rust that have no definition, each with the reason.
 NOT_TAKEN = {
+    "GapState::increment_wait": "never called: `do_pass_token` counts the rotations itself",
     "ConnectivityState::is_offline": "a flag: the field `online` of `Core` is read where it is needed",
     "ConnectivityState::is_passive": PASSIVE,
     "ConnectivityState::is_online": "a flag: the field `online` of `Core` is read where it is needed",

@@ -10,6 +10,18 @@ use Rattle.settings_watchdog.specs.declared.Factored.the-variants as fac
 use Rattle.settings_watchdog.specs.declared.Timeout.{Timeout}
 use Rattle.settings_watchdog.specs.declared.Timeout.the-variants as timeout
 
+-- document 01's number of an answer: the refusal's, 0 where there is none
+abbrev pub factoredNumber : Factored → ℕ
+factoredNumber factored.None = 0
+factoredNumber (factored.Factors f1 f2) = 0
+factoredNumber (factored.Refused n) = n
+
+-- document 01's two factors of an answer, zero where there are none
+abbrev pub factoredPair : Factored → ℕ × ℕ
+factoredPair factored.None = (0, 0)
+factoredPair (factored.Factors f1 f2) = (f1, f2)
+factoredPair (factored.Refused n) = (0, 0)
+
 -- u / f rounded up
 abbrev pub ceilOf : ℕ → ℕ → ℕ
 ceilOf u f = (u + f - 1) / f

@@ -65,6 +65,11 @@ freshCore = record { «last_token_time» = zeroTime; «end_token_hold_time» = r
 unfoldable pub freshStation : Parameters → ℕ → Station
 freshStation p n = record { core = freshCore; «token_ring» = freshOf (p .address); p = p; applications = n }
 
+-- document 01's number of an answer with a new station: the refusal's, 0 where there is none
+abbrev pub startedNumber : Started → ℕ
+startedNumber (started.Accepted s) = 0
+startedNumber (started.Refused n) = n
+
 -- FdlActiveStation::new: 11 unless there are 1 to 8 applications
 unfoldable pub newStation : Parameters → ℕ → Started
 newStation p n = cond (eqb (applicationsRefusal n) 0) (started.Accepted (freshStation p n)) (started.Refused (applicationsRefusal n))

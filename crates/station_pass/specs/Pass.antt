@@ -18,7 +18,7 @@ use Rattle.station.specs.declared.RingStep.{RingStep}
 use Rattle.station.specs.Parts.{withActivity, withGap}
 use Rattle.station.specs.Steps.{toUseToken, toCheckTokenPass, toAwaitStatusResponse, withTokenTime, pauseOf, doneOf, transmitOf}
 
--- do_pass_token and GapState::increment_wait: the gap's turn: a count above the settings' starts a walk from own, a walk goes on from where it is
+-- do_pass_token: the gap's turn: a count above the settings' starts a walk from own, a walk goes on from where it is
 unfoldable pub gapAdvanced : Parameters → Ring → GapState → GapState
 gapAdvanced p ring (Waiting count) =
     cond (ltb (p .«gap_wait_rotations») count) (gapOf ring (p .address) (p .«highest_station_address»)) (Waiting (count + 1))
