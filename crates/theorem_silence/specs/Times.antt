@@ -19,17 +19,15 @@ use Rattle.station.specs.declared.Activity.the-variants as activity
 use Rattle.station.specs.Steps.{knownAt, elapsedOf, busyOf, pauseOf, slotExpiredOf}
 use Rattle.theorem_silence.specs.Silence.{slotAfter}
 use Rattle.settings.specs.Rules.{slotBitsRefusal}
-use Rattle.settings.specs.RuleLaws.{below-in, none-first}
+use Rattle.settings.specs.RuleLaws.{below-in}
 use Rattle.settings.specs.Settings.{slotTimeOf}
-use Rattle.settings_build.specs.Build.{earlyRefusal, firstRefusal, plainOf}
+use Rattle.settings_build.specs.Build.{firstRefusal, plainOf}
+use Rattle.settings_build.specs.Passes.{passes}
 
 -- accepted settings have at least the rate's least slot bits
 pub slot-bits-least : (p : Parameters) → firstRefusal (plainOf p) ≡ 0 → leastSlotBits (p .baudrate) ≤ p .«slot_bits»
-unfolding firstRefusal earlyRefusal plainOf slotBitsRefusal
-slot-bits-least p e =
-    let early = none-first _ _ e .0 in
-    let slot = none-first _ _ (none-first _ _ (none-first _ _ early .1) .1) .0 in
-    below-in _ _ 2 (omega arith) (rw (listed (p .baudrate) .back) at slot)
+unfolding plainOf slotBitsRefusal
+slot-bits-least p e = below-in _ _ 2 (omega arith) (rw (listed (p .baudrate) .back) at (passes (plainOf p) e .slot-bits))
 
 -- the time of the pause
 abbrev pub pauseTime : Parameters → ℕ
