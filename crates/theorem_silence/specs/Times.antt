@@ -5,9 +5,8 @@ use mathlib.Core.Path.{_≡_, refl, sym}
 use native.Mathlib.Omega.{arith}
 use native.Mathlib.Nat.{le-div-iff-mul-le, mul-le-mul-right}
 use lib.Ieee.Nearest.{div-mono}
-use borrow.Author.Tests.{le-leb, lt-leb, leb-true, eqb-true}
-use borrow.Table.Steps.{cases}
-use lib.Dec.{leb, eqb}
+use borrow.Author.Tests.{le-leb, lt-leb, leb-true}
+use lib.Dec.{leb}
 use Rattle.bit_times.specs.declared.Baud.{Baud}
 use Rattle.bit_times.specs.declared.Micros.{Micros}
 use Rattle.bit_times.specs.Times.{leastSlotBits, rateOf, rounded, timeOf}
