@@ -20,6 +20,7 @@ use Rattle.trace.specs.Trace.{startOf, Run, ended, answered, runFrom, runOf, Re
 use Rattle.trace.specs.Entries.{recordLength, entryOf}
 use Rattle.trace.specs.Laws.{precededBy, replay-started, replay-refused, run-none, run-more}
 use Rattle.theorem_every_trace.specs.Endings.{Small, start-small}
+use Rattle.theorem_every_trace.specs.Statement.{Entry, Whole, laid, along}
 use Rattle.theorem_every_trace.specs.Runs.{run-enough, run-on, run-ends, written-length}
 
 -- a refused header: the call returns its number, and writes nothing
@@ -89,26 +90,6 @@ buffer-keeps-its-length trace before =
     let r = replayOf trace (length before) in
     length-append (written (r .answers)) (drop (8 * length (r .answers)) before)
     ∙ rw (written-length (r .answers), length-drop) (omega (arith, answers-have-room trace before))
-
--- an entry of a trace: its first byte, and the record that follows it
-pub record Entry : Type 0 where
-  pub kind : ℕ
-  pub bytes : List ℕ
-
--- entries as a trace has them: each record is as long as its first byte says
-abbrev pub Whole : List Entry → Type 0
-Whole [] = Unit {0}
-Whole (e ∷ es) = (length (e .bytes) ≡ recordLength (e .kind)) × Whole es
-
--- their bytes, one entry after the other
-abbrev pub laid : List Entry → List ℕ
-laid [] = []
-laid (e ∷ es) = e .kind ∷ (e .bytes ++ laid es)
-
--- what they come to, by the station's definitions: each entry is answered from the station that the one before it left
-abbrev pub along : Station → List Entry → Run
-along s [] = ended s 0
-along s (e ∷ es) = answered (entryOf s (e .kind) (e .bytes) .answer) (along (entryOf s (e .kind) (e .bytes) .station) es)
 
 -- every entry that is whole and has room for its answer is answered, and by the station's definition on the entry
 pub each-entry-is-answered : (s : Station) (es : List Entry) (room : ℕ) → Whole es → 8 * length es ≤ room → runOf s (laid es) room ≡ along s es

@@ -1,4 +1,7 @@
--- Laws of runs and of how they end; the theorems on every trace are in EveryTrace.
+-- Demand 1 in one statement is in Statement, its proof in Theorem. EveryTrace has its parts as theorems of their own and what else holds
+-- of every trace; Runs and Endings have the laws of runs and of how they end.
 pub mod Runs
 pub mod Endings
+pub mod Statement
+pub mod Theorem
 pub mod EveryTrace
