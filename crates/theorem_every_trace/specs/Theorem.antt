@@ -29,7 +29,7 @@ ending-tells empty =
 ending-tells (cut kind bytes c) =
     record {
       none-left = (λ e. absurd (omega arith), λ e. absurd (some-left kind bytes e));
-      cut-short = (λ e. c, λ e. refl);
+      cut-short = (λ e. omega (arith, c), λ e. refl);
       no-room = (λ e. absurd (omega arith), λ w. omega (arith, w .0));
     }
 ending-tells (full kind bytes c f) =
