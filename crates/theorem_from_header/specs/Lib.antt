@@ -4,3 +4,4 @@ pub mod Built
 pub mod FromHeader
 pub mod AnswersRead
 pub mod SilentTrace
+pub mod SilentTraceProof
