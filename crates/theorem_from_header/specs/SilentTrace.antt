@@ -5,7 +5,7 @@
 -- report no telegram, no pending byte and no transmission; and let the buffer have room for the answers. Then the answers to these
 -- polls, read from the buffer, say this. Up to the first that says that the token is held, what was sent is three tokens to each
 -- other station, in ring order, and one to the station itself, and nothing else. A station is taken out of the ring after its third
--- token. If 3k + 1 of the polls are counted (they come at least one slot time after known last bus activity), an answer says that the
+-- token, which shows in the next station that the answers name. If 3k + 1 of the polls are counted (they come at least one slot time after known last bus activity), an answer says that the
 -- token is held.
 --
 -- What follows the silent polls in the trace changes nothing of this. The words `Quiet`, `countedIn`, `until`, `gapDue`, `tokens` are
@@ -16,7 +16,8 @@ use mathlib.Core.Path.{_≡_}
 use mathlib.Core.List.{List, [], _∷_, _++_}
 use lib.ListN.{length, drop}
 use lib.Dec.{eqb}
-use Rattle.ring.specs.Ring.{others}
+use Rattle.ring_addresses.specs.Set.{headOr}
+use Rattle.ring.specs.Ring.{others, nextOf}
 use Rattle.codec_answers.specs.declared.Sent.{Sent}
 use Rattle.codec_answers.specs.declared.Unpacked.{Unpacked}
 use Rattle.codec_answers.specs.declared.Unpacked.the-variants.{NoAnswer, Is}
@@ -58,6 +59,16 @@ abbrev pub heldByAnswers : List Unpacked → Bool
 heldByAnswers [] = false
 heldByAnswers (u ∷ later) = cond (saysHeld u) true (heldByAnswers later)
 
+-- the next station that an answer names; `last` where there is no answer
+abbrev pub nextBy : ℕ → Unpacked → ℕ
+nextBy last (Is answer) = answer .«next_station»
+nextBy last NoAnswer = last
+
+-- the next station that the last of them names, up to the first that says that the token is held
+abbrev pub nextByAnswers : ℕ → List Unpacked → ℕ
+nextByAnswers last [] = last
+nextByAnswers last (u ∷ later) = cond (saysHeld u) (nextBy last u) (nextByAnswers (nextBy last u) later)
+
 -- What is assumed of the trace.
 
 -- polls as entries: each record with its length before it
@@ -92,27 +103,31 @@ pub record SilentTrace (trace before : List ℕ) : Type 0 where
 abbrev pub passingStation : {trace before : List ℕ} → SilentTrace trace before → Station
 passingStation t = along (t .fresh) (t .earlier) .station
 
--- the answers to the silent polls, read from the buffer that the call leaves
-abbrev pub silentAnswers : {trace before : List ℕ} → SilentTrace trace before → List Unpacked
-silentAnswers {trace} {before} t = answersFrom (bufferOf (replayOf trace (length before)) before) (length (t .earlier)) (length (t .records))
+-- the answers to the silent polls, read from a buffer
+abbrev pub silentAnswers : {trace before : List ℕ} → SilentTrace trace before → List ℕ → List Unpacked
+silentAnswers t left = answersFrom left (length (t .earlier)) (length (t .records))
 
--- What is claimed: the four parts of theorem_silence's `Silence`, of the answers in the buffer.
-pub record SilenceRead {trace before : List ℕ} (t : SilentTrace trace before) : Type 0 where
+-- What is claimed of the buffer that the call leaves: the four parts of theorem_silence's `Silence`, of the answers in it.
+pub record SilenceRead {trace before : List ℕ} (t : SilentTrace trace before) (left : List ℕ) : Type 0 where
   -- what is not sent yet
   pub rest : List Sent
   -- what the answers say was sent, from the first on: three tokens to each other station, in ring order, and one to itself, whose
   -- address is the header's
-  pub sends : sentByAnswers (silentAnswers t) ++ rest ≡ tokens (others (passingStation t .«token_ring»)) (headerOf trace .settings .address)
+  pub sends : sentByAnswers (silentAnswers t left) ++ rest ≡ tokens (others (passingStation t .«token_ring»)) (headerOf trace .settings .address)
   -- an answer says that the token is held exactly when all of them are sent
-  pub all-sent : heldByAnswers (silentAnswers t) ≡ true → rest ≡ []
-  pub some-left : heldByAnswers (silentAnswers t) ≡ false → rest ≡ [] → ⊥
+  pub all-sent : heldByAnswers (silentAnswers t left) ≡ true → rest ≡ []
+  pub some-left : heldByAnswers (silentAnswers t left) ≡ false → rest ≡ [] → ⊥
   -- each station is taken out of the ring after its third token, when the next goes out
   pub removes :
       others (until (passingStation t) (t .records) .«token_ring»)
-      ≡ drop ((length (sentByAnswers (silentAnswers t)) - 1) / 3) (others (passingStation t .«token_ring»))
+      ≡ drop ((length (sentByAnswers (silentAnswers t left)) - 1) / 3) (others (passingStation t .«token_ring»))
+  -- the answers show it: the last of them names as next station the first that is not taken out, and the station itself where all are
+  pub names-next :
+      nextByAnswers (nextOf (passingStation t .«token_ring»)) (silentAnswers t left)
+      ≡ headOr (headerOf trace .settings .address) (drop ((length (sentByAnswers (silentAnswers t left)) - 1) / 3) (others (passingStation t .«token_ring»)))
   -- with 3k + 1 counted polls the token is held
-  pub bound : 3 * length (others (passingStation t .«token_ring»)) + 1 ≤ countedIn (passingStation t) (t .records) → heldByAnswers (silentAnswers t) ≡ true
+  pub bound : 3 * length (others (passingStation t .«token_ring»)) + 1 ≤ countedIn (passingStation t) (t .records) → heldByAnswers (silentAnswers t left) ≡ true
 
--- the theorem
+-- the theorem, over what the call's contract says that it leaves
 abbrev pub SilenceInTrace : Type 0
-SilenceInTrace = (trace before : List ℕ) (t : SilentTrace trace before) → SilenceRead t
+SilenceInTrace = (trace before : List ℕ) (t : SilentTrace trace before) → SilenceRead t (bufferOf (replayOf trace (length before)) before)
