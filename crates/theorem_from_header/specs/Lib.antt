@@ -5,3 +5,4 @@ pub mod FromHeader
 pub mod AnswersRead
 pub mod SilentTrace
 pub mod SilentTraceProof
+pub mod HostCall
