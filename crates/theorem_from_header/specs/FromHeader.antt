@@ -14,6 +14,8 @@ use Rattle.settings.specs.declared.Created.{Created}
 use Rattle.settings.specs.declared.Created.the-variants as created
 use Rattle.settings_build.specs.Build.{firstRefusal, buildOf, plainOf}
 use Rattle.codec_records.specs.Records.{recordRefusal}
+use Rattle.station.specs.declared.PassTokenAttempt.the-variants.{First}
+use Rattle.station.specs.declared.State.the-variants.{PassToken}
 use Rattle.station.specs.declared.Station.{Station}
 use Rattle.station.specs.declared.Started.{Started}
 use Rattle.station.specs.declared.Started.the-variants as started
@@ -26,7 +28,10 @@ use Rattle.trace.specs.Entries.{entryOf}
 use Rattle.trace.specs.Trace.{startedAfter, startedOf, startOf}
 use Rattle.theorem_sound.specs.Sound.{Call, poll, online, offline, passive, after, run, SoundStation}
 use Rattle.theorem_sound.specs.Fits.{answerTo}
-use Rattle.theorem_silence.specs.Calls.{ByCalls, settings-given, settings-of-calls, sound-of-calls}
+use Rattle.theorem_silence.specs.Silence.{gapDue, Start, AllQuiet, Silence}
+use Rattle.theorem_silence.specs.Silence as silence
+use Rattle.theorem_silence.specs.Theorem as theorem
+use Rattle.theorem_silence.specs.Calls.{ByCalls, settings-given, settings-of-calls, sound-of-calls, start-of-calls}
 use Rattle.theorem_every_trace.specs.Statement.{Entry, along}
 use Rattle.theorem_from_header.specs.Built.{Built, build-accepts, built-passes}
 
@@ -154,3 +159,29 @@ from-header trace fresh es e =
           calls = callsOf es;
           makes = entries-leave es fresh;
         }
+
+-- so demand 3's premises on the station's making hold inside every trace: what is left to ask is that the station is online, in
+-- PassToken at its first attempt, and that no gap question is due
+pub start-in-trace :
+    (trace : List ℕ) (fresh : Station) (es : List Entry)
+    → startOf trace ≡ started.Accepted fresh
+    → silence.online (along fresh es .station) ≡ true
+    → (gap : Bool)
+    → along fresh es .station .core .state ≡ PassToken gap First
+    → gapDue (along fresh es .station .p) (along fresh es .station .core) (along fresh es .station .«token_ring») gap ≡ false
+    → Start (along fresh es .station)
+start-in-trace trace fresh es e on gap state due = start-of-calls (along fresh es .station) (from-header trace fresh es e .by-calls) on gap state due
+
+-- and demand 3 holds of it
+pub silence-inside :
+    (trace : List ℕ) (fresh : Station) (es : List Entry) (records : List (List ℕ))
+    → startOf trace ≡ started.Accepted fresh
+    → silence.online (along fresh es .station) ≡ true
+    → (gap : Bool)
+    → along fresh es .station .core .state ≡ PassToken gap First
+    → gapDue (along fresh es .station .p) (along fresh es .station .core) (along fresh es .station .«token_ring») gap ≡ false
+    → AllQuiet (headerOf trace .applications) records
+    → Silence (along fresh es .station) records
+silence-inside trace fresh es records e on gap state due quiet =
+    theorem.silence (along fresh es .station) records (start-in-trace trace fresh es e on gap state due)
+    (rw (from-header trace fresh es e .same-applications) quiet)

@@ -38,13 +38,12 @@ use Rattle.trace.specs.Laws.{replay-started}
 use Rattle.theorem_sound.specs.Keeps.{either}
 use Rattle.theorem_sound.specs.Sound.{SoundStation, poll-sound}
 use Rattle.theorem_sound.specs.Fits.{poll-fits}
-use Rattle.theorem_silence.specs.Silence.{Start, Quiet, AllQuiet, holdsToken, until, told, sentUntil, Silence}
-use Rattle.theorem_silence.specs.Calls.{poll-settings, start-of-calls}
-use Rattle.theorem_silence.specs.Theorem.{silence}
+use Rattle.theorem_silence.specs.Silence.{Quiet, AllQuiet, holdsToken, until, told, sentUntil, Silence}
+use Rattle.theorem_silence.specs.Calls.{poll-settings}
 use Rattle.theorem_every_trace.specs.Statement.{Entry, Whole, laid, along}
 use Rattle.theorem_every_trace.specs.Theorem.{along-length}
 use Rattle.theorem_every_trace.specs.EveryTrace.{each-entry-is-answered, longer-trace-begins-alike}
-use Rattle.theorem_from_header.specs.FromHeader.{OfHeader, from-header}
+use Rattle.theorem_from_header.specs.FromHeader.{OfHeader, from-header, silence-inside}
 use Rattle.theorem_from_header.specs.AnswersRead.{wordAt, along-append, word-here}
 use Rattle.theorem_from_header.specs.SilentTrace.{answersFrom, sentByAnswers, heldByAnswers, nextByAnswers, polls, SilentTrace, passingStation, silentAnswers, SilenceRead, SilenceInTrace}
 
@@ -250,12 +249,9 @@ module _ (trace before : List ℕ) (t : SilentTrace trace before) where
   header-of : OfHeader trace station
   header-of = from-header trace (t .fresh) (t .earlier) (t .starts)
 
-  -- it starts a token pass as theorem_silence asks for
-  starts-pass : Start station
-  starts-pass = start-of-calls station (header-of .by-calls) (t .not-offline) (t .gap) (t .passing) (t .no-question)
-
-  quiet-here : AllQuiet (station .applications) (t .records)
-  quiet-here = rw (header-of .same-applications) (t .quiet)
+  -- demand 3 holds of it
+  silent-here : Silence station (t .records)
+  silent-here = silence-inside trace (t .fresh) (t .earlier) (t .records) (t .starts) (t .not-offline) (t .gap) (t .passing) (t .no-question) (t .quiet)
 
   not-held : holdsToken station ≡ false
   unfolding holdsToken
@@ -325,8 +321,7 @@ module _ (trace before : List ℕ) (t : SilentTrace trace before) where
 -- demand 3 over a trace's bytes
 pub silence-in-trace : SilenceInTrace
 silence-in-trace trace before t =
-    let s = passingStation t in
-    let g = silence s (t .records) (starts-pass trace before t) (quiet-here trace before t) in
+    let g = silent-here trace before t in
     let sent = sent-is trace before t in
     let held = held-is trace before t in
     record {
