@@ -1,6 +1,6 @@
 -- The theorems on every trace, over the definitions of trace. That the call answers and ends on every trace and buffer is its contract.
-use Prim.Native.Nat.{ℕ, _+_, _-_, _*_, _/_, _%_, _^_, _<_, _≤_}
-use mathlib.Core.Path.{_≡_, refl, sym, ap, _∙_, subst}
+use Prim.Native.Nat.{ℕ, _-_, _*_, _/_, _%_, _<_, _≤_}
+use mathlib.Core.Path.{_≡_, sym, ap, _∙_}
 use mathlib.Core.List.{List, [], _∷_, _++_}
 use native.Mathlib.Omega.{arith}
 use native.Mathlib.Nat.{le-refl}
@@ -9,16 +9,13 @@ use lib.ListN.{length, take, drop, length-append, length-drop}
 use lib.Seq.{take-at, drop-at}
 use lib.Pow.{high, low}
 use lib.Dec.{eqb}
-use Rattle.codec_answers.specs.declared.Answer.{Answer}
 use Rattle.station.specs.declared.Station.{Station}
 use Rattle.station.specs.declared.Started.{Started}
 use Rattle.station.specs.declared.Started.the-variants as started
-use Rattle.station_poll.specs.Poll.{pollOf}
-use Rattle.station_command.specs.Command.{passiveOf}
 use Rattle.theorem_sound.specs.Unchanged.{poll-unchanged, passive-unchanged, online-refusal, offline-refusal}
-use Rattle.trace.specs.Trace.{startOf, Run, ended, answered, runFrom, runOf, Replay, ranOf, replayOn, replayOf, numberOf, written, bufferOf}
-use Rattle.trace.specs.Entries.{recordLength, entryOf}
-use Rattle.trace.specs.Laws.{precededBy, replay-started, replay-refused, run-none, run-more}
+use Rattle.trace.specs.Trace.{startOf, answered, runOf, ranOf, replayOn, replayOf, numberOf, written, bufferOf}
+use Rattle.trace.specs.Entries.{entryOf}
+use Rattle.trace.specs.Laws.{precededBy, replay-refused, run-none, run-more}
 use Rattle.theorem_every_trace.specs.Endings.{Small, start-small}
 use Rattle.theorem_every_trace.specs.Statement.{Entry, Whole, laid, along}
 use Rattle.theorem_every_trace.specs.Runs.{run-enough, run-on, run-ends, written-length}

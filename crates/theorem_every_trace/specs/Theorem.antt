@@ -1,10 +1,10 @@
 -- The proof of demand 1's statement: one entry at a time, over any bytes.
-use Prim.Native.Nat.{ℕ, zero, suc, _+_, _-_, _*_, _<_, _≤_}
+use Prim.Native.Nat.{ℕ, zero, suc, _-_, _*_, _≤_}
 use mathlib.Core.Path.{_≡_, refl, sym, ap, _∙_, subst}
 use mathlib.Core.List.{List, [], _∷_, _++_, append-assoc}
 use native.Mathlib.Omega.{arith}
 use native.Mathlib.Nat.{le-refl, sub-zero}
-use lib.ListN.{length, take, drop, length-drop, take-append-drop}
+use lib.ListN.{length, take, drop, take-append-drop}
 use lib.Seq.{length-take-le}
 use Rattle.codec_answers.specs.declared.Answer.{Answer}
 use Rattle.station.specs.declared.Station.{Station}
@@ -12,7 +12,7 @@ use Rattle.station.specs.declared.Started.{Started}
 use Rattle.station.specs.declared.Started.the-variants as started
 use Rattle.station_answer.specs.declared.Polled.{Polled}
 use Rattle.trace.specs.Entries.{recordLength, entryOf}
-use Rattle.trace.specs.Trace.{startOf, Run, runFrom, runOf, ranOf, replayOf, numberOf, written, bufferOf}
+use Rattle.trace.specs.Trace.{startOf, Run, runFrom, runOf, ranOf, replayOf, numberOf, bufferOf}
 use Rattle.trace.specs.Laws.{start-long, replay-started, replay-refused, run-none, run-cut, run-full, run-more}
 use Rattle.theorem_every_trace.specs.Endings.{Small, start-small}
 use Rattle.theorem_every_trace.specs.Runs.{Way, cuts, fills, goes, way, shorter}

@@ -1,18 +1,17 @@
 -- Every answer that the replay call writes reads back: the eight bytes at each place of the buffer unpack to exactly the answer that
 -- the station's definition gives to the entry at that place.
 use Prim.Native.Nat.{ℕ, zero, suc, _+_, _*_, _%_, _^_, _<_, _≤_}
-use mathlib.Core.Path.{_≡_, refl, sym, ap, _∙_, subst}
+use mathlib.Core.Path.{_≡_, refl, sym, ap, _∙_}
 use mathlib.Core.List.{List, [], _∷_, _++_, append-assoc}
 use native.Mathlib.Omega.{arith}
 use native.Mathlib.Nat.{mod-lt}
 use borrow.Author.Tests.{le-ltb}
-use lib.ListN.{length, take, drop, length-append}
-use lib.Seq.{take-at, drop-at}
+use lib.ListN.{length, drop, length-append}
+use lib.Seq.{drop-at}
 use lib.Dec.{lit<}
-use Rattle.codec_fields.specs.Fields.{putOf, be, loadOf, bytesOf}
+use Rattle.codec_fields.specs.Fields.{putOf, loadOf, bytesOf}
 use Rattle.codec_fields.specs.Laws.{be-bytes}
 use Rattle.codec_answers.specs.declared.Answer.{Answer}
-use Rattle.codec_answers.specs.declared.Unpacked.{Unpacked}
 use Rattle.codec_answers.specs.declared.Unpacked.the-variants.{Is}
 use Rattle.codec_answers.specs.Answers.{answerWord, unpackOf, Fits}
 use Rattle.codec_answers.specs.Laws.{answer-unpacks}

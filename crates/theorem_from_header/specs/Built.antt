@@ -1,7 +1,6 @@
 -- What `build` accepts: a record whose fields have no refusal, and its settings are the same numbers again.
 use Prim.Native.Nat.{ℕ, _+_}
-use mathlib.Core.Path.{_≡_, refl, sym, ap, _∙_, subst}
-use mathlib.Core.Bool.{Bool, true, false, cond}
+use mathlib.Core.Path.{_≡_, refl, sym, ap, _∙_}
 use native.Mathlib.Omega.{arith}
 use borrow.Author.Tests.{eqb-true, eqb-false}
 use borrow.Table.Steps.{cases}
@@ -9,11 +8,9 @@ use lib.Dec.{eqb, leb}
 use Rattle.bit_times.specs.declared.Baud.{Baud}
 use Rattle.bit_times.specs.declared.Coded.{Coded}
 use Rattle.bit_times.specs.declared.Coded.the-variants.{Rate, Unknown}
-use Rattle.bit_times.specs.Times.{codeOf, leastSlotBits, baudOf}
+use Rattle.bit_times.specs.Times.{leastSlotBits, baudOf}
 use Rattle.bit_times.specs.Laws.{baud-code}
-use Rattle.settings_watchdog.specs.declared.WatchdogFactors.{WatchdogFactors}
 use Rattle.settings.specs.declared.Parameters.{Parameters}
-use Rattle.settings.specs.declared.Created.{Created}
 use Rattle.settings.specs.declared.Created.the-variants as created
 use Rattle.settings.specs.Settings.{refuseBelow, refuseOutside}
 use Rattle.settings_build.specs.declared.PlainSettings.{PlainSettings}

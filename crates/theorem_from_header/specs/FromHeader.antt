@@ -25,7 +25,7 @@ use Rattle.station_command.specs.Command.{onlineOf, offlineOf, passiveOf}
 use Rattle.station_poll.specs.Poll.{acceptedAfter, acceptedPoll, pollOf}
 use Rattle.trace_headers.specs.Headers.{headerOf, headerRefusal}
 use Rattle.trace.specs.Entries.{entryOf}
-use Rattle.trace.specs.Trace.{startedAfter, startedOf, startOf}
+use Rattle.trace.specs.Trace.{startedAfter, startedOf, startOf, runOf}
 use Rattle.theorem_sound.specs.Sound.{Call, poll, online, offline, passive, after, run, SoundStation}
 use Rattle.theorem_sound.specs.Fits.{answerTo}
 use Rattle.theorem_silence.specs.Silence.{gapDue, Start, AllQuiet, Silence}
@@ -33,6 +33,7 @@ use Rattle.theorem_silence.specs.Silence as silence
 use Rattle.theorem_silence.specs.Theorem as theorem
 use Rattle.theorem_silence.specs.Calls.{ByCalls, settings-given, settings-of-calls, sound-of-calls, start-of-calls}
 use Rattle.theorem_every_trace.specs.Statement.{Entry, along}
+use Rattle.theorem_every_trace.specs.Theorem.{taken}
 use Rattle.theorem_from_header.specs.Built.{Built, build-accepts, built-passes}
 
 -- What is said.
@@ -125,7 +126,7 @@ new-applications p n s e = let same : freshStation p n ≡ s = taken (chosen (le
     taken : started.Accepted (freshStation p n) ≡ started.Accepted s → freshStation p n ≡ s
     taken h = cc
 
--- the station that any entries leave of the one that a header starts
+-- the station that any entries leave of the one that a header starts; with no entries, that one itself
 pub from-header : (trace : List ℕ) (fresh : Station) (es : List Entry) → startOf trace ≡ started.Accepted fresh → OfHeader trace (along fresh es .station)
 from-header trace fresh es e =
     record {
@@ -159,6 +160,12 @@ from-header trace fresh es e =
           calls = callsOf es;
           makes = entries-leave es fresh;
         }
+
+-- and the station that any run over bytes leaves of it
+pub run-from-header : (trace : List ℕ) (fresh : Station) (bytes : List ℕ) (room : ℕ) → startOf trace ≡ started.Accepted fresh → OfHeader trace (runOf fresh bytes room .station)
+run-from-header trace fresh bytes room e =
+    let t = taken fresh bytes room in
+    subst (OfHeader trace) (sym (t .reached)) (from-header trace fresh (t .entries) e)
 
 -- so demand 3's premises on the station's making hold inside every trace: what is left to ask is that the station is online, in
 -- PassToken at its first attempt, and that no gap question is due

@@ -1,6 +1,6 @@
 -- A trace that meets all premises of SilentTrace, byte by byte: document 01's example 10 from a header on. The station 5 hears a token
 -- from 9, claims the lost token and passes it to 9, which never answers: the answers in the buffer say tokens to 9, 9, 9 and 5.
-use Prim.Native.Nat.{ℕ, _+_, _*_}
+use Prim.Native.Nat.{ℕ}
 use mathlib.Core.Bool.{true, false}
 use mathlib.Core.Path.{_≡_, refl, sym, ap, _∙_}
 use mathlib.Core.List.{List, [], _∷_, _++_, append-nil}
@@ -43,7 +43,7 @@ use Rattle.trace.specs.Trace.{startedAfter, startedOf, startOf, replayOf, buffe
 use Rattle.theorem_silence.specs.Silence.{AllQuiet, online, gapDue, slotAfter, counted, countedIn, tokens}
 use Rattle.theorem_silence.specs.SilentRecords.{silentAt, silent-quiet}
 use Rattle.theorem_every_trace.specs.Statement.{Entry, Whole, laid, along}
-use Rattle.theorem_from_header.specs.SilentTrace.{polls, sentByAnswers, heldByAnswers, SilentTrace, silentAnswers, SilenceRead}
+use Rattle.theorem_from_header.specs.SilentTrace.{polls, sentByAnswers, heldByAnswers, SilentTrace, silentAnswers}
 use Rattle.theorem_from_header.specs.SilentTraceProof.{silence-in-trace}
 
 -- document 01's example header: address 5, code 6, slot 200, rotation 32,436, gap wait 10, HSA 126, retry 1, min Tsdr 11, one application,

@@ -1,7 +1,7 @@
 -- The proof of SilentTrace: the answers to the silent polls stand in the buffer, read back, and say what theorem_silence says of the polls.
-use Prim.Native.Nat.{ℕ, zero, suc, _+_, _-_, _*_, _/_, _≤_}
+use Prim.Native.Nat.{ℕ, suc, _-_, _*_, _≤_}
 use mathlib.Core.Bool.{Bool, true, false, cond}
-use mathlib.Core.Path.{_≡_, refl, sym, ap, _∙_, subst}
+use mathlib.Core.Path.{_≡_, refl, sym, ap, _∙_}
 use mathlib.Core.List.{List, [], _∷_, _++_, map, append-assoc}
 use native.Mathlib.Omega.{arith}
 use native.Mathlib.Numerals.{add-one}
@@ -25,7 +25,6 @@ use Rattle.ring_addresses.specs.Set.{headOr}
 use Rattle.ring.specs.Ring.{others, nextOf}
 use Rattle.ring.specs.Laws.{next-head}
 use Rattle.station.specs.declared.Station.{Station}
-use Rattle.station.specs.declared.Started.the-variants as started
 use Rattle.station.specs.declared.State.{State}
 use Rattle.station.specs.Parts.{stateNumber}
 use Rattle.station_answer.specs.declared.Polled.{Polled}
@@ -33,19 +32,19 @@ use Rattle.station_answer.specs.Answer.{stepAnswer, polledOf, refusedPoll}
 use Rattle.station_poll.specs.Poll.{acceptedAfter, acceptedPoll, pollOf}
 use Rattle.trace_headers.specs.Headers.{headerOf}
 use Rattle.trace.specs.Entries.{recordLength, entryOf}
-use Rattle.trace.specs.Trace.{startOf, Run, runOf, ranOf, replayOf, written, bufferOf}
+use Rattle.trace.specs.Trace.{Run, runOf, ranOf, replayOf, written, bufferOf}
 use Rattle.trace.specs.Laws.{replay-started}
 use Rattle.theorem_sound.specs.Keeps.{either}
 use Rattle.theorem_sound.specs.Sound.{SoundStation, poll-sound}
 use Rattle.theorem_sound.specs.Fits.{poll-fits}
-use Rattle.theorem_silence.specs.Silence.{Quiet, AllQuiet, holdsToken, until, told, sentUntil, Silence}
+use Rattle.theorem_silence.specs.Silence.{Quiet, AllQuiet, holdsToken, until, told, sentUntil, tokens, Silence}
 use Rattle.theorem_silence.specs.Calls.{poll-settings}
 use Rattle.theorem_every_trace.specs.Statement.{Entry, Whole, laid, along}
 use Rattle.theorem_every_trace.specs.Theorem.{along-length}
 use Rattle.theorem_every_trace.specs.EveryTrace.{each-entry-is-answered, longer-trace-begins-alike}
 use Rattle.theorem_from_header.specs.FromHeader.{OfHeader, from-header, silence-inside}
-use Rattle.theorem_from_header.specs.AnswersRead.{wordAt, along-append, word-here}
-use Rattle.theorem_from_header.specs.SilentTrace.{answersFrom, sentByAnswers, heldByAnswers, nextByAnswers, polls, SilentTrace, passingStation, silentAnswers, SilenceRead, SilenceInTrace}
+use Rattle.theorem_from_header.specs.AnswersRead.{along-append, word-here}
+use Rattle.theorem_from_header.specs.SilentTrace.{answersFrom, sentByAnswers, heldByAnswers, nextByAnswers, polls, SilentTrace, passingStation, silentAnswers, SilenceInTrace}
 
 -- Silent polls as entries.
 
@@ -326,7 +325,10 @@ silence-in-trace trace before t =
     let held = held-is trace before t in
     record {
       rest = g .rest;
-      sends = rw (sent, ← own-is trace before t) (g .sends);
+      sends =
+          ap (λ (l : List Sent). l ++ g .rest) sent
+          ∙ g .sends
+          ∙ ap (tokens (others (passingStation t .«token_ring»))) (own-is trace before t);
       all-sent = λ e. g .all-sent (sym held ∙ e);
       some-left = λ e. g .some-left (sym held ∙ e);
       removes = rw sent (g .removes);
