@@ -80,7 +80,7 @@ pub record Answered (fresh : Station) (trace before : List ℕ) (returned : ℕ)
 -- written; or it starts a station, and the entries after it are answered.
 pub data Replayed (trace before : List ℕ) (returned : ℕ) (left : List ℕ) : Type 0 where
   refused : startOf trace ≡ started.Refused returned → returned ≤ 17 → left ≡ before → Replayed trace before returned left
-  answers : (fresh : Station) → startOf trace ≡ started.Accepted fresh → Answered fresh trace before returned left → Replayed trace before returned left
+  ran : (fresh : Station) → startOf trace ≡ started.Accepted fresh → Answered fresh trace before returned left → Replayed trace before returned left
 
 -- the theorem, over what the call's contract says that it returns and leaves
 abbrev pub Theorem : Type 0

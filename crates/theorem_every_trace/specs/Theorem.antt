@@ -16,7 +16,7 @@ use Rattle.trace.specs.Trace.{startOf, Run, runFrom, runOf, ranOf, replayOf, nu
 use Rattle.trace.specs.Laws.{start-long, replay-started, replay-refused, run-none, run-cut, run-full, run-more}
 use Rattle.theorem_every_trace.specs.Endings.{Small, start-small}
 use Rattle.theorem_every_trace.specs.Runs.{Way, cuts, fills, goes, way, shorter}
-use Rattle.theorem_every_trace.specs.Statement.{Entry, Whole, laid, along, Stops, empty, cut, full, Tells, Answered, Replayed, refused, answers, Theorem}
+use Rattle.theorem_every_trace.specs.Statement.{Entry, Whole, laid, along, Stops, empty, cut, full, Tells, Answered, Replayed, refused, ran, Theorem}
 
 -- a list with a first byte is not empty
 some-left : (kind : ℕ) (bytes : List ℕ) → (kind ∷ bytes) ≡ [] → ⊥
@@ -144,7 +144,7 @@ replayed :
     → startOf trace ≡ x
     → Small x
     → Replayed trace before (numberOf (replayOf trace (length before))) (bufferOf (replayOf trace (length before)) before)
-replayed trace before (started.Accepted fresh) e h = answers fresh e (started-answered trace before fresh e)
+replayed trace before (started.Accepted fresh) e h = ran fresh e (started-answered trace before fresh e)
 replayed trace before (started.Refused n) e h =
     let r = replay-refused trace before n e in
     refused (e ∙ ap started.Refused (r .0)) (rw (← r .0) h) (sym (r .1))

@@ -42,7 +42,7 @@ pub record Place (entries : List Entry) (i : ℕ) : Type 0 where
   pub many : length earlier ≡ i
 
 -- The word at each place of the buffer that is left unpacks to the answer that the entry at that place has by the station's
--- definition, from the station that the entries before it left.
+-- definition, from the station that the entries before it left. There is a place for each number below that of the entries (`place`).
 abbrev pub EveryAnswerReads : Type 0
 EveryAnswerReads =
     (trace before : List ℕ) (returned : ℕ) (left : List ℕ) (fresh : Station)

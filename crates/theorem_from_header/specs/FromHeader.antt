@@ -58,9 +58,9 @@ unfoldable pub callOf : Entry → Call
 callOf e = cond (eqb (e .kind) 0) online (cond (eqb (e .kind) 1) offline (cond (eqb (e .kind) 2) passive (poll (e .bytes))))
 
 -- the calls that entries are
-abbrev pub callsOf : List Entry → List Call
-callsOf [] = []
-callsOf (e ∷ es) = callOf e ∷ callsOf es
+abbrev pub entryCalls : List Entry → List Call
+entryCalls [] = []
+entryCalls (e ∷ es) = callOf e ∷ entryCalls es
 
 -- Its proof.
 
@@ -97,10 +97,10 @@ entry-answers s e =
     (λ a. cases (eqb (e .kind) 1) (λ b. rw (a, b)) (λ b. cases (eqb (e .kind) 2) (λ c. rw (a, b, c)) (λ c. rw (a, b, c))))
 
 -- entries leave what their calls leave
-pub entries-leave : (es : List Entry) (s : Station) → run s (callsOf es) ≡ along s es .station
+pub entries-leave : (es : List Entry) (s : Station) → run s (entryCalls es) ≡ along s es .station
 unfolding run
 entries-leave [] s = refl
-entries-leave (e ∷ es) s = ap (λ (x : Station). run x (callsOf es)) (sym (entry-leaves s e)) ∙ entries-leave es (entryOf s (e .kind) (e .bytes) .station)
+entries-leave (e ∷ es) s = ap (λ (x : Station). run x (entryCalls es)) (sym (entry-leaves s e)) ∙ entries-leave es (entryOf s (e .kind) (e .bytes) .station)
 
 -- no call changes the number of applications
 poll-applications : (s : Station) (bytes : List ℕ) → pollOf s bytes .station .applications ≡ s .applications
@@ -136,7 +136,7 @@ from-header trace fresh es e =
       same-numbers = ap plainOf (settings-given s calls) ∙ built .same-numbers;
       same-applications =
           ap (λ (x : Station). x .applications) (sym (entries-leave es fresh))
-          ∙ run-applications (callsOf es) fresh
+          ∙ run-applications (entryCalls es) fresh
           ∙ new-applications (h .settings) (headerOf trace .applications) fresh (h .is-new);
     }
   where
@@ -157,7 +157,7 @@ from-header trace fresh es e =
           accepted = built-passes (headerOf trace .settings) (h .settings) built;
           fresh = fresh;
           is-new = h .is-new;
-          calls = callsOf es;
+          calls = entryCalls es;
           makes = entries-leave es fresh;
         }
 

@@ -43,7 +43,7 @@ use Rattle.trace.specs.Trace.{startedAfter, startedOf, startOf, replayOf, buffe
 use Rattle.theorem_silence.specs.Silence.{AllQuiet, online, gapDue, slotAfter, counted, countedIn, tokens}
 use Rattle.theorem_silence.specs.SilentRecords.{silentAt, silent-quiet}
 use Rattle.theorem_every_trace.specs.Statement.{Entry, Whole, laid, along}
-use Rattle.theorem_from_header.specs.SilentTrace.{polls, sentByAnswers, heldByAnswers, SilentTrace, silentAnswers}
+use Rattle.theorem_from_header.specs.SilentTrace.{pollEntries, sentByAnswers, heldByAnswers, SilentTrace, silentAnswers}
 use Rattle.theorem_from_header.specs.SilentTraceProof.{silence-in-trace}
 
 -- document 01's example header: address 5, code 6, slot 200, rotation 32,436, gap wait 10, HSA 126, retry 1, min Tsdr 11, one application,
@@ -58,15 +58,15 @@ token-heard = 0 ∷ 0 ∷ 0 ∷ 0 ∷ 0 ∷ 100 ∷ 8 ∷ 0 ∷ 0 ∷ 0 ∷ 0 �
 -- online; a silent poll, the token heard; then silence: the station claims the token at 6,600 µs, sends it twice to itself, holds it, and
 -- its application declines
 abbrev pub earlier : List Entry
-earlier = record { kind = 0; bytes = [] } ∷ polls (silentAt 1 0 ∷ token-heard ∷ silentAt 1 6600 ∷ silentAt 1 6800 ∷ silentAt 1 7000 ∷ [])
+earlier = record { kind = 0; bytes = [] } ∷ pollEntries (silentAt 1 0 ∷ token-heard ∷ silentAt 1 6600 ∷ silentAt 1 6800 ∷ silentAt 1 7000 ∷ [])
 
--- four silent polls, each a token and a slot after the one before
+-- four silent pollEntries, each a token and a slot after the one before
 abbrev pub silent-records : List (List ℕ)
 silent-records = silentAt 1 7266 ∷ silentAt 1 7732 ∷ silentAt 1 8198 ∷ silentAt 1 8664 ∷ []
 
 -- the trace, and a buffer for its ten answers
 abbrev pub trace : List ℕ
-trace = header ++ (laid earlier ++ (laid (polls silent-records) ++ []))
+trace = header ++ (laid earlier ++ (laid (pollEntries silent-records) ++ []))
 
 abbrev pub buffer : List ℕ
 buffer = replicate 80 0

@@ -5,8 +5,8 @@
 -- report no telegram, no pending byte and no transmission; and let the buffer have room for the answers. Then the answers to these
 -- polls, read from the buffer, say this. Up to the first that says that the token is held, what was sent is three tokens to each
 -- other station, in ring order, and one to the station itself, and nothing else. A station is taken out of the ring after its third
--- token, which shows in the next station that the answers name. If 3k + 1 of the polls are counted (they come at least one slot time after known last bus activity), an answer says that the
--- token is held.
+-- token, which shows in the next station that the answers name. If 3k + 1 of the polls are counted (they come at least one slot time
+-- after known last bus activity), an answer says that the token is held.
 --
 -- What follows the silent polls in the trace changes nothing of this. The words `Quiet`, `countedIn`, `until`, `gapDue`, `tokens` are
 -- those of theorem_silence; `others` are the other stations in a ring, in ring order.
@@ -72,9 +72,9 @@ nextByAnswers last (u ∷ later) = cond (saysHeld u) (nextBy last u) (nextByAnsw
 -- What is assumed of the trace.
 
 -- polls as entries: each record with its length before it
-abbrev pub polls : List (List ℕ) → List Entry
-polls [] = []
-polls (bytes ∷ later) = record { kind = length bytes; bytes = bytes } ∷ polls later
+abbrev pub pollEntries : List (List ℕ) → List Entry
+pollEntries [] = []
+pollEntries (bytes ∷ later) = record { kind = length bytes; bytes = bytes } ∷ pollEntries later
 
 -- a trace in which a station passes its token into silence, and a buffer for its answers
 pub record SilentTrace (trace before : List ℕ) : Type 0 where
@@ -85,7 +85,7 @@ pub record SilentTrace (trace before : List ℕ) : Type 0 where
   pub more : List ℕ
   pub sixteen : length header ≡ 16
   pub whole : Whole earlier
-  pub bytes : trace ≡ header ++ (laid earlier ++ (laid (polls records) ++ more))
+  pub bytes : trace ≡ header ++ (laid earlier ++ (laid (pollEntries records) ++ more))
   -- the buffer has room for the answers to these entries and polls
   pub room : 8 * (length earlier + length records) ≤ length before
   -- the header is not refused: it starts the station `fresh`
@@ -103,7 +103,7 @@ pub record SilentTrace (trace before : List ℕ) : Type 0 where
 abbrev pub passingStation : {trace before : List ℕ} → SilentTrace trace before → Station
 passingStation t = along (t .fresh) (t .earlier) .station
 
--- the answers to the silent polls, read from a buffer
+-- the answers to the silent pollEntries, read from a buffer
 abbrev pub silentAnswers : {trace before : List ℕ} → SilentTrace trace before → List ℕ → List Unpacked
 silentAnswers t left = answersFrom left (length (t .earlier)) (length (t .records))
 

@@ -44,7 +44,7 @@ use Rattle.theorem_every_trace.specs.Theorem.{along-length}
 use Rattle.theorem_every_trace.specs.EveryTrace.{each-entry-is-answered, longer-trace-begins-alike}
 use Rattle.theorem_from_header.specs.FromHeader.{OfHeader, from-header, silence-inside}
 use Rattle.theorem_from_header.specs.AnswersRead.{along-append, word-here}
-use Rattle.theorem_from_header.specs.SilentTrace.{answersFrom, sentByAnswers, heldByAnswers, nextByAnswers, polls, SilentTrace, passingStation, silentAnswers, SilenceInTrace}
+use Rattle.theorem_from_header.specs.SilentTrace.{answersFrom, sentByAnswers, heldByAnswers, nextByAnswers, pollEntries, SilentTrace, passingStation, silentAnswers, SilenceInTrace}
 
 -- Silent polls as entries.
 
@@ -57,11 +57,11 @@ quiet-whole : (n : ℕ) (bytes : List ℕ) → Quiet n bytes → length bytes �
 unfolding recordLength
 quiet-whole n bytes q = let l : 3 ≤ length bytes = omega (arith, quiet-long n bytes q) in rw (le-ltb (length bytes) 3 l)
 
-polls-whole : (n : ℕ) (records : List (List ℕ)) → AllQuiet n records → Whole (polls records)
+polls-whole : (n : ℕ) (records : List (List ℕ)) → AllQuiet n records → Whole (pollEntries records)
 polls-whole n [] q = tt
 polls-whole n (bytes ∷ later) q = (quiet-whole n bytes (q .0), polls-whole n later (q .1))
 
-polls-length : (records : List (List ℕ)) → length (polls records) ≡ length records
+polls-length : (records : List (List ℕ)) → length (pollEntries records) ≡ length records
 polls-length [] = refl
 polls-length (bytes ∷ later) = ap suc (polls-length later)
 
@@ -76,10 +76,10 @@ abbrev answersTo : Station → List (List ℕ) → List Answer
 answersTo s [] = []
 answersTo s (bytes ∷ later) = pollOf s bytes .answer ∷ answersTo (pollOf s bytes .station) later
 
-polls-answered : (n : ℕ) (records : List (List ℕ)) (s : Station) → AllQuiet n records → along s (polls records) .answers ≡ answersTo s records
+polls-answered : (n : ℕ) (records : List (List ℕ)) (s : Station) → AllQuiet n records → along s (pollEntries records) .answers ≡ answersTo s records
 polls-answered n [] s q = refl
 polls-answered n (bytes ∷ later) s q =
-    ap (λ (x : Polled). x .answer ∷ along (x .station) (polls later) .answers) (quiet-polls s n bytes (q .0))
+    ap (λ (x : Polled). x .answer ∷ along (x .station) (pollEntries later) .answers) (quiet-polls s n bytes (q .0))
     ∙ ap (λ (l : List Answer). pollOf s bytes .answer ∷ l) (polls-answered n later (pollOf s bytes .station) (q .1))
 
 answers-many : (s : Station) (records : List (List ℕ)) → length (answersTo s records) ≡ length records
@@ -258,23 +258,23 @@ module _ (trace before : List ℕ) (t : SilentTrace trace before) where
 
   -- the bytes after the header
   abbrev all-entries : List Entry
-  all-entries = t .earlier ++ polls (t .records)
+  all-entries = t .earlier ++ pollEntries (t .records)
 
   after-header : drop 16 trace ≡ laid all-entries ++ t .more
   after-header =
       ap (drop 16) (t .bytes)
-      ∙ drop-at (t .header) (laid (t .earlier) ++ (laid (polls (t .records)) ++ t .more)) 16 (t .sixteen)
-      ∙ sym (append-assoc (laid (t .earlier)) (laid (polls (t .records))) (t .more))
-      ∙ ap (λ (l : List ℕ). l ++ t .more) (sym (laid-append (t .earlier) (polls (t .records))))
+      ∙ drop-at (t .header) (laid (t .earlier) ++ (laid (pollEntries (t .records)) ++ t .more)) 16 (t .sixteen)
+      ∙ sym (append-assoc (laid (t .earlier)) (laid (pollEntries (t .records))) (t .more))
+      ∙ ap (λ (l : List ℕ). l ++ t .more) (sym (laid-append (t .earlier) (pollEntries (t .records))))
 
   begins : Begins (t .fresh) all-entries (runOf (t .fresh) (drop 16 trace) (length before))
   begins =
       rw after-header
       (run-begins (t .fresh) all-entries (t .more) (length before)
-      (whole-append (t .earlier) (polls (t .records)) (t .whole) (polls-whole (headerOf trace .applications) (t .records) (t .quiet)))
+      (whole-append (t .earlier) (pollEntries (t .records)) (t .whole) (polls-whole (headerOf trace .applications) (t .records) (t .quiet)))
       (rw (length-append, polls-length) (t .room)))
 
-  -- the buffer: the answers to the entries so far, those to the silent polls, others, and what was there
+  -- the buffer: the answers to the entries so far, those to the silent pollEntries, others, and what was there
   abbrev old : List ℕ
   old = drop (8 * length (runOf (t .fresh) (drop 16 trace) (length before) .answers)) before
 
@@ -287,8 +287,8 @@ module _ (trace before : List ℕ) (t : SilentTrace trace before) where
       rw (replay-started trace (length before) (t .fresh) (t .starts))
       (ap (λ (l : List Answer). written l ++ old)
       (begins .given
-      ∙ ap (λ (l : List Answer). l ++ begins .later) (along-append (t .earlier) (polls (t .records)) (t .fresh) .0)
-      ∙ append-assoc (along (t .fresh) (t .earlier) .answers) (along station (polls (t .records)) .answers) (begins .later)
+      ∙ ap (λ (l : List Answer). l ++ begins .later) (along-append (t .earlier) (pollEntries (t .records)) (t .fresh) .0)
+      ∙ append-assoc (along (t .fresh) (t .earlier) .answers) (along station (pollEntries (t .records)) .answers) (begins .later)
       ∙ ap (λ (l : List Answer). along (t .fresh) (t .earlier) .answers ++ (l ++ begins .later)) (polls-answered (headerOf trace .applications) (t .records) station (t .quiet))))
 
   -- so the answers read are those of the station to the polls
