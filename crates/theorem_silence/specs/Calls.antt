@@ -26,7 +26,7 @@ use Rattle.theorem_sound.specs.Sound as call
 use Rattle.theorem_silence.specs.Silence.{Start, online, gapDue}
 
 -- no call changes the settings
-poll-settings : (s : Station) (bytes : List ℕ) → pollOf s bytes .station .p ≡ s .p
+pub poll-settings : (s : Station) (bytes : List ℕ) → pollOf s bytes .station .p ≡ s .p
 unfolding pollOf acceptedPoll acceptedAfter polledOf refusedPoll
 poll-settings s bytes = cases (eqb (recordRefusal bytes (s .applications)) 0) (λ e. rw e) (λ e. rw e)
 
