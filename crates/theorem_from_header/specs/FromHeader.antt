@@ -34,7 +34,7 @@ use Rattle.theorem_silence.specs.Theorem as theorem
 use Rattle.theorem_silence.specs.Calls.{ByCalls, settings-given, settings-of-calls, sound-of-calls, start-of-calls}
 use Rattle.theorem_every_trace.specs.Statement.{Entry, along}
 use Rattle.theorem_every_trace.specs.Theorem.{taken}
-use Rattle.theorem_from_header.specs.Built.{Built, build-accepts, built-passes}
+use Rattle.settings_build.specs.Built.{Built, build-accepts, built-passes}
 
 -- What is said.
 

@@ -12,8 +12,9 @@ use Rattle.bit_times.specs.declared.Baud.the-variants.{B500000}
 use Rattle.bit_times.specs.Times.{baudOf, rounded, timeOf}
 use Rattle.settings_watchdog.specs.declared.WatchdogFactors.the-variants as wf
 use Rattle.settings.specs.declared.Parameters.{Parameters}
-use Rattle.settings.specs.Settings.{refuseBelow, refuseOutside, slotTimeOf, tokenLostOf, rotationTimeOf}
-use Rattle.settings_build.specs.Build.{factorsRefusal, restRefusal, codedRefusal, firstRefusal, pairOf, builtAt, buildOf}
+use Rattle.settings.specs.Rules as rules
+use Rattle.settings.specs.Settings.{slotTimeOf, tokenLostOf, rotationTimeOf}
+use Rattle.settings_build.specs.Build.{earlyRefusal, firstRefusal, pairOf, builtAt, buildOf}
 use Rattle.ring_addresses.specs.Set.{takeOut, walk, nearest, betweenOf, keeps, sameSet}
 use Rattle.ring_addresses.specs.Words.{bitOf, wordOf, hasIn}
 use Rattle.ring.specs.Ring.{has, make, others, removeOf, freshOf, roundOf, lapsOf, passed, witnessOf, claimOf, nextOf, prevOf}
@@ -87,7 +88,7 @@ settings =
     }
 
 starts : startOf trace ≡ started.Accepted (freshStation settings 1)
-unfolding fieldOf beFrom loadOf headers.headerAt headers.headerOf headers.applicationsRefusal headers.zeroRefusal headers.lateRefusal headers.headerRefusalOn headers.headerRefusal refuseBelow refuseOutside factorsRefusal restRefusal codedRefusal firstRefusal pairOf builtAt buildOf baudOf startedAfter startedOf startOf newStation
+unfolding fieldOf beFrom loadOf headers.headerAt headers.headerOf headers.zeroRefusal headers.headerRefusal rules.refuseBelow rules.refuseOutside rules.addressRefusal rules.baudRefusal rules.slotBitsRefusal rules.hsaRefusal rules.rotationRefusal rules.gapWaitRefusal rules.retryRefusal rules.minTsdrRefusal rules.factorsRefusal rules.applicationsRefusal earlyRefusal firstRefusal pairOf builtAt buildOf baudOf startedAfter startedOf startOf newStation
 starts = refl
 
 one-application : headers.headerOf trace .applications ≡ 1

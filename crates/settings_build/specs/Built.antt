@@ -1,20 +1,20 @@
 -- What `build` accepts: a record whose fields have no refusal, and its settings are the same numbers again.
-use Prim.Native.Nat.{ℕ, _+_}
+use Prim.Native.Nat.{ℕ}
 use mathlib.Core.Path.{_≡_, refl, sym, ap, _∙_}
 use native.Mathlib.Omega.{arith}
 use borrow.Author.Tests.{eqb-true, eqb-false}
 use borrow.Table.Steps.{cases}
-use lib.Dec.{eqb, leb}
-use Rattle.bit_times.specs.declared.Baud.{Baud}
+use lib.Dec.{eqb}
 use Rattle.bit_times.specs.declared.Coded.{Coded}
 use Rattle.bit_times.specs.declared.Coded.the-variants.{Rate, Unknown}
-use Rattle.bit_times.specs.Times.{leastSlotBits, baudOf}
+use Rattle.bit_times.specs.Times.{baudOf}
 use Rattle.bit_times.specs.Laws.{baud-code}
 use Rattle.settings.specs.declared.Parameters.{Parameters}
 use Rattle.settings.specs.declared.Created.the-variants as created
-use Rattle.settings.specs.Settings.{refuseBelow, refuseOutside}
+use Rattle.settings.specs.Rules.{baudRefusal, factorsRefusal}
 use Rattle.settings_build.specs.declared.PlainSettings.{PlainSettings}
-use Rattle.settings_build.specs.Build.{factorsRefusal, first, restRefusal, codedRefusal, firstRefusal, pairOf, builtAt, buildOf, factorsPair, plainOf}
+use Rattle.settings_build.specs.Build.{firstRefusal, pairOf, builtAt, buildOf, factorsPair, plainOf}
+use Rattle.settings_build.specs.Passes.{passes}
 
 -- settings that `build` makes of the plain numbers f: f has no refusal, and the settings are the numbers of f again
 pub record Built (f : PlainSettings) (p : Parameters) : Type 0 where
@@ -24,34 +24,6 @@ pub record Built (f : PlainSettings) (p : Parameters) : Type 0 where
 -- a refusal is not settings
 not-settings : (n : ℕ) (p : Parameters) → created.Refused n ≡ created.Accepted p → ⊥
 not-settings n p e = let z : _≡_ {A = ℕ} 0 1 = cc in omega arith
-
--- none of two refusals: the second is none
-second-none : (n rest : ℕ) → first n rest ≡ 0 → rest ≡ 0
-second-none n rest e = cases (eqb n 0) (λ t. rw t at e) (λ t. absurd (eqb-false n 0 t (rw t at e)))
-
--- and the last of seven
-last-none : (a b c d g h n : ℕ) → first a (first b (first c (first d (first g (first h n))))) ≡ 0 → n ≡ 0
-last-none a b c d g h n e =
-    second-none h n (second-none g (first h n) (second-none d (first g (first h n)) (second-none c (first d (first g (first h n))) (second-none b (first c (first d (first g (first h n)))) (second-none a (first b (first c (first d (first g (first h n))))) e)))))
-
--- a record without refusal has factors without refusal
-factors-none : (f : PlainSettings) (baud : Baud) → restRefusal f baud ≡ 0 → factorsRefusal (f .«factor_1») (f .«factor_2») ≡ 0
-unfolding restRefusal
-factors-none f baud e =
-    last-none
-    (refuseBelow (leastSlotBits baud) (f .«slot_bits») 2)
-    (refuseOutside (f .address + 1) (f .«highest_station_address») 126 3)
-    (refuseOutside 256 (f .«token_rotation_bits») 16777960 4)
-    (refuseOutside 1 (f .«gap_wait_rotations») 100 5)
-    (refuseOutside 1 (f .«max_retry_limit») 15 6)
-    (refuseBelow 11 (f .«min_tsdr_bits») 7)
-    (factorsRefusal (f .«factor_1») (f .«factor_2»))
-    e
-
-rest-none : (f : PlainSettings) (baud : Baud) → firstRefusal f ≡ 0 → baudOf (f .«baud_code») ≡ Rate baud → restRefusal f baud ≡ 0
-unfolding firstRefusal codedRefusal
-rest-none f baud e r =
-    cases (leb (f .address) 125) (λ t. rw (t, r) at e) (λ t. let z : _≡_ {A = ℕ} 1 0 = rw t at e in absurd (omega arith))
 
 -- such factors are kept as they were
 factors-kept : (f1 f2 : ℕ) → factorsRefusal f1 f2 ≡ 0 → factorsPair (pairOf f1 f2) ≡ (f1, f2)
@@ -87,8 +59,8 @@ numbers-kept f p (Rate baud) r none e =
     let is : p ≡ record { «token_rotation_bits» = f .«token_rotation_bits»; «slot_bits» = f .«slot_bits»; address = f .address; baudrate = baud; «gap_wait_rotations» = f .«gap_wait_rotations»; «highest_station_address» = f .«highest_station_address»; «max_retry_limit» = f .«max_retry_limit»; «min_tsdr_bits» = f .«min_tsdr_bits»; «watchdog_factors» = pairOf (f .«factor_1») (f .«factor_2») } = cc in
     ap plainOf is
     ∙ ap (λ (code : ℕ). numbersAt f code (factorsPair (pairOf (f .«factor_1») (f .«factor_2»)))) (baud-code (f .«baud_code») baud r)
-    ∙ ap (numbersAt f (f .«baud_code»)) (factors-kept (f .«factor_1») (f .«factor_2») (factors-none f baud (rest-none f baud none r)))
-numbers-kept f p Unknown r none e = absurd (not-settings 10 p e)
+    ∙ ap (numbersAt f (f .«baud_code»)) (factors-kept (f .«factor_1») (f .«factor_2») (passes f none .factors))
+numbers-kept f p Unknown r none e = absurd (not-settings (baudRefusal Unknown) p e)
 
 -- what `build` accepts
 pub build-accepts : (f : PlainSettings) (p : Parameters) → buildOf f ≡ created.Accepted p → Built f p
