@@ -12,8 +12,8 @@ fail() {
     exit 1
 }
 
-# The scripts take variables (make help), no words.
-[ $# -eq 0 ] || fail "it takes no words ('$*'): 'make help' names its variables"
+# The scripts are told by variables.
+[ $# -eq 0 ] || fail "it takes variables and no words: $*"
 
 # need PROGRAM PACKAGE..: the program is on the PATH. Root can have it from these Debian packages.
 need() {
