@@ -62,24 +62,26 @@ def crates():
     no line describes, on a line that describes no crate, and where crates/ holds others."""
     found, wrong, layer, words = {}, [], "", []
     for number, line in enumerate(read("crates.txt") + [""], 1):
-        crate = re.fullmatch(r"(\w+):((?: \w+)*)", line)
-        if line.startswith("# ") and not layer:
-            continue
+        here = f"crates.txt:{number}:"
         if line.startswith("# "):
-            words.append(line[2:].strip())
+            words += [line[2:].strip()] if layer else []
             continue
+        crate = re.fullmatch(r"(\w+):((?: \w+)*)", line)
         if crate:
-            if not layer or not words:
-                wrong.append(f"crates.txt:{number}: {crate[1]} has no {'line over it that says what it holds' if layer else 'heading'}")
-            if crate[1] in found:
-                wrong.append(f"crates.txt:{number}: {crate[1]} stands there twice")
-            found[crate[1]] = Crate(crate[1], layer, " ".join(words), crate[2].split())
+            name, reads = crate[1], crate[2].split()
+            if not layer:
+                wrong.append(f"{here} {name} stands under no heading")
+            elif not words:
+                wrong.append(f"{here} {name} has no line over it that says what it holds")
+            if name in found:
+                wrong.append(f"{here} {name} stands there twice")
+            found[name] = Crate(name, layer, " ".join(words), reads)
         elif words:
-            wrong.append(f"crates.txt:{number - 1}: no crate follows '{words[-1]}'")
+            wrong.append(f"{here} no crate follows '{words[-1]}'")
         if line.startswith("## "):
             layer = line[3:].strip()
         elif line and not crate:
-            wrong.append(f"crates.txt:{number}: this line is not read: {line}")
+            wrong.append(f"{here} this line is not read: {line}")
         words = []
     folders = {name for name in os.listdir("crates") if os.path.isdir(os.path.join("crates", name))}
     wrong += [f"crates.txt: there is no folder crates/{name}" for name in found if name not in folders]

@@ -66,6 +66,8 @@ def stored():
 
 def commit():
     """The commit that the tree is at, with a + if it has been changed since."""
+    if shutil.which("git") is None:
+        return "no commit"
     said = subprocess.run(["git", "describe", "--always", "--dirty=+"], capture_output=True, text=True)
     return said.stdout.strip() or "no commit"
 
