@@ -59,7 +59,7 @@ class Crate:
 
 def crates():
     """The crates of crates.txt by name, in its order, in which a crate comes after those that it reads. Fails on a crate that
-    no line describes, on a line that describes no crate, and where crates/ holds others."""
+    no line describes, on a line that describes no crate, and where the order or the folders of crates/ are others."""
     found, wrong, layer, words = {}, [], "", []
     for number, line in enumerate(read("crates.txt") + [""], 1):
         here = f"crates.txt:{number}:"
@@ -83,6 +83,10 @@ def crates():
         elif line and not crate:
             wrong.append(f"{here} this line is not read: {line}")
         words = []
+    places = list(found)
+    for crate in found.values():
+        late = [name for name in crate.reads if name in found and places.index(crate.name) <= places.index(name)]
+        wrong += [f"crates.txt: {crate.name} reads {name}, which does not stand above it" for name in late]
     folders = {name for name in os.listdir("crates") if os.path.isdir(os.path.join("crates", name))}
     wrong += [f"crates.txt: there is no folder crates/{name}" for name in found if name not in folders]
     wrong += [f"crates.txt: crates/{name} is not in it" for name in sorted(folders - set(found))]

@@ -89,17 +89,11 @@ def prove(crate, copy):
 
 def measure(wanted, listed):
     """Measures the crates wanted, each after those that it leans on."""
-    order = []
-
-    def visit(crate):
-        for below in listed[crate].reads:
-            if below in listed:
-                visit(below)
-        if crate not in order:
-            order.append(crate)
-
-    for crate in wanted:
-        visit(crate)
+    needed = set(wanted)
+    for crate in reversed(listed.values()):
+        if crate.name in needed:
+            needed.update(crate.reads)
+    order = [crate for crate in listed if crate in needed]
     found, at = {}, commit()
     with tempfile.TemporaryDirectory() as copy:
         shutil.copytree("crates", os.path.join(copy, "crates"))
