@@ -1,5 +1,10 @@
 # What the scripts share. A script sets `me`, the name that its messages begin with, goes to the repository's root and
 # reads this file.
+# shellcheck shell=bash
+# shellcheck disable=SC2034,SC2154 # what is set here is read by the scripts, and they set `me`
+
+# A command that fails in $(..) ends it, as it ends the script.
+shopt -s inherit_errexit
 
 # Ends the script with one line.
 fail() {
@@ -7,13 +12,16 @@ fail() {
     exit 1
 }
 
+# The scripts are told by variables.
+[ $# -eq 0 ] || fail "it takes variables and no words: $*"
+
 # need PROGRAM PACKAGE..: the program is on the PATH. Root can have it from these Debian packages.
 need() {
     local program=$1
     shift
     command -v "$program" >/dev/null 2>&1 && return
     local lacks="$program is not on the PATH: install it (Debian: apt-get install $*)"
-    [ "$(id -u)" -eq 0 ] && command -v apt-get >/dev/null 2>&1 || fail "$lacks"
+    { [ "$(id -u)" -eq 0 ] && command -v apt-get >/dev/null 2>&1; } || fail "$lacks"
     apt_install "$@" || { apt-get update >/dev/null 2>&1 && apt_install "$@"; } || fail "$lacks; apt-get could not install it"
     command -v "$program" >/dev/null 2>&1 || fail "$lacks"
 }
@@ -64,7 +72,7 @@ find_runner() {
 find_trace() {
     trace=${TRACE:-traces/example12.trace}
     [ -e "$trace" ] || fail "there is no file $trace"
-    [ -f "$trace" ] && [ -r "$trace" ] || fail "$trace is not a file that can be read"
+    { [ -f "$trace" ] && [ -r "$trace" ]; } || fail "$trace is not a file that can be read"
     size=$(($(wc -c <"$trace")))
 }
 
@@ -85,8 +93,9 @@ build_staticlib() {
     need_rt
     quietly "the library amsulfezd was not proved" rt check amsulfezd
     [ -f target/staticlib/libamsulfezd.a ] && cmp -s target/stamp/amsulfezd target/staticlib/stamp && return
+    rm -f target/staticlib/stamp
     quietly "the library amsulfezd was not proved" rt staticlib amsulfezd
-    cp target/stamp/amsulfezd target/staticlib/stamp 2>/dev/null
+    cp target/stamp/amsulfezd target/staticlib/stamp 2>/dev/null || rm -f target/staticlib/stamp
 }
 
 # host_cargo WORD..: cargo on the package of hosts/rust, in a folder of its own for each library linked or not.

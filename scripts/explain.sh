@@ -1,8 +1,8 @@
 #!/usr/bin/env bash
 # make explain [TRACE=file]: a line in words for each entry of a trace. The answers are the proved program's, or, for a
 # trace above 4,096 bytes, the proved library's; the words are made from the trace and the answers alone.
-set -u
-cd "$(dirname "$0")/.."
+set -euo pipefail
+cd "$(dirname "$0")/.." || exit 1
 me="make explain"
 . scripts/common.sh
 

@@ -2,8 +2,8 @@
 # Builds the C and Rust hosts of the proved library and runs their tests and examples. Part of make test.
 # On a machine that is not x86-64 the C host is cross-compiled and run under the toolchain's emulator, and the Rust host
 # is built and tested without the library; what could not be run is said on one line.
-set -u
-cd "$(dirname "$0")/.."
+set -euo pipefail
+cd "$(dirname "$0")/.." || exit 1
 me="hosts"
 . scripts/common.sh
 
@@ -17,11 +17,11 @@ test_c() {
     local faults fault
     c_host "$built/test" hosts/c/test.c
     "${emulator[@]}" "$built/test" || fail "the C host's test does not hold"
-    faults=$(grep -c '^    case [0-9]' hosts/c/faulty.c)
+    faults=$(grep -c '^    case [0-9]' hosts/c/faulty.c) || fail "hosts/c/faulty.c has no faults"
     for fault in $(seq "$faults"); do
         "${compile[@]}" -DFAULT="$fault" -c hosts/c/faulty.c -o "$built/faulty.o" || fail "hosts/c/faulty.c does not build"
         c_host "$built/test-faulty" -Damsulfezd_replay_trace=faulty_replay_trace hosts/c/test.c "$built/faulty.o"
-        "${emulator[@]}" "$built/test-faulty" >/dev/null 2>&1 && fail "the C host's test does not find planted fault $fault"
+        ! "${emulator[@]}" "$built/test-faulty" >/dev/null 2>&1 || fail "the C host's test does not find planted fault $fault"
     done
     echo "C host: its test finds each of $faults planted faults"
 }
@@ -36,7 +36,7 @@ replay_all() {
     done < <(find traces/ -name '*.trace' | sort)
     [ "$count" -gt 0 ] || fail "there are no traces"
     { head -c 16 traces/example12.trace && head -c "$long" /dev/zero; } >target/hosts/long.trace
-    { yes 0000000000000014 | head -n "$long" && echo "$long 0"; } >target/hosts/long.answers
+    awk -v n="$long" 'BEGIN { for (i = 0; i < n; i++) print "0000000000000014"; print n, 0 }' >target/hosts/long.answers
     "$@" target/hosts/long.trace | cmp - target/hosts/long.answers || fail "the $host host answers a long trace wrongly"
     echo "$host host: $count traces replayed from files, each answered as its story says, and one of $long entries"
 }
@@ -60,22 +60,22 @@ picture() {
 # proved library's; a trace that is not there is said on one line; no other file is left.
 test_pictures() {
     local folder=target/hosts/pictures stored name out said count=0
-    rm -rf "$folder" && mkdir -p "$folder" || fail "$folder could not be made"
+    { rm -rf "$folder" && mkdir -p "$folder"; } || fail "$folder could not be made"
     for stored in hosts/rust/tests/pictures/*.svg; do
         name=$(basename "$stored" .svg)
         out=$folder/$name.svg
-        said=$(picture "traces/$name.trace" "$out") && [ "$said" = "$out" ] ||
+        { said=$(picture "traces/$name.trace" "$out") && [ "$said" = "$out" ]; } ||
             fail "make picture TRACE=traces/$name.trace says: $said"
         cmp "$stored" "$out" || fail "make picture draws traces/$name.trace otherwise than it is stored"
         count=$((count + 1))
     done
     out=$folder/long.svg
-    said=$(picture hosts/rust/tests/pictures/long.trace "$out") && [ "$said" = "$out" ] ||
+    { said=$(picture hosts/rust/tests/pictures/long.trace "$out") && [ "$said" = "$out" ]; } ||
         fail "make picture does not draw the long trace: $said"
     [ "$(grep -c '<g class="entry"' "$out")" -eq 500 ] || fail "the picture of the long trace does not have 500 entries"
-    said=$(picture "$folder/nosuch.trace" "$folder/nosuch.svg") && fail "make picture draws a trace that is not there"
+    ! said=$(picture "$folder/nosuch.trace" "$folder/nosuch.svg") || fail "make picture draws a trace that is not there"
     [ "$said" = "make picture: there is no file $folder/nosuch.trace" ] || fail "make picture of no trace says: $said"
-    said=$(picture traces/night.trace "$folder/nosuch/night.svg") && fail "make picture draws into no folder"
+    ! said=$(picture traces/night.trace "$folder/nosuch/night.svg") || fail "make picture draws into no folder"
     [ "$(find "$folder" -type f | wc -l)" -eq $((count + 1)) ] || fail "make picture left other files in $folder"
     echo "Pictures: $count drawn as they are stored, and one of 500 entries"
 }

@@ -1,8 +1,8 @@
 #!/usr/bin/env bash
 # make picture [TRACE=file] [OUT=file.svg]: draws a trace, example 12 if none is named, as an SVG file that any browser
 # opens. The answers are those that make explain has; the picture is made from the trace and the answers alone.
-set -u
-cd "$(dirname "$0")/.."
+set -euo pipefail
+cd "$(dirname "$0")/.." || exit 1
 me="make picture"
 . scripts/common.sh
 
@@ -10,7 +10,7 @@ find_trace
 name=$(basename -- "$trace")
 out=${OUT:-target/pictures/${name%.trace}.svg}
 folder=$(dirname -- "$out")
-[ -n "${OUT:-}" ] || mkdir -p "$folder"
+[ -n "${OUT:-}" ] || mkdir -p "$folder" || fail "the folder $folder could not be made"
 [ -d "$folder" ] || fail "there is no folder $folder for $out"
 [ ! -e "$out" ] || [ -f "$out" ] || fail "$out is not a file"
 [ ! "$out" -ef "$trace" ] || fail "$out is the trace itself"

@@ -1,7 +1,7 @@
 #!/usr/bin/env bash
 # Writes the files of traces/ anew from their stories (hosts/rust/src/bin/make_traces).
-set -u
-cd "$(dirname "$0")/.."
+set -euo pipefail
+cd "$(dirname "$0")/.." || exit 1
 me="traces"
 . scripts/common.sh
 
