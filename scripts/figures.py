@@ -119,9 +119,19 @@ def layers(listed):
 def table(measured, listed):
     """The text of docs/CRATES.md."""
     text = [
-        "# Crates in figures",
+        "# The crates",
         "",
-        "Made by `make figures` (`scripts/figures.py`); do not edit it. Source, definitions, laws and proofs are lines. Definitions",
+        "Made by `make figures` (`scripts/figures.py`) from crates.txt and the sources; do not edit it. What each crate holds:",
+        "",
+        row(["Layer", "Crate", "What it holds"]),
+        "|---|---|---|",
+    ]
+    text += [row([layer, f"`{crate.name}`", crate.holds.replace("|", "\\|")]) for layer, crate in zip(layers(listed), listed.values())]
+    text += [
+        "",
+        "## In figures",
+        "",
+        "Source, definitions, laws and proofs are lines. Definitions",
         "are the files of `specs/` that a reader holds beside the Rust or document 01, without `use` and blank lines; laws are its",
         "other files, which the checker reads. Seconds and MiB (of the largest process) are those of a check from nothing with what",
         "the crate leans on proved before, measured at the commit in the last column (a + says that it was changed);",
@@ -144,8 +154,8 @@ def readme(listed):
         fail(f"{README} has no place for the layers: a line '{BEGIN}' and after it a line '{END}'")
     begin = text.index(BEGIN) + 1
     end = text.index(END, begin)
-    rows = [row([layer, f"`{crate.name}`", crate.holds.replace("|", "\\|")]) for layer, crate in zip(layers(listed), listed.values())]
-    made = ["", row(["Layer", "Crate", "What it holds"]), "|---|---|---|"] + rows + [""]
+    rows = [row([layer, ", ".join(f"`{crate.name}`" for crate in listed.values() if crate.layer == layer)]) for layer in layers(listed) if layer]
+    made = ["", row(["Layer", "Crates"]), "|---|---|"] + rows + [""]
     return "\n".join(text[:begin] + made + text[end:]) + "\n"
 
 
