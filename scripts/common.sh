@@ -98,7 +98,7 @@ build_staticlib() {
     cp target/stamp/amsulfezd target/staticlib/stamp 2>/dev/null || rm -f target/staticlib/stamp
 }
 
-# host_cargo WORD..: cargo on the package of hosts/rust, in a folder of its own for each library linked or not.
+# host_cargo WORD..: cargo on the packages of hosts/rust, in a folder of its own for each library linked or not.
 host_cargo() {
     local folder=target/hosts
     [ -z "${AMSULFEZD_STATICLIB_DIR:-}" ] || folder=target/hosts-linked

@@ -61,7 +61,7 @@ picture() {
 test_pictures() {
     local folder=target/hosts/pictures stored name out said count=0
     { rm -rf "$folder" && mkdir -p "$folder"; } || fail "$folder could not be made"
-    for stored in hosts/rust/tests/pictures/*.svg; do
+    for stored in hosts/rust/tools/tests/pictures/*.svg; do
         name=$(basename "$stored" .svg)
         out=$folder/$name.svg
         { said=$(picture "traces/$name.trace" "$out") && [ "$said" = "$out" ]; } ||
@@ -70,7 +70,7 @@ test_pictures() {
         count=$((count + 1))
     done
     out=$folder/long.svg
-    { said=$(picture hosts/rust/tests/pictures/long.trace "$out") && [ "$said" = "$out" ]; } ||
+    { said=$(picture hosts/rust/tools/tests/pictures/long.trace "$out") && [ "$said" = "$out" ]; } ||
         fail "make picture does not draw the long trace: $said"
     [ "$(grep -c '<g class="entry"' "$out")" -eq 500 ] || fail "the picture of the long trace does not have 500 entries"
     ! said=$(picture "$folder/nosuch.trace" "$folder/nosuch.svg") || fail "make picture draws a trace that is not there"

@@ -13,8 +13,7 @@ program=${PROGRAM:-target/bin/run_polls}
 need valgrind valgrind
 need cargo cargo
 # The cases are a program over the Rust host, so that records are written in one way.
-CARGO_TARGET_DIR=target/hosts cargo build --release --offline --quiet --manifest-path hosts/rounds/Cargo.toml ||
-    fail "hosts/rounds does not build"
+host_cargo build --package rounds || fail "hosts/rust/rounds does not build"
 folder=$(mktemp -d) || fail "no temporary folder could be made"
 trap 'rm -rf "$folder"' EXIT
 

@@ -1,5 +1,5 @@
 #!/usr/bin/env bash
-# Writes the files of traces/ anew from their stories (hosts/rust/src/bin/make_traces).
+# Writes the files of traces/ anew from their stories (hosts/rust/stories).
 set -euo pipefail
 cd "$(dirname "$0")/.." || exit 1
 me="traces"
