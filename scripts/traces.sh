@@ -6,6 +6,6 @@ me="traces"
 . scripts/common.sh
 
 need cargo cargo
-host_cargo build --bin make_traces || fail "the stories of hosts/rust do not build"
+host_cargo build --package amsulfezd-stories --bin make_traces || fail "the stories of hosts/rust do not build"
 target/hosts/release/make_traces write traces
 target/hosts/release/make_traces program crates/run_traces
