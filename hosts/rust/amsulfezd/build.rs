@@ -14,6 +14,12 @@ fn main() {
             library.is_file(),
             "AMSULFEZD_STATICLIB_DIR holds no libamsulfezd.a: run 'rt staticlib amsulfezd' first"
         );
+        let processor = std::env::var("CARGO_CFG_TARGET_ARCH").unwrap_or_default();
+        assert!(
+            processor == "x86_64",
+            "libamsulfezd.a is for x86-64, and this build is for {}",
+            processor
+        );
         println!("cargo:rerun-if-changed={}", library.display());
         println!("cargo:rustc-link-search=native={}", folder);
         println!("cargo:rustc-link-lib=static=amsulfezd");

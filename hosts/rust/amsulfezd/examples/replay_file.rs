@@ -1,7 +1,7 @@
 //! Replays a trace from a file of any size with the proved call, and prints as the program `replay` does: each answer as
 //! 16 hexadecimal digits, then the number of entries answered and the ending number.
 //!
-//! `AMSULFEZD_STATICLIB_DIR=target/staticlib cargo run --example replay_file -- FILE`
+//! `AMSULFEZD_STATICLIB_DIR=$PWD/target/staticlib cargo run --manifest-path hosts/rust/Cargo.toml --example replay_file -- FILE`
 
 #![allow(unknown_lints, unexpected_cfgs)]
 
@@ -14,9 +14,8 @@ fn main() {
 
 #[cfg(linked)]
 fn run() -> Result<(), String> {
-    use amsulfezd::answer::Answer;
     use amsulfezd::replay::replay_whole;
-    use amsulfezd::run::{from_buffer, to_text};
+    use amsulfezd::run::to_text;
     use std::io::Write;
 
     let words: Vec<_> = std::env::args_os().skip(1).collect();
@@ -25,11 +24,9 @@ fn run() -> Result<(), String> {
         _ => return Err("usage: replay_file FILE".to_string()),
     };
     let trace = std::fs::read(file).map_err(|error| format!("{}: {}", file.display(), error))?;
-    let (run, buffer) = replay_whole(&trace).map_err(|error| error.to_string())?;
-    let answers = from_buffer(&buffer, &run).map_err(|error| error.to_string())?;
-    let words: Vec<u64> = answers.iter().map(Answer::to_word).collect();
+    let (run, answers) = replay_whole(&trace);
     std::io::stdout()
-        .write_all(to_text(&words, &run).as_bytes())
+        .write_all(to_text(&answers, &run).as_bytes())
         .map_err(|error| format!("standard output: {}", error))
 }
 

@@ -1,6 +1,7 @@
 //! Document 01, "Answer, 64 bits".
 
 use crate::bits::{word_of, Reader, Writer};
+use crate::number::{with_number, UnknownNumber};
 use crate::record::StationType;
 use crate::refusal::Refusal;
 use std::fmt;
@@ -9,7 +10,7 @@ use std::fmt;
 pub const ANSWER_LENGTH: usize = 8;
 
 /// How a poll ended.
-#[derive(Debug, Clone, Copy, PartialEq, Eq)]
+#[derive(Debug, Clone, Copy, PartialEq, Eq, Hash)]
 #[repr(u8)]
 pub enum Outcome {
     /// No poll: a command, or an entry that was refused.
@@ -22,8 +23,9 @@ pub enum Outcome {
 }
 
 /// The station's state after the entry, with the Rust's names.
-#[derive(Debug, Clone, Copy, PartialEq, Eq)]
+#[derive(Debug, Clone, Copy, PartialEq, Eq, Hash)]
 #[repr(u8)]
+#[non_exhaustive]
 pub enum State {
     Offline = 0,
     ListenToken = 1,
@@ -36,6 +38,7 @@ pub enum State {
     AwaitStatusResponse = 8,
 }
 
+/// Every outcome, in the order of its number.
 const OUTCOMES: [Outcome; 5] = [
     Outcome::None,
     Outcome::Offline,
@@ -45,7 +48,7 @@ const OUTCOMES: [Outcome; 5] = [
 ];
 
 /// Every state, in the order of its number.
-pub const STATES: [State; 9] = [
+pub const STATES: &[State] = &[
     State::Offline,
     State::ListenToken,
     State::ActiveIdle,
@@ -57,8 +60,38 @@ pub const STATES: [State; 9] = [
     State::AwaitStatusResponse,
 ];
 
+impl From<Outcome> for u8 {
+    /// Document 01's number.
+    fn from(outcome: Outcome) -> u8 {
+        outcome as u8
+    }
+}
+
+impl TryFrom<u8> for Outcome {
+    type Error = UnknownNumber;
+
+    fn try_from(number: u8) -> Result<Outcome, UnknownNumber> {
+        with_number(&OUTCOMES, u8::from, number, "an outcome")
+    }
+}
+
+impl From<State> for u8 {
+    /// Document 01's number.
+    fn from(state: State) -> u8 {
+        state as u8
+    }
+}
+
+impl TryFrom<u8> for State {
+    type Error = UnknownNumber;
+
+    fn try_from(number: u8) -> Result<State, UnknownNumber> {
+        with_number(STATES, u8::from, number, "a state")
+    }
+}
+
 /// What the station sent in a poll.
-#[derive(Debug, Clone, Copy, PartialEq, Eq)]
+#[derive(Debug, Clone, Copy, PartialEq, Eq, Hash)]
 pub enum Sent {
     Nothing,
     Token {
@@ -93,7 +126,7 @@ impl Sent {
 }
 
 /// What an application was told.
-#[derive(Debug, Clone, Copy, PartialEq, Eq)]
+#[derive(Debug, Clone, Copy, PartialEq, Eq, Hash)]
 pub enum Notice {
     Nothing,
     Reply { application: u8, address: u8 },
@@ -101,7 +134,7 @@ pub enum Notice {
 }
 
 /// The answer to one entry.
-#[derive(Debug, Clone, Copy, PartialEq, Eq)]
+#[derive(Debug, Clone, Copy, PartialEq, Eq, Hash)]
 pub struct Answer {
     pub refusal: Option<Refusal>,
     pub outcome: Outcome,
@@ -115,51 +148,6 @@ pub struct Answer {
 }
 
 impl Answer {
-    /// The answer's 64 bits.
-    pub fn to_word(&self) -> u64 {
-        let (kind, to, station_type, application, high) = match self.sent {
-            Sent::Nothing => (0, 0, 0, 0, false),
-            Sent::Token { to } => (1, to, 0, 0, false),
-            Sent::StatusRequest { to } => (2, to, 0, 0, false),
-            Sent::StatusResponse { to, station_type } => (3, to, station_type as u8, 0, false),
-            Sent::Application {
-                application,
-                high,
-                reply_from,
-                ..
-            } => (4, reply_from, 0, application, high),
-        };
-        let (notice, notified, address) = match self.notice {
-            Notice::Nothing => (0, 0, 0),
-            Notice::Reply {
-                application,
-                address,
-            } => (1, application, address),
-            Notice::Timeout {
-                application,
-                address,
-            } => (2, application, address),
-        };
-        let mut word = Writer::default();
-        word.put(5, self.refusal.map_or(0, |r| u64::from(r.number())));
-        word.put(3, self.outcome as u64);
-        word.put(4, self.state as u64);
-        word.put(3, kind);
-        word.put(7, u64::from(to));
-        word.put(2, u64::from(station_type));
-        word.put(3, u64::from(application));
-        word.put_flag(high);
-        word.put(8, u64::from(self.sent.length()));
-        word.put(4, u64::from(self.consumed));
-        word.put(2, notice);
-        word.put(3, u64::from(notified));
-        word.put(7, u64::from(address));
-        word.put(3, u64::from(self.next_application));
-        word.put(7, u64::from(self.next_station));
-        word.put(2, 0);
-        word.word()
-    }
-
     /// Whether some entry can be answered so: only 12 to 16 refuse an entry, and then with nothing but the number, the
     /// state, the next application and the next station; at most 8 telegrams are consumed; nobody sends 0 bytes.
     fn is_possible(&self) -> bool {
@@ -176,16 +164,74 @@ impl Answer {
         let sends_bytes = self.sent == Sent::Nothing || self.sent.length() != 0;
         refused_well && sends_bytes && self.consumed <= 8
     }
+}
+
+impl From<Answer> for u64 {
+    /// The answer's 64 bits. Of a value that is too large for its field the lowest bits are taken; no answer has one.
+    fn from(answer: Answer) -> u64 {
+        let (kind, to, station_type, application, high) = match answer.sent {
+            Sent::Nothing => (0, 0, 0, 0, false),
+            Sent::Token { to } => (1, to, 0, 0, false),
+            Sent::StatusRequest { to } => (2, to, 0, 0, false),
+            Sent::StatusResponse { to, station_type } => (3, to, u8::from(station_type), 0, false),
+            Sent::Application {
+                application,
+                high,
+                reply_from,
+                ..
+            } => (4, reply_from, 0, application, high),
+        };
+        let (notice, notified, address) = match answer.notice {
+            Notice::Nothing => (0, 0, 0),
+            Notice::Reply {
+                application,
+                address,
+            } => (1, application, address),
+            Notice::Timeout {
+                application,
+                address,
+            } => (2, application, address),
+        };
+        let mut word = Writer::default();
+        word.put(5, answer.refusal.map_or(0, |r| u64::from(r.number())));
+        word.put(3, u64::from(u8::from(answer.outcome)));
+        word.put(4, u64::from(u8::from(answer.state)));
+        word.put(3, kind);
+        word.put(7, u64::from(to));
+        word.put(2, u64::from(station_type));
+        word.put(3, u64::from(application));
+        word.put_flag(high);
+        word.put(8, u64::from(answer.sent.length()));
+        word.put(4, u64::from(answer.consumed));
+        word.put(2, notice);
+        word.put(3, u64::from(notified));
+        word.put(7, u64::from(address));
+        word.put(3, u64::from(answer.next_application));
+        word.put(7, u64::from(answer.next_station));
+        word.put(2, 0);
+        word.word()
+    }
+}
+
+impl From<Answer> for [u8; ANSWER_LENGTH] {
+    /// The answer's bytes, most significant first.
+    fn from(answer: Answer) -> [u8; ANSWER_LENGTH] {
+        u64::from(answer).to_be_bytes()
+    }
+}
+
+impl TryFrom<u64> for Answer {
+    type Error = NotAnAnswer;
 
     /// What 64 bits say, if an answer has them: every number known, every field without a meaning zero.
-    pub fn from_word(bits: u64) -> Result<Answer, NotAnAnswer> {
+    fn try_from(bits: u64) -> Result<Answer, NotAnAnswer> {
         let mut word = Reader::new(bits, 64);
         let refusal = word.take_byte(5);
         let outcome = word.take_byte(3);
         let state = word.take_byte(4);
         let kind = word.take_byte(3);
         let to = word.take_byte(7);
-        let station_type = StationType::from_number(word.take_byte(2));
+        let station_type = StationType::of_two_bits(word.take_byte(2));
         let application = word.take_byte(3);
         let high = word.take_flag();
         let length = word.take_byte(8);
@@ -196,13 +242,14 @@ impl Answer {
         let next_application = word.take_byte(3);
         let next_station = word.take_byte(7);
         let unknown = NotAnAnswer(bits);
+        let unnumbered = |_: UnknownNumber| unknown;
         let answer = Answer {
             refusal: match refusal {
                 0 => None,
-                number => Some(Refusal::from_number(number).ok_or(unknown)?),
+                number => Some(Refusal::try_from(number).map_err(unnumbered)?),
             },
-            outcome: *OUTCOMES.get(usize::from(outcome)).ok_or(unknown)?,
-            state: *STATES.get(usize::from(state)).ok_or(unknown)?,
+            outcome: Outcome::try_from(outcome).map_err(unnumbered)?,
+            state: State::try_from(state).map_err(unnumbered)?,
             sent: match kind {
                 0 => Sent::Nothing,
                 1 => Sent::Token { to },
@@ -232,7 +279,7 @@ impl Answer {
             next_application,
             next_station,
         };
-        if answer.to_word() == bits && answer.is_possible() {
+        if u64::from(answer) == bits && answer.is_possible() {
             Ok(answer)
         } else {
             Err(unknown)
@@ -240,9 +287,25 @@ impl Answer {
     }
 }
 
+impl TryFrom<[u8; ANSWER_LENGTH]> for Answer {
+    type Error = NotAnAnswer;
+
+    /// What 8 bytes say, most significant first.
+    fn try_from(bytes: [u8; ANSWER_LENGTH]) -> Result<Answer, NotAnAnswer> {
+        Answer::try_from(u64::from_be_bytes(bytes))
+    }
+}
+
 /// 64 bits that no answer has.
-#[derive(Debug, Clone, Copy, PartialEq, Eq)]
-pub struct NotAnAnswer(pub u64);
+#[derive(Debug, Clone, Copy, PartialEq, Eq, Hash)]
+pub struct NotAnAnswer(u64);
+
+impl NotAnAnswer {
+    /// The bits.
+    pub fn word(self) -> u64 {
+        self.0
+    }
+}
 
 impl fmt::Display for NotAnAnswer {
     fn fmt(&self, f: &mut fmt::Formatter) -> fmt::Result {
@@ -270,6 +333,6 @@ impl<'a> Iterator for Answers<'a> {
 
     fn next(&mut self) -> Option<Result<Answer, NotAnAnswer>> {
         let chunk = self.chunks.next()?;
-        Some(Answer::from_word(word_of(chunk)))
+        Some(Answer::try_from(word_of(chunk)))
     }
 }

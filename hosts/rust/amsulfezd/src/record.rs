@@ -1,10 +1,11 @@
 //! Document 01, "Station": the poll record.
 
 use crate::bits::{Reader, Writer};
+use crate::number::{with_number, UnknownNumber};
 use std::fmt;
 
 /// What kind of station sent a response.
-#[derive(Debug, Clone, Copy, PartialEq, Eq)]
+#[derive(Debug, Clone, Copy, PartialEq, Eq, Hash)]
 #[repr(u8)]
 pub enum StationType {
     Slave = 0,
@@ -13,15 +14,33 @@ pub enum StationType {
     InRing = 3,
 }
 
+/// Every station type, in the order of its number.
+const STATION_TYPES: [StationType; 4] = [
+    StationType::Slave,
+    StationType::NotReady,
+    StationType::WithoutToken,
+    StationType::InRing,
+];
+
 impl StationType {
-    /// The type with the number given by the lowest two bits.
-    pub fn from_number(number: u8) -> StationType {
-        match number & 3 {
-            0 => StationType::Slave,
-            1 => StationType::NotReady,
-            2 => StationType::WithoutToken,
-            _ => StationType::InRing,
-        }
+    /// The type that a field of two bits gives.
+    pub(crate) fn of_two_bits(bits: u8) -> StationType {
+        STATION_TYPES[usize::from(bits & 3)]
+    }
+}
+
+impl From<StationType> for u8 {
+    /// Document 01's number.
+    fn from(station_type: StationType) -> u8 {
+        station_type as u8
+    }
+}
+
+impl TryFrom<u8> for StationType {
+    type Error = UnknownNumber;
+
+    fn try_from(number: u8) -> Result<StationType, UnknownNumber> {
+        with_number(&STATION_TYPES, u8::from, number, "a station type")
     }
 }
 
@@ -38,7 +57,7 @@ impl fmt::Display for StationType {
 }
 
 /// A telegram that the port reports as received. Addresses have 7 bits, the status of a response has 4 (0 is Ok).
-#[derive(Debug, Clone, Copy, PartialEq, Eq)]
+#[derive(Debug, Clone, Copy, PartialEq, Eq, Hash)]
 pub enum Telegram {
     Token {
         source: u8,
@@ -133,7 +152,7 @@ impl Telegram {
                 destination,
                 station_type,
                 status,
-            } => (3, destination, source, false, station_type as u8, status),
+            } => (3, destination, source, false, station_type.into(), status),
         };
         fits("address", u64::from(destination.max(source)), 7)?;
         fits("status", u64::from(status), 4)?;
@@ -155,7 +174,7 @@ impl Telegram {
         let destination = word.take_byte(7);
         let source = word.take_byte(7);
         let status_request = word.take_flag();
-        let station_type = StationType::from_number(word.take_byte(2));
+        let station_type = StationType::of_two_bits(word.take_byte(2));
         let status = word.take_byte(4);
         match kind {
             0 => Telegram::token(source, destination),
@@ -171,14 +190,12 @@ impl Telegram {
 }
 
 /// What an application would do if it were asked in this poll.
-#[derive(Debug, Clone, Copy, PartialEq, Eq)]
+#[derive(Debug, Clone, Copy, PartialEq, Eq, Hash, Default)]
 pub enum Decision {
+    #[default]
     Declines,
     /// It sends a telegram of `length` bytes and, if `reply_from` is given, waits for that station's reply.
-    Sends {
-        reply_from: Option<u8>,
-        length: u8,
-    },
+    Sends { reply_from: Option<u8>, length: u8 },
 }
 
 impl Decision {
@@ -232,20 +249,14 @@ impl Decision {
 }
 
 /// What one application decides, at normal and at high priority.
-#[derive(Debug, Clone, Copy, PartialEq, Eq)]
+#[derive(Debug, Clone, Copy, PartialEq, Eq, Hash, Default)]
 pub struct Decisions {
     pub normal: Decision,
     pub high: Decision,
 }
 
-/// An application that has nothing to send.
-const SILENT: Decisions = Decisions {
-    normal: Decision::Declines,
-    high: Decision::Declines,
-};
-
 /// A poll record: what the port reports and what the applications would send.
-#[derive(Debug, Clone, PartialEq, Eq)]
+#[derive(Debug, Clone, PartialEq, Eq, Hash)]
 pub struct Poll {
     /// Microseconds, below 2^48.
     pub clock: u64,
@@ -303,7 +314,7 @@ impl Poll {
 
     fn of_application(&mut self, application: usize) -> &mut Decisions {
         if self.decisions.len() <= application {
-            self.decisions.resize(application + 1, SILENT);
+            self.decisions.resize(application + 1, Decisions::default());
         }
         &mut self.decisions[application]
     }
@@ -325,7 +336,7 @@ impl Poll {
         head.put(11, u64::from(self.pending));
         let mut bytes = head.bytes(8);
         for application in 0..applications {
-            let decisions = self.decisions.get(application).unwrap_or(&SILENT);
+            let decisions = self.decisions.get(application).copied().unwrap_or_default();
             bytes.extend(decisions.normal.to_bytes()?);
             bytes.extend(decisions.high.to_bytes()?);
         }
@@ -370,7 +381,7 @@ impl Poll {
 }
 
 /// A value that its field in a trace cannot hold, in words.
-#[derive(Debug, Clone, Copy, PartialEq, Eq)]
+#[derive(Debug, Clone, Copy, PartialEq, Eq, Hash)]
 pub struct Unfit(pub(crate) &'static str);
 
 impl fmt::Display for Unfit {

@@ -1,10 +1,12 @@
 //! Document 01's refusal numbers.
 
+use crate::number::{with_number, UnknownNumber};
 use std::fmt;
 
 /// Why a call, a header, an entry or a trace was refused.
-#[derive(Debug, Clone, Copy, PartialEq, Eq)]
+#[derive(Debug, Clone, Copy, PartialEq, Eq, Hash)]
 #[repr(u8)]
+#[non_exhaustive]
 pub enum Refusal {
     Address = 1,
     Slot = 2,
@@ -27,7 +29,7 @@ pub enum Refusal {
 }
 
 /// Every refusal, in the order of their numbers.
-pub const ALL: [Refusal; 18] = [
+pub const ALL: &[Refusal] = &[
     Refusal::Address,
     Refusal::Slot,
     Refusal::Hsa,
@@ -52,13 +54,6 @@ impl Refusal {
     /// Document 01's number.
     pub fn number(self) -> u8 {
         self as u8
-    }
-
-    /// The refusal with this number; none for 0 and above 18.
-    pub fn from_number(number: u8) -> Option<Refusal> {
-        ALL.iter()
-            .copied()
-            .find(|refusal| refusal.number() == number)
     }
 
     /// The column "When" of document 01's table.
@@ -106,6 +101,22 @@ impl Refusal {
             Refusal::Passive => Some("this station has no passive state"),
             _ => None,
         }
+    }
+}
+
+impl From<Refusal> for u8 {
+    /// Document 01's number.
+    fn from(refusal: Refusal) -> u8 {
+        refusal.number()
+    }
+}
+
+impl TryFrom<u8> for Refusal {
+    type Error = UnknownNumber;
+
+    /// The refusal with this number; 0 is none.
+    fn try_from(number: u8) -> Result<Refusal, UnknownNumber> {
+        with_number(ALL, Refusal::number, number, "a refusal")
     }
 }
 

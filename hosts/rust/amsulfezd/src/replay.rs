@@ -1,7 +1,7 @@
 //! The proved call, safe. Only where the static library is linked (see `build.rs`).
 
-use crate::answer::ANSWER_LENGTH;
-use crate::run::{NotARun, Run};
+use crate::answer::{Answer, ANSWER_LENGTH};
+use crate::run::{from_buffer, Run};
 use crate::trace::entries;
 
 extern "C" {
@@ -26,14 +26,14 @@ extern "C" {
 /// let mut trace = TraceBuilder::new(Header::new(5, 6, 1));
 /// trace.online();
 /// let mut buffer = [0; 64];
-/// let run = replay(&trace.into_bytes(), &mut buffer)?;
+/// let run = replay(&trace.into_bytes(), &mut buffer);
 /// assert_eq!((run.entries, run.ending), (1, None));
 /// for answer in from_buffer(&buffer, &run)? {
 ///     assert_eq!((answer.state, answer.next_station), (State::Offline, 5));
 /// }
-/// # Ok::<(), amsulfezd::run::NotARun>(())
+/// # Ok::<(), amsulfezd::answer::NotAnAnswer>(())
 /// ```
-pub fn replay(trace: &[u8], answers: &mut [u8]) -> Result<Run, NotARun> {
+pub fn replay(trace: &[u8], answers: &mut [u8]) -> Run {
     // SAFETY: both pointers come from slices and are valid for the lengths given, `trace` for reading and `answers` for
     // reading and writing; as `answers` is borrowed mutably the two do not overlap. The library keeps neither pointer,
     // and it is proved to stay inside both slices and to return.
@@ -45,13 +45,31 @@ pub fn replay(trace: &[u8], answers: &mut [u8]) -> Result<Run, NotARun> {
             answers.len(),
         )
     };
-    Run::from_returned(returned)
+    Run::try_from(returned).expect("the call is proved to return one of its ending numbers")
 }
 
-/// Runs a trace with room for the answer to every entry, and gives the run and the bytes of its answers.
-pub fn replay_whole(trace: &[u8]) -> Result<(Run, Vec<u8>), NotARun> {
-    let mut answers = vec![0; ANSWER_LENGTH * entries(trace).count()];
-    let run = replay(trace, &mut answers)?;
-    answers.truncate(ANSWER_LENGTH * run.entries as usize);
-    Ok((run, answers))
+/// Runs a trace with room for the answer to every entry, and gives the run and its answers.
+///
+/// ```
+/// use amsulfezd::answer::{Sent, State};
+/// use amsulfezd::record::Poll;
+/// use amsulfezd::replay::replay_whole;
+/// use amsulfezd::trace::{Header, TraceBuilder};
+///
+/// // Station 5 is alone on its bus: after the lost-token time, 6,400 us, it claims the token.
+/// let mut trace = TraceBuilder::new(Header::new(5, 6, 1));
+/// trace.online();
+/// trace.poll(&Poll::at(1_000))?;
+/// trace.poll(&Poll::at(7_400))?;
+/// let (run, answers) = replay_whole(&trace.into_bytes());
+/// assert_eq!(run.ending, None);
+/// assert_eq!(answers[2].state, State::ClaimToken);
+/// assert_eq!(answers[2].sent, Sent::Token { to: 5 });
+/// # Ok::<(), amsulfezd::record::Unfit>(())
+/// ```
+pub fn replay_whole(trace: &[u8]) -> (Run, Vec<Answer>) {
+    let mut buffer = vec![0; ANSWER_LENGTH * entries(trace).count()];
+    let run = replay(trace, &mut buffer);
+    let answers = from_buffer(&buffer, &run).expect("the call is proved to write answers");
+    (run, answers)
 }

@@ -5,7 +5,7 @@ use crate::refusal::Refusal;
 use std::fmt;
 
 /// How a run of a trace ended.
-#[derive(Debug, Clone, Copy, PartialEq, Eq)]
+#[derive(Debug, Clone, Copy, PartialEq, Eq, Hash)]
 pub struct Run {
     /// How many entries were answered.
     pub entries: u64,
@@ -14,21 +14,17 @@ pub struct Run {
 }
 
 impl Run {
-    /// What the call returned: entries answered × 256 + ending number.
-    pub fn from_returned(returned: u64) -> Result<Run, NotARun> {
-        Run::from_numbers(returned / 256, returned % 256)
-    }
-
     /// A run with this many entries answered and this ending number.
     fn from_numbers(entries: u64, ending: u64) -> Result<Run, NotARun> {
-        let refusal = u8::try_from(ending).ok().and_then(Refusal::from_number);
-        if ending != 0 && refusal.is_none() {
-            return Err(NotARun(format!("{} is not an ending number", ending)));
-        }
-        Ok(Run {
-            entries,
-            ending: refusal,
-        })
+        let refusal = |number| Refusal::try_from(u8::try_from(number).ok()?).ok();
+        let ending = match ending {
+            0 => None,
+            number => Some(
+                refusal(number)
+                    .ok_or_else(|| NotARun(format!("{} is not an ending number", number)))?,
+            ),
+        };
+        Ok(Run { entries, ending })
     }
 
     /// 0, or the number of the refusal.
@@ -37,11 +33,20 @@ impl Run {
     }
 }
 
+impl TryFrom<u64> for Run {
+    type Error = NotARun;
+
+    /// What the call returns: entries answered × 256 + ending number.
+    fn try_from(returned: u64) -> Result<Run, NotARun> {
+        Run::from_numbers(returned / 256, returned % 256)
+    }
+}
+
 /// The text that `replay` prints: each answer as 16 hexadecimal digits, then entries and ending number.
-pub fn to_text(answers: &[u64], run: &Run) -> String {
+pub fn to_text(answers: &[Answer], run: &Run) -> String {
     let mut text = String::new();
-    for word in answers {
-        text.push_str(&format!("{:016x}\n", word));
+    for &answer in answers {
+        text.push_str(&format!("{:016x}\n", u64::from(answer)));
     }
     text.push_str(&format!("{} {}\n", run.entries, run.ending_number()));
     text
@@ -74,7 +79,7 @@ pub fn from_text(text: &str) -> Result<(Vec<Answer>, Run), NotARun> {
     for line in lines {
         let word =
             digits(line).ok_or_else(|| NotARun(format!("not 16 hexadecimal digits: {}", line)))?;
-        read.push(Answer::from_word(word)?);
+        read.push(Answer::try_from(word)?);
     }
     Ok((read, run))
 }
@@ -94,7 +99,7 @@ pub fn from_buffer(buffer: &[u8], run: &Run) -> Result<Vec<Answer>, NotAnAnswer>
 }
 
 /// Something that no run returns or prints, in words.
-#[derive(Debug, Clone, PartialEq, Eq)]
+#[derive(Debug, Clone, PartialEq, Eq, Hash)]
 pub struct NotARun(String);
 
 impl fmt::Display for NotARun {

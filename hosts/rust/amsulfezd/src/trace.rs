@@ -13,7 +13,7 @@ pub const BAUD_RATES: [u32; 11] = [
 ];
 
 /// The settings at the head of a trace, each field as given. Whether they are accepted is the proved call's matter.
-#[derive(Debug, Clone, Copy, PartialEq, Eq)]
+#[derive(Debug, Clone, Copy, PartialEq, Eq, Hash)]
 pub struct Header {
     pub address: u8,
     pub baud: u8,
@@ -50,7 +50,7 @@ impl Header {
     }
 
     /// The header's 16 bytes.
-    pub fn to_bytes(self) -> Vec<u8> {
+    pub fn to_bytes(self) -> [u8; HEADER_LENGTH] {
         let mut first = Writer::default();
         first.put(8, u64::from(self.address));
         first.put(8, u64::from(self.baud));
@@ -65,8 +65,9 @@ impl Header {
         second.put(8, u64::from(self.watchdog_factors.0));
         second.put(8, u64::from(self.watchdog_factors.1));
         second.put(8, u64::from(self.zero));
-        let mut bytes = first.bytes(8);
-        bytes.extend(second.bytes(8));
+        let mut bytes = [0; HEADER_LENGTH];
+        bytes[..8].copy_from_slice(&first.word().to_be_bytes());
+        bytes[8..].copy_from_slice(&second.word().to_be_bytes());
         bytes
     }
 
@@ -106,7 +107,7 @@ impl Header {
 /// assert_eq!(entries(&trace.into_bytes()).count(), 4);
 /// # Ok::<(), amsulfezd::record::Unfit>(())
 /// ```
-#[derive(Debug, Clone)]
+#[derive(Debug, Clone, PartialEq, Eq, Hash)]
 pub struct TraceBuilder {
     applications: usize,
     bytes: Vec<u8>,
@@ -117,7 +118,7 @@ impl TraceBuilder {
     pub fn new(header: Header) -> TraceBuilder {
         TraceBuilder {
             applications: usize::from(header.applications),
-            bytes: header.to_bytes(),
+            bytes: header.to_bytes().to_vec(),
         }
     }
 
@@ -158,7 +159,7 @@ impl TraceBuilder {
 }
 
 /// An entry of a trace.
-#[derive(Debug, Clone, Copy, PartialEq, Eq)]
+#[derive(Debug, Clone, Copy, PartialEq, Eq, Hash)]
 pub enum Entry<'a> {
     Online,
     Offline,

@@ -1,6 +1,6 @@
 //! Answers, refusals and runs.
 
-use amsulfezd::answer::{answers, Answer, NotAnAnswer, Notice, Outcome, Sent, State};
+use amsulfezd::answer::{answers, Answer, Notice, Outcome, Sent, State, STATES};
 use amsulfezd::record::StationType;
 use amsulfezd::refusal::{Refusal, ALL};
 use amsulfezd::run::{from_buffer, from_text, to_text, Run};
@@ -25,10 +25,13 @@ fn the_answers_of_example_12() {
         sent: Sent::Token { to: 5 },
         ..LISTENS
     };
-    assert_eq!(LISTENS.to_word(), 0x0310_0000_0000_0014);
-    assert_eq!(claims.to_word(), 0x0242_1400_3000_0014);
-    assert_eq!(Answer::from_word(0x0310_0000_0000_0014), Ok(LISTENS));
-    assert_eq!(Answer::from_word(0x0242_1400_3000_0014), Ok(claims));
+    assert_eq!(u64::from(LISTENS), 0x0310_0000_0000_0014);
+    assert_eq!(u64::from(claims), 0x0242_1400_3000_0014);
+    assert_eq!(Answer::try_from(0x0310_0000_0000_0014), Ok(LISTENS));
+    assert_eq!(Answer::try_from(0x0242_1400_3000_0014), Ok(claims));
+    let bytes = [0x02, 0x42, 0x14, 0x00, 0x30, 0x00, 0x00, 0x14];
+    assert_eq!(Answer::try_from(bytes), Ok(claims));
+    assert_eq!(<[u8; 8]>::from(claims), bytes);
 }
 
 #[test]
@@ -54,8 +57,8 @@ fn an_answer_bit_by_bit() {
     };
     let bits = "00000 010 0011 100 1111111 00 101 1 11111111 1000 10 011 1010101 110 1111101 00";
     let word = u64::from_str_radix(&bits.replace(' ', ""), 2).unwrap();
-    assert_eq!(answer.to_word(), word);
-    assert_eq!(Answer::from_word(word), Ok(answer));
+    assert_eq!(u64::from(answer), word);
+    assert_eq!(Answer::try_from(word), Ok(answer));
 }
 
 #[test]
@@ -72,14 +75,14 @@ fn a_status_response_carries_its_type_and_a_refusal_its_number() {
         next_station: 9,
         ..LISTENS
     };
-    assert_eq!(Answer::from_word(word), Ok(answer));
+    assert_eq!(Answer::try_from(word), Ok(answer));
     let refused = Answer {
         refusal: Some(Refusal::Passive),
         outcome: Outcome::None,
         ..LISTENS
     };
-    assert_eq!(refused.to_word(), 0x8010_0000_0000_0014);
-    assert_eq!(Answer::from_word(0x8010_0000_0000_0014), Ok(refused));
+    assert_eq!(u64::from(refused), 0x8010_0000_0000_0014);
+    assert_eq!(Answer::try_from(0x8010_0000_0000_0014), Ok(refused));
 }
 
 #[test]
@@ -101,36 +104,53 @@ fn words_that_no_answer_has() {
         0x8310_0000_0000_0014, // a refusal with an outcome
         0x8010_0000_0100_0014, // a refusal with a telegram consumed
     ] {
-        assert_eq!(
-            Answer::from_word(word),
-            Err(NotAnAnswer(word)),
-            "{:016x}",
-            word
-        );
+        let error = Answer::try_from(word).expect_err("not an answer");
+        assert_eq!(error.word(), word);
     }
 }
 
 #[test]
 fn answers_are_read_from_a_buffer() {
     let mut buffer = vec![0xa5; 20];
-    buffer[..8].copy_from_slice(&LISTENS.to_word().to_be_bytes());
+    buffer[..8].copy_from_slice(&<[u8; 8]>::from(LISTENS));
     let all: Vec<_> = answers(&buffer).collect();
     assert_eq!(all.len(), 2, "four bytes are left out");
     assert_eq!(all[0], Ok(LISTENS));
     assert!(all[1].is_err(), "a fill pattern is no answer");
-    let run = Run::from_returned(256 + 18).unwrap();
+    let run = Run::try_from(256 + 18).unwrap();
     assert_eq!(from_buffer(&buffer, &run), Ok(vec![LISTENS]));
+}
+
+#[test]
+fn states_outcomes_and_types_have_document_01s_numbers() {
+    for (number, &state) in (0..).zip(STATES) {
+        assert_eq!(
+            (u8::from(state), State::try_from(number)),
+            (number, Ok(state))
+        );
+    }
+    assert_eq!(u8::from(State::AwaitStatusResponse), 8);
+    assert!(State::try_from(9).is_err());
+    assert_eq!(u8::from(Outcome::Delay), 4);
+    assert_eq!(Outcome::try_from(2), Ok(Outcome::Transmission));
+    assert!(Outcome::try_from(5).is_err());
+    assert_eq!(u8::from(StationType::InRing), 3);
+    assert_eq!(StationType::try_from(1), Ok(StationType::NotReady));
+    assert!(StationType::try_from(4).is_err());
 }
 
 #[test]
 fn refusals_have_document_01s_numbers() {
     let numbers: Vec<u8> = ALL.iter().map(|refusal| refusal.number()).collect();
     assert_eq!(numbers, (1..=18).collect::<Vec<u8>>());
-    for refusal in ALL {
-        assert_eq!(Refusal::from_number(refusal.number()), Some(refusal));
+    for &refusal in ALL {
+        assert_eq!(Refusal::try_from(refusal.number()), Ok(refusal));
+        assert_eq!(u8::from(refusal), refusal.number());
     }
-    assert_eq!(Refusal::from_number(0), None);
-    assert_eq!(Refusal::from_number(19), None);
+    assert!(Refusal::try_from(0).is_err());
+    let unknown = Refusal::try_from(19).expect_err("no refusal");
+    assert_eq!(unknown.number(), 19);
+    assert_eq!(unknown.to_string(), "19 is not the number of a refusal");
     assert_eq!(Refusal::Address.to_string(), "1 (address above 125)");
     assert_eq!(
         Refusal::ZeroBit.to_string(),
@@ -145,11 +165,11 @@ fn refusals_have_document_01s_numbers() {
 #[test]
 fn what_the_call_returns() {
     let run = |entries, ending| Ok(Run { entries, ending });
-    assert_eq!(Run::from_returned(0), run(0, None));
-    assert_eq!(Run::from_returned(6 * 256), run(6, None));
-    assert_eq!(Run::from_returned(5 * 256 + 17), run(5, Some(Refusal::Cut)));
-    assert_eq!(Run::from_returned(3), run(0, Some(Refusal::Hsa)));
-    assert!(Run::from_returned(256 + 19).is_err());
+    assert_eq!(Run::try_from(0), run(0, None));
+    assert_eq!(Run::try_from(6 * 256), run(6, None));
+    assert_eq!(Run::try_from(5 * 256 + 17), run(5, Some(Refusal::Cut)));
+    assert_eq!(Run::try_from(3), run(0, Some(Refusal::Hsa)));
+    assert!(Run::try_from(256 + 19).is_err());
 }
 
 #[test]
@@ -164,8 +184,7 @@ fn the_text_of_replay_reads_back() {
             ending: Some(Refusal::Cut)
         }
     );
-    let words: Vec<u64> = read.iter().map(Answer::to_word).collect();
-    assert_eq!(to_text(&words, &run), text);
+    assert_eq!(to_text(&read, &run), text);
     for (bad, word) in [
         ("", "no line"),
         ("0000000000000014\n", "last line"),

@@ -16,7 +16,10 @@ fn bytes(digits: &str) -> Vec<u8> {
 #[test]
 fn the_header_of_example_12() {
     let header = Header::new(5, 6, 1);
-    assert_eq!(header.to_bytes(), bytes("050600c800007eb40a7e010b01000000"));
+    assert_eq!(
+        header.to_bytes()[..],
+        bytes("050600c800007eb40a7e010b01000000")
+    );
     assert_eq!(Header::from_bytes(&header.to_bytes()), Some(header));
 }
 
@@ -36,7 +39,7 @@ fn each_field_of_a_header_has_its_place() {
         watchdog_factors: (0xf1, 0xf2),
         zero: 1,
     };
-    assert_eq!(header.to_bytes(), bytes(digits));
+    assert_eq!(header.to_bytes()[..], bytes(digits));
     assert_eq!(Header::from_bytes(&bytes(digits)), Some(header));
     assert_eq!(Header::from_bytes(&bytes(digits)[..15]), None);
 }
@@ -91,7 +94,7 @@ fn every_telegram_and_decision_reads_back() {
         telegrams.push(Telegram::status_request(address, other));
         telegrams.push(Telegram::request(address, other));
         for number in 0..4 {
-            let station_type = StationType::from_number(number);
+            let station_type = StationType::try_from(number).expect("a type");
             let status = address % 16;
             telegrams.push(Telegram::response_with_status(
                 address,

@@ -150,7 +150,7 @@ pub struct Story {
     tale: &'static str,
     header: Header,
     trace: TraceBuilder,
-    answers: Vec<u64>,
+    answers: Vec<Answer>,
     lines: Vec<String>,
     /// Bytes left out at the end, and the refusal that ends the run.
     cut: usize,
@@ -293,7 +293,7 @@ impl Story {
             next_station: self.next_station,
         };
         self.state = expected.state;
-        self.answers.push(answer.to_word());
+        self.answers.push(answer);
         self.lines.push(format!(
             "{:3}  {}: {}\n     {}",
             self.answers.len(),
@@ -401,5 +401,5 @@ fn fields(answer: &Answer) -> String {
     }
     parts.push(format!("next application {}", answer.next_application));
     parts.push(format!("next station {}", answer.next_station));
-    format!("{:016x}  {}", answer.to_word(), parts.join(", "))
+    format!("{:016x}  {}", u64::from(*answer), parts.join(", "))
 }

@@ -837,12 +837,15 @@ fn the_program_names_the_picture_after_the_file() {
 fn no_room_is_marked() {
     let mut replay = stored_replay("example12");
     replay.answers.truncate(3);
-    let words: Vec<u64> = replay.answers.iter().map(Answer::to_word).collect();
     let run = Run {
         entries: 3,
-        ending: amsulfezd::refusal::Refusal::from_number(18),
+        ending: Some(amsulfezd::refusal::Refusal::NoRoom),
     };
-    let picture = shows_the_run(&replay_of("room", replay.trace, &to_text(&words, &run)));
+    let picture = shows_the_run(&replay_of(
+        "room",
+        replay.trace,
+        &to_text(&replay.answers, &run),
+    ));
     assert_eq!(
         text_of(picture.only("end"), "number"),
         Some("18".to_string())
