@@ -106,8 +106,8 @@ host_cargo() {
     )
 }
 
-# The C compiler for x86-64 on another machine. Sets `cross`, a folder that its linker has to look into: Debian's libm.a for
-# it names files by where they are on x86-64, the one in the folder by where they are here.
+# The C compiler for x86-64 on another machine. Sets `cross`, a folder that its linker has to look into: Debian's libm.a
+# for it names files by where they are on x86-64, the one in the folder by where they are here.
 need_cross() {
     local libraries
     need x86_64-linux-gnu-gcc gcc-x86-64-linux-gnu libc6-dev-amd64-cross
@@ -139,7 +139,7 @@ c_host() {
     "${compile[@]}" "$@" target/staticlib/libamsulfezd.a -o "$output" || fail "the C host's $(basename "$output") does not build"
 }
 
-# Rust programs with the proved library linked are for x86-64, as the library is. After find_runner and need_linked_rust,
+# Rust programs with the proved library linked are for x86-64, as the library is. After find_runner and need_linked_rust
 # linked_cargo builds and tests them on any machine: on another one with a Rust that has the standard library for x86-64
 # and the C cross compiler as its linker, as static programs that the emulator runs. That Rust is the one on the PATH if
 # it has that library (rustup target add x86_64-unknown-linux-gnu), and else Debian's, which root can have, with the
@@ -182,8 +182,8 @@ need_linked_rust() {
         RUSTC_BOOTSTRAP=1 CARGO_UNSTABLE_DOCTEST_XCOMPILE=true)
 }
 
-# Sets `std` to a folder with the Rust standard library for x86-64 of the version that Debian's rustc has. The lists of packages
-# that apt-get reads for it are read into a folder of their own, so that the system's stay as they are.
+# Sets `std` to a folder with the Rust standard library for x86-64 of the version that Debian's rustc has. The lists of
+# packages that apt-get reads for it are read into a folder of their own, so that the system's stay as they are.
 debian_std() {
     local version part apt
     version=$(dpkg-query --show --showformat='${Version}' rustc 2>/dev/null) ||
@@ -202,8 +202,8 @@ debian_std() {
     [ -d "$std" ] || fail "Debian's package libstd-rust-dev:amd64 of version $version could not be had (target/cross/log)"
 }
 
-# emulated_object FILE: the emulator ends a program that reads /proc/self/maps, and the C library does so for the stack of the
-# main thread, which Rust asks for when a program starts. This object says instead that it is not known.
+# emulated_object FILE: the emulator ends a program that reads /proc/self/maps, and the C library does so for the stack
+# of the main thread, which Rust asks for when a program starts. This object says instead that it is not known.
 emulated_object() {
     echo 'int pthread_getattr_np(void); int pthread_getattr_np(void) { return 38; /* ENOSYS */ }' |
         x86_64-linux-gnu-gcc -x c -c - -o "$1" || fail "the C cross compiler does not compile"

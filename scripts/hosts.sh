@@ -1,7 +1,7 @@
 #!/usr/bin/env bash
 # Builds the C and Rust hosts of the proved library and runs their tests and examples. Part of make test.
-# On a machine that is not x86-64 what has the library linked, in C and in Rust, is cross-compiled and run under the toolchain's
-# emulator.
+# On a machine that is not x86-64 what has the library linked, in C and in Rust, is cross-compiled and run under the
+# toolchain's emulator.
 set -euo pipefail
 cd "$(dirname "$0")/.." || exit 1
 me="hosts"
@@ -36,8 +36,8 @@ compiles() {
     compiled=$((compiled + 1))
 }
 
-# The header is C99 and C++11 by gcc and, where it is there, by clang, with the call and without it; its readers and writers
-# are right in both languages; and it says which processor it is for.
+# The header is C99 and C++11 by gcc and, where it is there, by clang, with the call and without it; its readers and
+# writers are right in both languages; and it says which processor it is for.
 test_header() {
     local cc=("${compile[0]}" -x c -std=c99) cpp=(c++ -x c++ -std=c++11) link=() compiler said compiled=0
     if [ "$machine" = x86_64 ]; then
@@ -55,6 +55,10 @@ test_header() {
         compiles clang --target=x86_64-linux-gnu "${cc[@]:1}"
         compiles clang --target=x86_64-linux-gnu "${cpp[@]:1}"
     fi
+    # Without the call it is for any processor, this machine's as well.
+    if command -v cc >/dev/null 2>&1; then
+        compiles cc "${cc[@]:1}" -DAMSULFEZD_WITHOUT_CALL
+    fi
     ! said=$("${cc[@]}" -U__ELF__ -fsyntax-only hosts/c/fields.c 2>&1) || fail "hosts/c/amsulfezd.h compiles for any processor"
     [[ "$said" = *"libamsulfezd.a is for x86-64"* ]] || fail "hosts/c/amsulfezd.h does not say which processor it is for: $said"
     echo "C host: its header compiles as C99 and C++11 without a warning, in $compiled ways"
@@ -67,8 +71,8 @@ test_header() {
     test_planted_fields "${cc[@]}" "${link[@]}"
 }
 
-# test_planted_fields COMPILER WORD..: the test of the readers and writers finds each number of the header that is one too
-# large.
+# test_planted_fields COMPILER WORD..: the test of the readers and writers finds each number of the header that is one
+# too large.
 test_planted_fields() {
     local folder=$built/planted count at
     mkdir -p "$folder"
@@ -101,8 +105,8 @@ test_c_example() {
     echo "C host: its example prints what is stored"
 }
 
-# replay_all HOST COMMAND..: each trace of traces/ and of the pictures' tests, replayed by the host's example, is answered as
-# its story says.
+# replay_all HOST COMMAND..: each trace of traces/ and of the pictures' tests, replayed by the host's example, is
+# answered as its story says.
 replay_all() {
     local host=$1 count=0 trace
     shift
@@ -157,8 +161,8 @@ test_pictures() {
     echo "Pictures: $count drawn as they are stored, and one of 500 entries"
 }
 
-# The Rust host's tests hold with the proved library linked, and its example replays every trace. Where another machine than
-# x86-64 cannot have a Rust that links the library, one line says why this was not run.
+# The Rust host's tests hold with the proved library linked, and its example replays every trace. Where another machine
+# than x86-64 cannot have a Rust that links the library, one line says why this was not run.
 test_rust_linked() {
     local why
     if [ "$machine" != x86_64 ] && ! why=$( (need_linked_rust) 2>&1); then

@@ -1,8 +1,8 @@
 /*
  * Amsulfezd: a proved PROFIBUS FDL active station, for C (C99 and later) and C++ (C++11 and later).
  *
- * A trace is a header of 16 bytes and then entries: commands and poll records. The proved call amsulfezd_replay_trace runs
- * a trace and writes an answer of 8 bytes for each entry. In this file, in this order:
+ * A trace is a header of 16 bytes and then entries: commands and poll records. The proved call
+ * amsulfezd_replay_trace runs a trace and writes an answer of 8 bytes for each entry. In this file, in this order:
  *
  *   the numbers in traces and answers      enum amsulfezd_..
  *   the call                               amsulfezd_replay_trace, amsulfezd_entries, amsulfezd_ending
@@ -11,22 +11,23 @@
  *
  * example.c uses all four. The field widths are document 01's, "Station" and "Trace".
  *
- * Linking. `rt staticlib amsulfezd` proves the library and writes target/staticlib/libamsulfezd.a. From the repository's
- * root:
+ * Linking. `rt staticlib amsulfezd` proves the library and writes target/staticlib/libamsulfezd.a. From the
+ * repository's root:
  *
  *   cc -Ihosts/c program.c target/staticlib/libamsulfezd.a -o program
  *   cc -Ihosts/c program.c -Ltarget/staticlib -lamsulfezd -o program
  *
- * The library needs no other one. It is for x86-64 with the System V calling convention (ELF, 64-bit pointers), and for
- * no other target. Readers and writers are plain C, inline, and work anywhere: with AMSULFEZD_WITHOUT_CALL defined this
- * file has them and not the call.
+ * The library needs no other one. It is for x86-64 with the System V calling convention (ELF, 64-bit pointers), and
+ * for no other target. Readers and writers are plain C, inline, and work anywhere: with AMSULFEZD_WITHOUT_CALL
+ * defined this file has them and not the call.
  *
- * Stack. A call uses at most AMSULFEZD_STACK_BYTES of the caller's stack, its return address included, whatever the trace's
- * length. Measured: 2,145 bytes, with the library of the toolchain rattle-kit-5b. The method: the call runs on a stack of its
- * own that was filled with a pattern, and the deepest byte that changed is looked for, over all traces of traces/, one
- * of 100,000 entries and 1,000 traces made at random, which reach every state and every kind of send. hosts/c/stack.c does this and is part
- * of the tests, so that a library that uses more than AMSULFEZD_STACK_BYTES is found. The library's code agrees: it has no
- * recursion, takes no stack by a computed length, and calls nothing outside itself.
+ * Stack. A call uses at most AMSULFEZD_STACK_BYTES of the caller's stack, its return address included, whatever the
+ * trace's length. Measured: 2,145 bytes, with the library of the toolchain rattle-kit-5b. The method: the call runs on
+ * a stack of its own that was filled with a pattern, and the deepest byte that changed is looked for, over all traces
+ * of traces/, one of 100,000 entries and 1,000 traces made at random, which reach every state and every kind of send.
+ * hosts/c/stack.c does this and is part of the tests, so that a library that uses more than AMSULFEZD_STACK_BYTES is
+ * found. The library's code agrees: it has no recursion, takes no stack by a computed length, calls nothing outside
+ * itself, and its deepest way down comes to the same number.
  */
 #ifndef AMSULFEZD_H
 #define AMSULFEZD_H
@@ -42,7 +43,7 @@
 extern "C" {
 #endif
 
-/* ---- The numbers in traces and answers -------------------------------------------------------------------------- */
+/* ---- The numbers in traces and answers --------------------------------------------------------------------------- */
 
 /* The length of a trace's header and of an answer, in bytes. */
 #define AMSULFEZD_HEADER_LENGTH 16
@@ -161,8 +162,8 @@ enum amsulfezd_telegram_kind {
  * else is written. After 17 or 18 the answers before it stand. A refused header writes nothing. An entry that is
  * refused with 12 to 16 gets an answer with its number, and the run goes on.
  *
- * What the caller must ensure: `trace` points to trace_len readable bytes and `answers` to answers_len writable ones for
- * the time of the call; the two do not overlap; neither is NULL, not even with length 0; nobody else writes to
+ * What the caller must ensure: `trace` points to trace_len readable bytes and `answers` to answers_len writable ones
+ * for the time of the call; the two do not overlap; neither is NULL, not even with length 0; nobody else writes to
  * either during the call. Any content is allowed.
  *
  * Ownership: both stay the caller's. The call keeps no pointer and allocates nothing.
@@ -326,9 +327,9 @@ static inline const char *amsulfezd_state_name(unsigned state)
 /* ---- Writers of a trace ------------------------------------------------------------------------------------------ */
 
 /*
- * Each writes a header or an entry to the start of `to`, which has `room` bytes, and returns how many bytes it wrote. It
- * writes nothing and returns 0 where there is not room enough, or where a value does not fit its field. Whether what is
- * written is accepted is the call's matter, and its answer tells.
+ * Each writes a header or an entry to the start of `to`, which has `room` bytes, and returns how many bytes it wrote.
+ * It writes nothing and returns 0 where there is not room enough, or where a value does not fit its field. Whether
+ * what is written is accepted is the call's matter, and its answer tells.
  */
 
 /* The settings at the head of a trace. */
@@ -573,8 +574,8 @@ static inline uint64_t amsulfezd_telegram_word(const struct amsulfezd_telegram *
 }
 
 /*
- * Writes a poll as an entry: a byte with the record's length, which is 8 + 6 for each application + 4 for each telegram,
- * and the record. At most AMSULFEZD_ENTRY_LENGTH bytes.
+ * Writes a poll as an entry: a byte with the record's length, which is 8 + 6 for each application + 4 for each
+ * telegram, and the record. At most AMSULFEZD_ENTRY_LENGTH bytes.
  */
 static inline size_t amsulfezd_write_poll(uint8_t *to, size_t room, const struct amsulfezd_poll *poll)
 {

@@ -1,6 +1,6 @@
 /*
- * Writes a trace, replays it with the proved call and prints the state after each entry: a station alone on its bus claims
- * the token and asks station 20, which does not answer. From the repository's root:
+ * Writes a trace, replays it with the proved call and prints the state after each entry: a station alone on its bus
+ * claims the token and asks station 20, which does not answer. From the repository's root:
  *
  *   cc -Ihosts/c hosts/c/example.c target/staticlib/libamsulfezd.a -o target/example && target/example
  */

@@ -1,8 +1,8 @@
 /*
- * Tests the readers and writers of amsulfezd.h against bytes that are stated here by hand, from document 01: its example 12
- * and the trace and answers of docs/QUALIFICATION.md, part 5. It calls nothing of the library, and it is C99 and
- * C++11 at once, so that it shows that the header is both. hosts.sh plants faults in the header, each of which it must
- * find.
+ * Tests the readers and writers of amsulfezd.h against bytes that are stated here by hand, from document 01: its
+ * example 12 and the trace and answers of docs/QUALIFICATION.md, part 5. It calls nothing of the library, and it is C99
+ * and C++11 at once, so that it shows that the header is both. hosts.sh plants faults in the header, each of which it
+ * must find.
  *
  * usage: fields
  */
@@ -49,7 +49,7 @@ static size_t bytes_of(const char *digits, unsigned base, uint8_t *bytes)
     return count / to_a_byte;
 }
 
-/* ---- Readers ------------------------------------------------------------------------------------------------------- */
+/* ---- Readers ----------------------------------------------------------------------------------------------------- */
 
 /* An answer's fields, in their order. */
 enum { FIELDS = 15 };
@@ -128,8 +128,9 @@ static void test_numbers(void)
         AMSULFEZD_REFUSAL_CUT,
         AMSULFEZD_REFUSAL_NO_ROOM,
     };
-    static const unsigned outcomes[] = {AMSULFEZD_OUTCOME_NONE, AMSULFEZD_OUTCOME_OFFLINE, AMSULFEZD_OUTCOME_TRANSMISSION,
-                                        AMSULFEZD_OUTCOME_BUS, AMSULFEZD_OUTCOME_DELAY};
+    static const unsigned outcomes[] = {AMSULFEZD_OUTCOME_NONE, AMSULFEZD_OUTCOME_OFFLINE,
+                                        AMSULFEZD_OUTCOME_TRANSMISSION, AMSULFEZD_OUTCOME_BUS,
+                                        AMSULFEZD_OUTCOME_DELAY};
     static const unsigned states[] = {
         AMSULFEZD_STATE_OFFLINE,        AMSULFEZD_STATE_LISTEN_TOKEN,
         AMSULFEZD_STATE_ACTIVE_IDLE,    AMSULFEZD_STATE_USE_TOKEN,
@@ -167,7 +168,7 @@ static void test_numbers(void)
     }
 }
 
-/* ---- Writers ------------------------------------------------------------------------------------------------------- */
+/* ---- Writers ----------------------------------------------------------------------------------------------------- */
 
 /* Where the writers write: room for the longest entry, and bytes before and behind it that must keep their value. */
 enum { MARGIN = 16 };
@@ -234,7 +235,7 @@ static void test_header(void)
     header.factor_1 = 0xf1;
     header.factor_2 = 0xf2;
     fill();
-    wrote(amsulfezd_write_header(to, 17, &header), "7d 0a 1234 56789abc 64 7e 0f 0b 08 f1 f2 00", "a header, each field");
+    wrote(amsulfezd_write_header(to, 17, &header), "7d 0a 1234 56789abc 64 7e 0f 0b 08 f1 f2 00", "each field");
 }
 
 static void test_commands(void)

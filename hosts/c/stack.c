@@ -1,8 +1,8 @@
 /*
- * Measures the stack that the proved call uses, and holds it to AMSULFEZD_STACK_BYTES. The call runs on a stack of its own
- * that is filled with a pattern; afterwards the deepest byte that changed is looked for. The traces: those of the files
- * named, example 12's header with 100,000 times online, and traces made at random, until each state and each kind of
- * send has been seen and as many as are asked for have run. Built with -DFAULT the call takes more, which must be found.
+ * Measures the stack that the proved call uses, and holds it to AMSULFEZD_STACK_BYTES. The call runs on a stack of its
+ * own that is filled with a pattern; afterwards the deepest byte that changed is looked for. The traces: those of the
+ * files named, example 12's header with 100,000 times online, and as many made at random as are asked for; each state
+ * and each kind of send must have been seen. Built with -DFAULT the call takes more, which must be found.
  *
  * usage: stack TRACES FILE..
  */
