@@ -9,6 +9,7 @@
 //! | [`run`] | what the call returns, and the text that the program `replay` prints |
 //! | [`replay`] | the call itself, safe; only where the static library is linked |
 //! | [`explain`] | one line in words for each entry |
+//! | [`view`] | what is shown of a trace: a range of its entries, the notes beside it |
 //! | [`picture`] | a trace and its answers as a picture |
 //! | [`from_replay`] | the programs that read a trace and its answers and print a text |
 //!
@@ -29,3 +30,4 @@ pub mod refusal;
 pub mod replay;
 pub mod run;
 pub mod trace;
+pub mod view;

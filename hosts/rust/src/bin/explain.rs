@@ -6,6 +6,6 @@ use amsulfezd_host::from_replay::print;
 
 fn main() {
     print("explain", |replay| {
-        explain(&replay.trace, &replay.answers, &replay.run)
+        explain(&replay.trace, &replay.answers, &replay.run, &replay.view)
     });
 }

@@ -8,6 +8,7 @@ use amsulfezd_host::record::{Poll, StationType, Telegram};
 use amsulfezd_host::refusal::Refusal;
 use amsulfezd_host::run::{to_text, Run};
 use amsulfezd_host::trace::{Header, TraceBuilder};
+use amsulfezd_host::view::Note;
 
 /// The program `replay` reads no more.
 const LARGEST: usize = 4096;
@@ -152,6 +153,7 @@ pub struct Story {
     trace: TraceBuilder,
     answers: Vec<u64>,
     lines: Vec<String>,
+    notes: Vec<Note>,
     /// Bytes left out at the end, and the refusal that ends the run.
     cut: usize,
     ending: Option<Refusal>,
@@ -176,6 +178,7 @@ impl Story {
             trace: TraceBuilder::new(header),
             answers: Vec::new(),
             lines: Vec::new(),
+            notes: Vec::new(),
             cut: 0,
             ending: None,
             state: State::Offline,
@@ -192,6 +195,12 @@ impl Story {
     /// From the next entry on, answers carry this next application.
     pub fn next_application(&mut self, application: u8) {
         self.next_application = application;
+    }
+
+    /// Something that happened beside the bus, which no entry tells.
+    pub fn note(&mut self, clock: u64, words: &str) {
+        let words = words.to_string();
+        self.notes.push(Note { clock, words });
     }
 
     /// The station is put online: the state stays as it is until the next poll.
@@ -318,6 +327,14 @@ impl Story {
             ending: self.ending,
         };
         to_text(&self.answers, &run)
+    }
+
+    /// The notes beside the trace, a line for each; empty if there are none.
+    pub fn notes(&self) -> String {
+        let notes = self.notes.iter();
+        notes
+            .map(|note| format!("{} {}\n", note.clock, note.words))
+            .collect()
     }
 
     /// The story in words.
