@@ -1,5 +1,5 @@
 # The commands of README.md. Each is a script under scripts/, which says on one line what it lacks.
-# TRACE=file, OUT=file, SEED=n and COUNT=m on the command line reach the scripts through the environment.
+# TRACE=file, OUT=file, FROM=n, TO=m, SEED=n and COUNT=m on the command line reach the scripts through the environment.
 .PHONY: test replay explain picture compare speed figures
 
 test:

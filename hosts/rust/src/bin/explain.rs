@@ -1,5 +1,5 @@
-//! Explains a trace in words: reads the trace from a file and its answers, as the program `replay` prints them, from
-//! standard input.
+//! Explains a trace, or a range of its entries, in words: reads the trace and its notes from files and its answers, as the
+//! program `replay` prints them, from standard input.
 
 use amsulfezd_host::explain::explain;
 use amsulfezd_host::from_replay::print;

@@ -6,7 +6,7 @@ use super::events::{events, label_lines, Event, Kind, ASIDE};
 use super::lanes::{draw_lanes, draw_row_names};
 use super::layout::{
     lanes, Column, Columns, Row, Rows, EVENT, GUTTER, HEADING, LABEL, LONGEST_COMMAND, MARGIN,
-    NAME, SMALL, TINY,
+    NAME, SMALL, THIRD, TINY,
 };
 use super::legend::{draw_legend, state_class, STYLE};
 use super::presence::stays;
@@ -563,13 +563,13 @@ impl<'a> Bus<'a> {
             let base = row.base(LABEL);
             self.svg
                 .text("block-name", middle, base, LABEL, Anchor::Middle, name);
-        } else if text_width(longest, TINY) + 2 <= width {
-            let above = TINY * parts.len() as Px + parts.len() as Px;
+        } else if text_width(longest, THIRD) + 2 <= width {
+            let above = THIRD * parts.len() as Px + parts.len() as Px;
             let mut y = row.top + (row.height - above) / 2;
             for part in &parts {
-                y += TINY + 1;
+                y += THIRD + 1;
                 self.svg
-                    .text("block-name", middle, y - 2, TINY, Anchor::Middle, part);
+                    .text("block-name", middle, y - 2, THIRD, Anchor::Middle, part);
             }
         }
     }

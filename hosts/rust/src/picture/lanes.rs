@@ -86,7 +86,7 @@ pub fn draw_lanes(svg: &mut Svg, own: u8, rows: &Rows, columns: &Columns, stays:
     svg.close("g");
 }
 
-/// The parts of the lane of a stay: thin where the station was sent to but not heard, or not any more.
+/// The parts of the lane of a stay: dotted where the station was named but not heard yet, or not any more.
 fn parts(stay: &Stay, columns: &Columns) -> Vec<Part> {
     let begin = columns.before(stay.first);
     let end = stay

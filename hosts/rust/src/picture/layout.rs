@@ -8,10 +8,12 @@ use crate::explain::{thousands, Line};
 use crate::trace::Entry;
 use std::ops::Range;
 
-/// The sizes of type: of most labels, of small ones inside a column, of the heading's lines.
+/// The sizes of type: of most labels, of small ones inside a column, of a state's name on three lines, of what is turned
+/// inside the narrowest column, of the heading's lines.
 pub const LABEL: Px = 11;
 pub const SMALL: Px = 10;
-pub const TINY: Px = 9;
+pub const THIRD: Px = 9;
+pub const TINY: Px = 8;
 pub const HEADING: Px = 12;
 pub const NAME: Px = 17;
 
@@ -26,7 +28,7 @@ const WIDEST_COLUMN: Px = 110;
 /// .. those of some more fill a page as long as they are not narrower than this, ..
 const NARROWEST_ON_PAGE: Px = 48;
 /// .. beyond that the columns together are about as wide as this, ..
-const WISHED: Px = 1680;
+const WISHED: Px = 1700;
 /// .. and never narrower.
 const NARROWEST_COLUMN: Px = 8;
 /// The width of the column before a range of entries, which shows what the entries before it led to.

@@ -151,7 +151,7 @@ fn groups() -> Vec<(&'static str, Vec<(Sample, String)>)> {
             "lane",
             worded(&[
                 (Sample::Present, "station on the bus"),
-                (Sample::Silent, "sent to, but not heard"),
+                (Sample::Silent, "named, but not heard"),
                 (Sample::LastHeard, "last heard"),
                 (Sample::Left, "out of the ring: took none of three tokens"),
             ]),

@@ -27,7 +27,7 @@ impl Stay {
         let mut words = format!("station {}: ", self.address);
         words.push_str(&match self.heard {
             Some((first, last)) => format!("heard from entry {} to entry {}", first + 1, last + 1),
-            None => format!("sent to in entry {}, not heard", self.first + 1),
+            None => format!("named in entry {}, not heard", self.first + 1),
         });
         if let Some(left) = self.left {
             words.push_str(&format!(", out of the ring with entry {}", left + 1));
