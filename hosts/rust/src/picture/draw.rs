@@ -9,7 +9,7 @@ use super::layout::{
     NAME, SMALL, THIRD, TINY,
 };
 use super::legend::{draw_legend, state_class, STYLE};
-use super::presence::stays;
+use super::presence::{stays, Stay};
 use super::shapes::{
     arrow_shape, lane_end_shape, last_heard_shape, loop_shape, notice_shape, pending_shape,
     refusal_shape,
@@ -24,55 +24,89 @@ use std::ops::Range;
 
 /// The text of the picture of a replay.
 pub fn draw(replay: &Replay, explained: &Explanation) -> String {
-    let own = explained.header.map_or(0, |header| header.address);
-    let all = &explained.lines;
-    let shown = replay.view.shown(all.len());
-    let arrows: Vec<Vec<Arrow>> = all.iter().map(|line| arrows(own, line)).collect();
-    let stays = stays(own, all, &arrows);
-    let mut columns = Columns::of(shown.clone(), &arrows);
-    let events = events(own, all, &stays, &replay.view.notes, &columns);
-    for event in &events {
-        columns.width = columns.width.max(event.end() + MARGIN);
-    }
+    let scene = Scene::of(replay, explained);
+    let width = scene.columns.text_width();
     let mut svg = Svg::default();
-    let mut bottom = draw_heading(&mut svg, replay, explained, columns.text_width());
-    if !all.is_empty() {
-        let lines = &all[shown.clone()];
-        let lanes = lanes(own, shown.clone(), &arrows, &stays);
-        let ending = replay.run.ending.filter(|_| shown.end == all.len());
-        let event_lines = label_lines(&events);
-        let rows = Rows::of(
-            bottom,
-            lines,
-            &lanes,
-            event_lines,
-            ending.is_some(),
-            &columns,
-        );
-        draw_row_names(&mut svg, &rows);
-        draw_lanes(&mut svg, own, &rows, &columns, &stays);
-        let mut bus = Bus {
-            svg: &mut svg,
-            all,
-            shown: shown.clone(),
-            arrows: &arrows[shown.clone()],
-            columns: &columns,
-            rows: &rows,
-        };
-        bus.draw_entries();
-        bus.draw_events(&events);
-        bus.draw_blocks();
-        bus.draw_lead_in();
-        if let Some(refusal) = ending {
-            bus.draw_ending(refusal, &explained.ending);
-        }
-        bottom = draw_legend(&mut svg, rows.bottom + 8, columns.text_width());
+    let mut bottom = draw_heading(&mut svg, replay, explained, width);
+    if !scene.all.is_empty() {
+        let ending = replay
+            .run
+            .ending
+            .map(|refusal| (refusal, &explained.ending[..]));
+        bottom = draw_bus(&mut svg, &scene, bottom, ending);
+        bottom = draw_legend(&mut svg, bottom + 8, width);
     }
-    let width = columns.text_width();
     bottom = draw_text(&mut svg, "footer", bottom + 6, width, &explained.ending);
-    let description = description(explained, &events);
-    let (width, height) = (columns.width, bottom + MARGIN);
+    let description = description(explained, &scene.events);
+    let (width, height) = (scene.columns.width, bottom + MARGIN);
     whole(svg, &replay.name, &description, width, height)
+}
+
+/// What is drawn, and where from left to right.
+struct Scene<'a> {
+    own: u8,
+    /// Every line, and which of them are shown.
+    all: &'a [Line<'a>],
+    shown: Range<usize>,
+    /// The arrows of every line.
+    arrows: Vec<Vec<Arrow>>,
+    stays: Vec<Stay>,
+    events: Vec<Event>,
+    columns: Columns,
+}
+
+impl<'a> Scene<'a> {
+    fn of(replay: &Replay, explained: &'a Explanation) -> Scene<'a> {
+        let own = explained.header.map_or(0, |header| header.address);
+        let all = &explained.lines[..];
+        let shown = replay.view.shown(all.len());
+        let arrows: Vec<Vec<Arrow>> = all.iter().map(|line| arrows(own, line)).collect();
+        let stays = stays(own, all, &arrows);
+        let mut columns = Columns::of(shown.clone(), &arrows);
+        let events = events(own, all, &stays, &replay.view.notes, &columns);
+        for event in &events {
+            columns.width = columns.width.max(event.end() + MARGIN);
+        }
+        Scene {
+            own,
+            all,
+            shown,
+            arrows,
+            stays,
+            events,
+            columns,
+        }
+    }
+}
+
+/// Draws rows and lanes from `top` on, with the mark and the words of a trace that was not read to its end if its last
+/// entry is shown; gives where they end.
+fn draw_bus(svg: &mut Svg, scene: &Scene, top: Px, ending: Option<(Refusal, &str)>) -> Px {
+    let (all, shown, columns) = (scene.all, &scene.shown, &scene.columns);
+    let ending = ending.filter(|_| shown.end == all.len());
+    let lanes = lanes(scene.own, shown.clone(), &scene.arrows, &scene.stays);
+    let lines = &all[shown.clone()];
+    let event_lines = label_lines(&scene.events);
+    let marked = ending.is_some();
+    let rows = Rows::of(top, lines, &lanes, event_lines, marked, columns);
+    draw_row_names(svg, &rows);
+    draw_lanes(svg, scene.own, &rows, columns, &scene.stays);
+    let mut bus = Bus {
+        svg,
+        all,
+        shown: shown.clone(),
+        arrows: &scene.arrows[shown.clone()],
+        columns,
+        rows: &rows,
+    };
+    bus.draw_entries();
+    bus.draw_events(&scene.events);
+    bus.draw_blocks();
+    bus.draw_lead_in();
+    if let Some((refusal, words)) = ending {
+        bus.draw_ending(refusal, words);
+    }
+    rows.bottom
 }
 
 /// The picture in a few words, for a reader who does not see it.
