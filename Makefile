@@ -15,10 +15,10 @@ test: ## [RT_JOBS=n] [SEED=n] [TRACES=m] the gate: checks, proofs from nothing, 
 replay: ## [TRACE=file] replays a trace with the proved program: answers as hexadecimal digits
 	@bash scripts/replay.sh
 
-explain: ## [TRACE=file] the same answers in words, a line for each entry
+explain: ## [TRACE=file] [FROM=n] [TO=m] the same answers in words, a line for each entry
 	@bash scripts/explain.sh
 
-picture: ## [TRACE=file] [OUT=file] the same as a picture that any browser opens
+picture: ## [TRACE=file] [OUT=file] [FROM=n] [TO=m] the same as a picture that any browser opens
 	@bash scripts/picture.sh
 
 compare: ## [SEED=n] [COUNT=m] m generated traces of seed n through the proved library and the published Rust

@@ -132,13 +132,13 @@ test_rust() {
     echo "Rust host: $(awk '/^test result: ok/ { n += $4 } END { print n + 0 }' <<<"$said") tests hold, $words"
 }
 
-# picture TRACE OUT: what make picture prints.
+# picture TRACE OUT [FROM TO]: what make picture prints.
 picture() {
-    TRACE=$1 OUT=$2 bash scripts/picture.sh 2>&1
+    TRACE=$1 OUT=$2 FROM=${3:-} TO=${4:-} bash scripts/picture.sh 2>&1
 }
 
-# make picture draws each stored picture anew, byte for byte, from the proved program's answers, and 500 entries from the
-# proved library's; a trace that is not there is said on one line; no other file is left.
+# make picture draws each stored picture anew, byte for byte, from the proved program's answers, README's too, and 500
+# entries from the proved library's; a trace or a range that is not there is said on one line; no other file is left.
 test_pictures() {
     local folder=target/hosts/pictures tests=hosts/rust/tools/tests/pictures stored name out said count=0
     { rm -rf "$folder" && mkdir -p "$folder"; } || fail "$folder could not be made"
@@ -150,6 +150,10 @@ test_pictures() {
         cmp "$stored" "$out" || fail "make picture draws traces/$name.trace otherwise than it is stored"
         count=$((count + 1))
     done
+    out=$folder/readme.svg
+    { said=$(picture traces/night.trace "$out" 18 30) && [ "$said" = "$out" ]; } ||
+        fail "make picture TRACE=traces/night.trace FROM=18 TO=30 says: $said"
+    cmp docs/night.svg "$out" || fail "make picture draws entries 18 to 30 of traces/night.trace otherwise than docs/night.svg"
     out=$folder/long.svg
     { said=$(picture "$tests/long.trace" "$out") && [ "$said" = "$out" ]; } ||
         fail "make picture does not draw the long trace: $said"
@@ -157,8 +161,12 @@ test_pictures() {
     ! said=$(picture "$folder/nosuch.trace" "$folder/nosuch.svg") || fail "make picture draws a trace that is not there"
     [ "$said" = "make picture: there is no file $folder/nosuch.trace" ] || fail "make picture of no trace says: $said"
     ! said=$(picture traces/night.trace "$folder/nosuch/night.svg") || fail "make picture draws into no folder"
-    [ "$(find "$folder" -type f | wc -l)" -eq $((count + 1)) ] || fail "make picture left other files in $folder"
-    echo "Pictures: $count drawn as they are stored, and one of 500 entries"
+    ! said=$(picture traces/night.trace "$folder/nosuch.svg" 30 18) || fail "make picture draws a range that ends before it begins"
+    [ "$said" = "picture: FROM=30 is after TO=18" ] || fail "make picture of no range says: $said"
+    { said=$(TRACE=traces/night.trace FROM=24 TO=27 bash scripts/explain.sh) && [ "$(grep -c '^ *[0-9*]' <<<"$said")" -eq 5 ]; } ||
+        fail "make explain does not give four entries and a note: $said"
+    [ "$(find "$folder" -type f | wc -l)" -eq $((count + 2)) ] || fail "make picture left other files in $folder"
+    echo "Pictures: $count and README's drawn as they are stored, and one of 500 entries"
 }
 
 # The Rust host's tests hold with the proved library linked, and its example replays every trace. Where another machine

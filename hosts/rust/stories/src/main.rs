@@ -46,14 +46,19 @@ fn stories() -> Vec<Story> {
     all
 }
 
-/// The files of a story: path and content.
+/// The files of a story: path and content. Few stories have notes.
 fn files(folder: &Path, story: &Story) -> Vec<(PathBuf, Vec<u8>)> {
     let path = |ending: &str| folder.join(format!("{}.{}", story.name, ending));
-    vec![
+    let mut files = vec![
         (path("trace"), story.trace()),
         (path("txt"), story.text().into_bytes()),
         (path("answers"), story.answers().into_bytes()),
-    ]
+    ];
+    let notes = story.notes();
+    if !notes.is_empty() {
+        files.push((path("notes"), notes.into_bytes()));
+    }
+    files
 }
 
 /// Writes every file of every story.

@@ -112,6 +112,7 @@ pub fn story() -> Story {
         sends_token(CheckTokenPass, 9),
         "the token goes to the panel once more; it ends 34 us before 02:10:00. The panel never takes it up",
     );
+    story.note(pulled, "the panel's plug is pulled");
     story.poll(
         Poll::at(pulled),
         bus(CheckTokenPass),

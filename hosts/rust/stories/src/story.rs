@@ -152,6 +152,8 @@ pub struct Story {
     trace: TraceBuilder,
     answers: Vec<Answer>,
     lines: Vec<String>,
+    /// What happened beside the bus: the clock, and words.
+    notes: Vec<(u64, &'static str)>,
     /// Bytes left out at the end, and the refusal that ends the run.
     cut: usize,
     ending: Option<Refusal>,
@@ -176,6 +178,7 @@ impl Story {
             trace: TraceBuilder::new(header),
             answers: Vec::new(),
             lines: Vec::new(),
+            notes: Vec::new(),
             cut: 0,
             ending: None,
             state: State::Offline,
@@ -192,6 +195,11 @@ impl Story {
     /// From the next entry on, answers carry this next application.
     pub fn next_application(&mut self, application: u8) {
         self.next_application = application;
+    }
+
+    /// Something that happened beside the bus, which no entry tells.
+    pub fn note(&mut self, clock: u64, words: &'static str) {
+        self.notes.push((clock, words));
     }
 
     /// The station is put online: the state stays as it is until the next poll.
@@ -318,6 +326,14 @@ impl Story {
             ending: self.ending,
         };
         to_text(&self.answers, &run)
+    }
+
+    /// The notes beside the trace, a line for each; empty if there are none.
+    pub fn notes(&self) -> String {
+        let notes = self.notes.iter();
+        notes
+            .map(|(clock, words)| format!("{} {}\n", clock, words))
+            .collect()
     }
 
     /// The story in words.

@@ -41,6 +41,8 @@ fn the_files_are_what_their_stories_say() {
         format!("{} traces are what their stories say\n", there),
         "no trace lies there without a story"
     );
+    let notes = [traces().join("night.notes")];
+    assert_eq!(files(&traces(), "notes"), notes, "only the night has notes");
 }
 
 #[test]

@@ -1,6 +1,7 @@
 //! One line in words for each entry of a trace, made from the trace and the answers that the proved program or library
 //! gave. Nothing is worked out anew: the state before an entry is the one that the answer before it carries.
 
+use crate::view::{Note, View};
 use amsulfezd::answer::{Answer, Notice, Outcome, Sent, State};
 use amsulfezd::record::{Poll, Telegram};
 use amsulfezd::refusal::Refusal;
@@ -10,17 +11,26 @@ use amsulfezd::words::counted;
 pub use amsulfezd::words::{settings, thousands};
 use std::fmt;
 
-/// Explains a run: the settings, a line for each entry, and how it ended.
-pub fn explain(trace: &[u8], answers: &[Answer], run: &Run) -> Result<String, NotThisTrace> {
+/// Explains a run: the settings, a line for each entry that is shown, and how it ended.
+pub fn explain(
+    trace: &[u8],
+    answers: &[Answer],
+    run: &Run,
+    view: &View,
+) -> Result<String, NotThisTrace> {
     let explained = Explanation::of(trace, answers, run)?;
-    let settings = match &explained.header {
-        Some(header) => format!("{}\n\n", settings(header)),
+    let range = match &view.range {
+        Some(range) => format!("{}\n", range),
+        None => String::new(),
+    };
+    let heading = match &explained.header {
+        Some(header) => format!("{}\n{}\n", settings(header), range),
         None => String::new(),
     };
     Ok(format!(
         "{}{}{}\n",
-        settings,
-        table(&explained.lines),
+        heading,
+        table(&explained.lines, view),
         explained.ending
     ))
 }
@@ -57,9 +67,24 @@ impl<'a> Explanation<'a> {
     }
 }
 
+/// What does not happen in a quiet ring, as far as an answer tells it.
+#[derive(Debug, Clone, Copy, PartialEq, Eq)]
+pub enum Alarm {
+    /// The next station took none of three tokens: it is out of the ring.
+    Left(u8),
+    /// The token is lost, and our station claims it.
+    Claim,
+    /// Our own address was heard twice: our station goes offline, ..
+    Offline,
+    /// .. or leaves the ring and listens.
+    Listens,
+}
+
 /// An entry with its answer, and the words for both.
 #[derive(Debug, Clone)]
 pub struct Line<'a> {
+    /// Counted from 1.
+    pub number: usize,
     pub entry: Entry<'a>,
     /// What a poll record says, if it has a poll record's length. A refused record's is not what the station took in.
     pub poll: Option<Poll>,
@@ -72,9 +97,15 @@ pub struct Line<'a> {
     pub came: String,
     /// What the station did, and why.
     pub did: String,
+    pub alarm: Option<Alarm>,
 }
 
 impl Line<'_> {
+    /// The clock of a poll that was accepted.
+    pub fn accepted_clock(&self) -> Option<u64> {
+        self.clock.filter(|_| self.answer.refusal.is_none())
+    }
+
     /// The clock in words; nothing where there is none.
     pub fn clock_words(&self) -> String {
         self.clock
@@ -89,6 +120,13 @@ impl Line<'_> {
             format!("{:?} → {:?}", self.before, self.answer.state)
         }
     }
+}
+
+/// Before which line a note stands: that of the first accepted poll which is not earlier. After the last one if there
+/// is none.
+pub fn place_of(note: &Note, lines: &[Line]) -> usize {
+    let not_earlier = |line: &Line| line.accepted_clock() >= Some(note.clock);
+    lines.iter().position(not_earlier).unwrap_or(lines.len())
 }
 
 /// The answers given are not those of the trace given.
@@ -122,9 +160,10 @@ fn lines<'a>(
         next_station: header.address,
     };
     let mut lines = Vec::new();
-    for (entry, answer) in entries(trace).zip(answers) {
-        let line = line(entry, header, &before, answer)
-            .ok_or_else(|| NotThisTrace(format!("entry {} has another form", lines.len() + 1)))?;
+    for (index, (entry, answer)) in entries(trace).zip(answers).enumerate() {
+        let number = index + 1;
+        let line = line(number, entry, header, &before, answer)
+            .ok_or_else(|| NotThisTrace(format!("entry {} has another form", number)))?;
         lines.push(line);
         before = Before {
             state: answer.state,
@@ -137,6 +176,7 @@ fn lines<'a>(
 
 /// The line of one entry; none if the answer cannot be this entry's.
 fn line<'a>(
+    number: usize,
     entry: Entry<'a>,
     header: &Header,
     before: &Before,
@@ -167,6 +207,7 @@ fn line<'a>(
         },
     };
     Some(Line {
+        number,
         entry,
         poll,
         before: before.state,
@@ -174,11 +215,33 @@ fn line<'a>(
         clock: Poll::clock_of(record),
         came,
         did: did + &changes(before, answer),
+        alarm: alarm(before, answer),
     })
 }
 
-/// The lines with their parts in columns.
-fn table(lines: &[Line]) -> String {
+/// What an answer tells that does not happen in a quiet ring. A token that goes out while the pass before is checked
+/// says that the slot time is over; with another next station, it was the third.
+fn alarm(before: &Before, answer: &Answer) -> Option<Alarm> {
+    let sent_token = matches!(answer.sent, Sent::Token { .. });
+    match (before.state, answer.state) {
+        (_, State::ClaimToken) if sent_token => Some(Alarm::Claim),
+        (State::CheckTokenPass, _) if sent_token && answer.next_station != before.next_station => {
+            Some(Alarm::Left(before.next_station))
+        }
+        (_, State::Offline) if answer.outcome == Outcome::Bus => Some(Alarm::Offline),
+        (State::ActiveIdle, State::ListenToken) | (State::CheckTokenPass, State::ListenToken)
+            if answer.outcome == Outcome::Bus =>
+        {
+            Some(Alarm::Listens)
+        }
+        _ => None,
+    }
+}
+
+/// The lines that are shown with their parts in columns, and the notes between them.
+fn table(all: &[Line], view: &View) -> String {
+    let shown = view.shown(all.len());
+    let lines = &all[shown.clone()];
     /// A longer text than this is not waited for.
     const WIDEST: usize = 52;
     let width = |of: fn(&Line) -> String| {
@@ -191,11 +254,24 @@ fn table(lines: &[Line]) -> String {
     let clock = width(|line| line.clock_words());
     let came = width(|line| line.came.clone());
     let state = width(|line| line.state_words());
+    let places: Vec<usize> = view.notes.iter().map(|note| place_of(note, all)).collect();
+    let notes_before = |place: usize| -> String {
+        let here = places
+            .iter()
+            .zip(&view.notes)
+            .filter(|(&at, _)| at == place);
+        here.map(|(_, note)| {
+            let at = format!("{} us", thousands(note.clock));
+            format!("   *  {:>clock$}  {}\n", at, note.words, clock = clock)
+        })
+        .collect()
+    };
     let mut text = String::new();
-    for (index, line) in lines.iter().enumerate() {
+    for (place, line) in shown.clone().zip(lines) {
+        text.push_str(&notes_before(place));
         text.push_str(&format!(
             "{:4}  {:>clock$}  {:came$}  {:state$}  {}\n",
-            index + 1,
+            line.number,
             line.clock_words(),
             line.came,
             line.state_words(),
@@ -205,7 +281,10 @@ fn table(lines: &[Line]) -> String {
             state = state
         ));
     }
-    if !lines.is_empty() {
+    if shown.end == all.len() {
+        text.push_str(&notes_before(all.len()));
+    }
+    if !text.is_empty() {
         text.push('\n');
     }
     text
@@ -365,21 +444,23 @@ fn sent_token(own: u8, before: &Before, answer: &Answer, to: u8) -> String {
     } else {
         ""
     };
-    match before.state {
-        _ if answer.state == State::ClaimToken => format!(
+    match (before.state, alarm(before, answer)) {
+        (_, Some(Alarm::Claim)) => format!(
             "no activity for the lost-token time: claims the token, sent it {}",
             to_whom
         ),
-        State::ClaimToken => format!("claims the token a second time, sent it {}{}", to_whom, holds),
-        State::CheckTokenPass if answer.next_station == before.next_station => format!(
+        (_, Some(Alarm::Left(station))) => format!(
+            "no sign of life from {} after three tokens, it is out of the ring: sent the token {}{}",
+            station, to_whom, holds
+        ),
+        (State::ClaimToken, _) => {
+            format!("claims the token a second time, sent it {}{}", to_whom, holds)
+        }
+        (State::CheckTokenPass, _) => format!(
             "no sign of life from {} within the slot time: sent the token again {}",
             to, to_whom
         ),
-        State::CheckTokenPass => format!(
-            "no sign of life from {} after three tokens, it is out of the ring: sent the token {}{}",
-            before.next_station, to_whom, holds
-        ),
-        State::AwaitStatusResponse => format!(
+        (State::AwaitStatusResponse, _) => format!(
             "no answer to the gap poll within the slot time: sent the token {}{}",
             to_whom, holds
         ),
@@ -406,11 +487,18 @@ fn waited(own: u8, before: &Before, poll: &Poll, answer: &Answer) -> String {
 
 /// Outcome 3: nothing can be done before something happens on the bus.
 fn waited_for_bus(own: u8, before: &Before, poll: &Poll, answer: &Answer) -> String {
-    match (before.state, answer.state) {
-        (_, State::Offline) => "second telegram from its own address: goes offline".to_string(),
-        (State::ActiveIdle, State::ListenToken) | (State::CheckTokenPass, State::ListenToken) => {
+    match alarm(before, answer) {
+        Some(Alarm::Offline) => "second telegram from its own address: goes offline".to_string(),
+        Some(Alarm::Listens) => {
             "second token in a row from its own address: leaves the ring and listens".to_string()
         }
+        _ => waited_in_quiet(own, before, poll, answer),
+    }
+}
+
+/// Outcome 3, and our own address was not heard twice.
+fn waited_in_quiet(own: u8, before: &Before, poll: &Poll, answer: &Answer) -> String {
+    match (before.state, answer.state) {
         (State::AwaitDataResponse, State::ActiveIdle) => {
             "not the reply that it waits for: gives the token up".to_string()
         }

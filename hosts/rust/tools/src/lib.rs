@@ -3,6 +3,7 @@
 //! | Module | What it holds |
 //! |---|---|
 //! | [`explain`] | one line in words for each entry |
+//! | [`view`] | what is shown of a trace: a range of its entries, the notes beside it |
 //! | [`picture`] | a trace and its answers as a picture |
 //! | [`from_replay`] | the programs that read a trace and its answers and print a text |
 //!
@@ -11,3 +12,4 @@
 pub mod explain;
 pub mod from_replay;
 pub mod picture;
+pub mod view;

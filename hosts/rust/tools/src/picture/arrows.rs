@@ -12,6 +12,16 @@ pub enum Place {
     NoAddress,
 }
 
+impl Place {
+    /// The address, if it has one.
+    pub fn address(self) -> Option<u8> {
+        match self {
+            Place::Address(address) => Some(address),
+            Place::NoAddress => None,
+        }
+    }
+}
+
 /// What kind of telegram an arrow is.
 #[derive(Debug, Clone, Copy, PartialEq, Eq)]
 pub enum Kind {

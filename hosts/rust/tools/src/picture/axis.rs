@@ -4,11 +4,6 @@ use super::layout::SMALL;
 use super::svg::{text_width, Px};
 use crate::explain::{thousands, Line};
 
-/// The clock of a poll that was accepted.
-pub fn accepted_clock(line: &Line) -> Option<u64> {
-    line.clock.filter(|_| line.answer.refusal.is_none())
-}
-
 /// A clock as explain writes it, and in hours, minutes and seconds.
 pub fn clock_words(clock: u64) -> String {
     format!(
@@ -35,7 +30,7 @@ pub fn seconds(lines: &[Line]) -> Vec<Option<u64>> {
     lines
         .iter()
         .map(|line| {
-            last = accepted_clock(line).or(last);
+            last = line.accepted_clock().or(last);
             last.map(|clock| clock / 1_000_000)
         })
         .collect()
@@ -51,10 +46,10 @@ pub struct Gap {
 }
 
 impl Gap {
-    /// The style of its bar and of its label.
+    /// The style of its bar and of its label. A long time is ordinary; only a clock that goes back is an alarm.
     pub fn class(&self) -> &'static str {
         if self.micros < 0 {
-            "back"
+            "back alarm"
         } else if self.long {
             "long"
         } else {
@@ -88,7 +83,7 @@ pub fn gaps(lines: &[Line]) -> Vec<Option<Gap>> {
     let mut before = None;
     let mut all = Vec::new();
     for line in lines {
-        let clock = accepted_clock(line);
+        let clock = line.accepted_clock();
         let gap = match (before, clock) {
             (Some(before), Some(clock)) => Some(clock as i64 - before as i64),
             _ => None,
@@ -123,9 +118,9 @@ pub fn take(taken: &mut Vec<Taken>, x: Px, words: &str) -> bool {
     free
 }
 
-/// The step between labelled entries, so that their numbers have room in columns of this width.
-pub fn entry_step(count: usize, base: Px) -> usize {
-    let needed = text_width(count.to_string().len(), SMALL) + 6;
+/// The step between labelled entries, so that numbers up to this one have room in columns of this width.
+pub fn entry_step(largest: usize, base: Px) -> usize {
+    let needed = text_width(largest.to_string().len(), SMALL) + 6;
     let steps = [1, 2, 5, 10, 20, 50, 100];
     let fitting = steps.iter().find(|&&step| step as Px * base >= needed);
     *fitting.unwrap_or(&200)

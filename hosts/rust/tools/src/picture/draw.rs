@@ -1,60 +1,127 @@
 //! The parts of the picture.
 
-use super::arrows::{arrows, Arrow, Place};
-use super::axis::{
-    accepted_clock, clock_words, entry_step, gaps, second_words, seconds, take, Gap,
-};
+use super::arrows::{arrows, Arrow};
+use super::axis::{clock_words, entry_step, gaps, second_words, seconds, take, Gap};
+use super::events::{events, label_lines, Event, Kind, ASIDE};
+use super::lanes::{draw_lanes, draw_row_names};
 use super::layout::{
-    Column, Columns, Row, Rows, GUTTER, HEADING, LABEL, LONGEST_COMMAND, MARGIN, NAME, SMALL, TINY,
+    lanes, Column, Columns, Row, Rows, EVENT, GUTTER, HEADING, LABEL, LONGEST_COMMAND, MARGIN,
+    NAME, SMALL, THIRD, TINY,
 };
-use super::legend::{draw_legend, STYLE};
-use super::shapes::{arrow_shape, loop_shape, notice_shape, pending_shape, refusal_shape};
+use super::legend::{draw_legend, state_class, STYLE};
+use super::presence::{stays, Stay};
+use super::shapes::{
+    arrow_shape, lane_end_shape, last_heard_shape, loop_shape, notice_shape, pending_shape,
+    refusal_shape,
+};
 use super::svg::{shortened, text_width, wrapped, Anchor, Px, Svg};
 use crate::explain::{settings, thousands, Explanation, Line};
-use amsulfezd::answer::{Notice, Outcome, Sent, State};
+use crate::from_replay::Replay;
+use amsulfezd::answer::{Answer, Notice, Outcome, Sent, State};
 use amsulfezd::refusal::Refusal;
 use amsulfezd::trace::Entry;
+use std::ops::Range;
 
-/// The text of the picture of a run.
-pub fn draw(name: &str, explained: &Explanation, ending: Option<Refusal>) -> String {
-    let own = explained.header.map_or(0, |header| header.address);
-    let arrows: Vec<Vec<Arrow>> = explained
-        .lines
-        .iter()
-        .map(|line| arrows(own, line))
-        .collect();
-    let columns = Columns::of(&arrows);
+/// The text of the picture of a replay.
+pub fn draw(replay: &Replay, explained: &Explanation) -> String {
+    let scene = Scene::of(replay, explained);
+    let width = scene.columns.text_width();
     let mut svg = Svg::default();
-    let mut bottom = draw_heading(&mut svg, name, explained, columns.text_width());
-    if !explained.lines.is_empty() {
-        let rows = Rows::of(own, bottom, &explained.lines, &arrows, &columns);
-        let mut bus = Bus {
-            svg: &mut svg,
-            lines: &explained.lines,
-            arrows: &arrows,
-            columns: &columns,
-            rows: &rows,
-        };
-        bus.draw_lanes(own);
-        bus.draw_entries();
-        bus.draw_blocks();
-        if let Some(refusal) = ending {
-            bus.draw_ending(refusal, &explained.ending);
-        }
-        bottom = draw_legend(&mut svg, rows.bottom + 8, columns.text_width());
+    let mut bottom = draw_heading(&mut svg, replay, explained, width);
+    if !scene.all.is_empty() {
+        let ending = replay
+            .run
+            .ending
+            .map(|refusal| (refusal, &explained.ending[..]));
+        bottom = draw_bus(&mut svg, &scene, bottom, ending);
+        bottom = draw_legend(&mut svg, bottom + 8, width);
     }
-    bottom = draw_text(
-        &mut svg,
-        "footer",
-        bottom + 6,
-        columns.text_width(),
-        &explained.ending,
-    );
-    whole(svg, name, columns.width, bottom + MARGIN)
+    bottom = draw_text(&mut svg, "footer", bottom + 6, width, &explained.ending);
+    let description = description(explained, &scene.events);
+    let (width, height) = (scene.columns.width, bottom + MARGIN);
+    whole(svg, &replay.name, &description, width, height)
 }
 
-/// The file: its size, its style and what was drawn.
-fn whole(drawn: Svg, name: &str, width: Px, height: Px) -> String {
+/// What is drawn, and where from left to right.
+struct Scene<'a> {
+    own: u8,
+    /// Every line, and which of them are shown.
+    all: &'a [Line<'a>],
+    shown: Range<usize>,
+    /// The arrows of every line.
+    arrows: Vec<Vec<Arrow>>,
+    stays: Vec<Stay>,
+    events: Vec<Event>,
+    columns: Columns,
+}
+
+impl<'a> Scene<'a> {
+    fn of(replay: &Replay, explained: &'a Explanation) -> Scene<'a> {
+        let own = explained.header.map_or(0, |header| header.address);
+        let all = &explained.lines[..];
+        let shown = replay.view.shown(all.len());
+        let arrows: Vec<Vec<Arrow>> = all.iter().map(|line| arrows(own, line)).collect();
+        let stays = stays(own, all, &arrows);
+        let mut columns = Columns::of(shown.clone(), &arrows);
+        let events = events(own, all, &stays, &replay.view.notes, &columns);
+        for event in &events {
+            columns.width = columns.width.max(event.end() + MARGIN);
+        }
+        Scene {
+            own,
+            all,
+            shown,
+            arrows,
+            stays,
+            events,
+            columns,
+        }
+    }
+}
+
+/// Draws rows and lanes from `top` on, with the mark and the words of a trace that was not read to its end if its last
+/// entry is shown; gives where they end.
+fn draw_bus(svg: &mut Svg, scene: &Scene, top: Px, ending: Option<(Refusal, &str)>) -> Px {
+    let (all, shown, columns) = (scene.all, &scene.shown, &scene.columns);
+    let ending = ending.filter(|_| shown.end == all.len());
+    let lanes = lanes(scene.own, shown.clone(), &scene.arrows, &scene.stays);
+    let lines = &all[shown.clone()];
+    let event_lines = label_lines(&scene.events);
+    let marked = ending.is_some();
+    let rows = Rows::of(top, lines, &lanes, event_lines, marked, columns);
+    draw_row_names(svg, &rows);
+    draw_lanes(svg, scene.own, &rows, columns, &scene.stays);
+    let mut bus = Bus {
+        svg,
+        all,
+        shown: shown.clone(),
+        arrows: &scene.arrows[shown.clone()],
+        columns,
+        rows: &rows,
+    };
+    bus.draw_entries();
+    bus.draw_events(&scene.events);
+    bus.draw_blocks();
+    bus.draw_lead_in();
+    if let Some((refusal, words)) = ending {
+        bus.draw_ending(refusal, words);
+    }
+    rows.bottom
+}
+
+/// The picture in a few words, for a reader who does not see it.
+fn description(explained: &Explanation, events: &[Event]) -> String {
+    let mut parts: Vec<String> = explained.header.iter().map(settings).collect();
+    let labels: Vec<&str> = events.iter().map(|event| &event.label[..]).collect();
+    if !labels.is_empty() {
+        parts.push(format!("In this order: {}", labels.join("; ")));
+    }
+    parts.push(explained.ending.clone());
+    parts.join(". ")
+}
+
+/// The file: its size, its words, its style and what was drawn.
+fn whole(drawn: Svg, name: &str, description: &str, width: Px, height: Px) -> String {
     let mut svg = Svg::default();
     let (wide, high) = (width.to_string(), height.to_string());
     svg.open(
@@ -67,9 +134,12 @@ fn whole(drawn: Svg, name: &str, width: Px, height: Px) -> String {
             ("height", &high),
             ("viewBox", &format!("0 0 {} {}", width, height)),
             ("font-family", "monospace"),
+            ("role", "img"),
+            ("aria-labelledby", "title description"),
         ],
     );
-    svg.title(name);
+    svg.words("title", "title", name);
+    svg.words("desc", "description", description);
     svg.plain("style", STYLE);
     svg.rectangle("paper", 0, 0, width, height);
     let mut text = svg.into_text();
@@ -78,17 +148,22 @@ fn whole(drawn: Svg, name: &str, width: Px, height: Px) -> String {
     format!("<?xml version=\"1.0\" encoding=\"UTF-8\"?>\n{}", text)
 }
 
-/// The trace's name, its settings and the times of its first and last poll; gives where they end.
-fn draw_heading(svg: &mut Svg, name: &str, explained: &Explanation, width: Px) -> Px {
+/// The trace's name, its settings, which entries are shown and the times of their first and last poll; gives where they
+/// end.
+fn draw_heading(svg: &mut Svg, replay: &Replay, explained: &Explanation, width: Px) -> Px {
     let top = MARGIN + NAME;
-    let short = shortened(name, NAME, width - 2 * MARGIN);
+    let short = shortened(&replay.name, NAME, width - 2 * MARGIN);
     svg.text("name", MARGIN, top, NAME, Anchor::Start, &short);
     let mut bottom = top + 4;
     if let Some(header) = &explained.header {
         bottom = draw_text(svg, "settings", bottom, width, &settings(header));
     }
-    let accepted = || explained.lines.iter().filter_map(accepted_clock);
-    if let (Some(first), Some(last)) = (accepted().next(), accepted().next_back()) {
+    if let Some(range) = &replay.view.range {
+        bottom = draw_text(svg, "range", bottom, width, &range.to_string());
+    }
+    let shown = &explained.lines[replay.view.shown(explained.lines.len())];
+    let clocks = || shown.iter().filter_map(Line::accepted_clock);
+    if let (Some(first), Some(last)) = (clocks().next(), clocks().next_back()) {
         let words = format!(
             "First poll at {}, last poll at {}",
             clock_words(first),
@@ -110,14 +185,14 @@ fn draw_text(svg: &mut Svg, class: &str, top: Px, width: Px, words: &str) -> Px 
 }
 
 /// All that explain says of an entry.
-fn entry_words(number: usize, line: &Line) -> String {
+fn entry_words(line: &Line) -> String {
     let clock = match line.clock {
         Some(clock) => format!(", {}", clock_words(clock)),
         None => String::new(),
     };
     format!(
         "entry {}{}\n{}\n{}\n{}",
-        number,
+        line.number,
         clock,
         line.came,
         line.state_words(),
@@ -128,77 +203,37 @@ fn entry_words(number: usize, line: &Line) -> String {
 /// The part of the picture that has columns.
 struct Bus<'a> {
     svg: &'a mut Svg,
-    lines: &'a [Line<'a>],
+    /// Every line, and which of them are shown.
+    all: &'a [Line<'a>],
+    shown: Range<usize>,
+    /// The arrows of each line that is shown.
     arrows: &'a [Vec<Arrow>],
     columns: &'a Columns,
     rows: &'a Rows,
 }
 
-impl Bus<'_> {
-    /// The names of rows and lanes, and the lanes.
-    fn draw_lanes(&mut self, own: u8) {
-        let rows = self.rows;
-        let end = self.columns.end + GUTTER;
-        self.svg.open("g", "rows", &[]);
-        for (row, name) in [
-            (rows.entry, "entry"),
-            (rows.clock, "clock, us"),
-            (rows.second, "clock, h:mm:ss"),
-            (rows.since, "us since last poll"),
-            (rows.command, "command"),
-            (rows.refusal, "refusal"),
-            (rows.state, "state"),
-            (rows.next_station, "next station"),
-            (rows.notice, "notice"),
-        ] {
-            let base = row.base(LABEL);
-            self.svg
-                .text("row", MARGIN, base, LABEL, Anchor::Start, name);
-        }
-        self.svg.close("g");
-        self.svg.open("g", "lanes", &[]);
-        for &(place, y) in &rows.lanes {
-            let ours = place == Place::Address(own);
-            let (class, short) = match place {
-                Place::Address(address) if ours => ("own-lane", address.to_string()),
-                Place::Address(address) => ("lane", address.to_string()),
-                Place::NoAddress => ("lane", "-".to_string()),
-            };
-            let long = match place {
-                Place::Address(address) if ours => format!("{} (this station)", address),
-                Place::Address(address) => address.to_string(),
-                Place::NoAddress => "- (no address)".to_string(),
-            };
-            let path = format!("M{} {}H{}", self.columns.start(), y, end);
-            self.svg.path(class, &path);
-            self.svg
-                .text("lane-name", MARGIN, y + 3, LABEL, Anchor::Start, &long);
-            for &x in &self.columns.gutters {
-                let (x, y) = (x + GUTTER / 2, y - 2);
-                self.svg.text("faint", x, y, SMALL, Anchor::Middle, &short);
-            }
-            self.svg
-                .text("faint", end + 4, y + 3, SMALL, Anchor::Start, &short);
-        }
-        self.svg.close("g");
+impl<'a> Bus<'a> {
+    /// The lines that are shown.
+    fn lines(&self) -> &'a [Line<'a>] {
+        &self.all[self.shown.clone()]
     }
 
     /// A group for each entry. The words of the entry are shown wherever no part has words of its own.
     fn draw_entries(&mut self) {
-        let gaps = gaps(self.lines);
-        let labelled = self.gap_labels(&gaps);
-        let step = entry_step(self.lines.len(), self.columns.base);
+        let gaps = gaps(self.all);
+        let gaps = &gaps[self.shown.clone()];
+        let labelled = self.gap_labels(gaps);
+        let numbered = self.numbered();
         let mut last_clock = Px::MIN / 2;
-        for (index, line) in self.lines.iter().enumerate() {
+        for (index, line) in self.lines().iter().enumerate() {
             let column = self.columns.columns[index];
-            let number = index + 1;
-            let words = entry_words(number, line);
-            let id = format!("entry-{}", number);
+            let words = entry_words(line);
+            let id = format!("entry-{}", line.number);
             self.svg.open("g", "entry", &[("id", &id)]);
             self.svg.title(&words);
             self.draw_column(&column, line);
-            if number == 1 || number % step == 0 {
-                self.draw_number(&column, number);
+            if numbered[index] {
+                self.draw_number(&column, line.number);
             }
             if last_clock + SMALL + 3 <= column.middle() && self.draw_clock(&column, line) {
                 last_clock = column.middle();
@@ -217,6 +252,20 @@ impl Bus<'_> {
             }
             self.svg.close("g");
         }
+    }
+
+    /// Which entries have their number: the first, and those at each step that have room.
+    fn numbered(&self) -> Vec<bool> {
+        let step = entry_step(self.shown.end, self.columns.base);
+        let mut taken = Vec::new();
+        let lines = self.lines().iter().enumerate();
+        lines
+            .map(|(index, line)| {
+                let x = self.columns.columns[index].middle();
+                let wanted = index == 0 || line.number % step == 0;
+                wanted && take(&mut taken, x, &line.number.to_string())
+            })
+            .collect()
     }
 
     /// Which gaps have a label: the long ones and those that go back first, then, in wide columns, those that have room.
@@ -312,12 +361,8 @@ impl Bus<'_> {
         if gap.class() != "bar" {
             let top = row.top + SMALL + 5;
             let path = format!("M{} {}V{}", column.x, top, self.rows.bottom);
-            let class = if gap.micros < 0 {
-                "gap gap-back"
-            } else {
-                "gap"
-            };
-            self.svg.path(class, &path);
+            let class = format!("gap {}", gap.class());
+            self.svg.path(&class, &path);
         }
     }
 
@@ -343,7 +388,7 @@ impl Bus<'_> {
     fn draw_refusal(&mut self, column: &Column, line: &Line) {
         if let Some(refusal) = line.answer.refusal {
             let row = self.rows.refusal;
-            self.svg.open("g", "refusal", &[]);
+            self.svg.open("g", "refusal alarm", &[]);
             self.svg.title(&format!("{}: {}", line.came, line.did));
             refusal_shape(
                 self.svg,
@@ -370,7 +415,7 @@ impl Bus<'_> {
         let class = if reply {
             "notice reply"
         } else {
-            "notice timeout"
+            "notice timeout alarm"
         };
         self.svg.open("g", class, &[]);
         self.svg.title(&line.did);
@@ -393,10 +438,15 @@ impl Bus<'_> {
 
     /// A telegram, with the letter of its kind where there is room.
     fn draw_arrow(&mut self, x: Px, slot: Px, arrow: &Arrow, words: &str) {
-        let (from, to) = (self.rows.lane_of(arrow.from), self.rows.lane_of(arrow.to));
+        let lane = |place| {
+            self.rows
+                .lane_of(place)
+                .expect("a lane for each place of an arrow")
+        };
+        let (from, to) = (lane(arrow.from), lane(arrow.to));
         let mut class = format!("arrow {} {}", arrow.kind.class(), arrow.way.class());
         if arrow.own_address {
-            class.push_str(" own-address");
+            class.push_str(" own-address alarm");
         }
         self.svg.open("g", &class, &[]);
         self.svg.title(&format!("{}\n{}", arrow.words, words));
@@ -421,73 +471,150 @@ impl Bus<'_> {
         self.svg.close("g");
     }
 
-    /// The blocks of the clock's seconds, of the state and of the next station: one for each stretch of entries that
-    /// have the same.
-    fn draw_blocks(&mut self) {
-        let lines = self.lines;
-        self.svg.open("g", "seconds", &[]);
-        let seconds = seconds(lines);
-        for (first, last) in stretches(&seconds) {
-            if let Some(second) = seconds[first] {
-                let name = second_words(second);
-                let words = format!("clock {}, {}", name, entries_words(first, last));
-                self.draw_block(self.rows.second, first, last, "block plain", &name, &words);
+    /// Each event: a line down to its lane or through all lanes, its mark, and its label.
+    fn draw_events(&mut self, events: &[Event]) {
+        self.svg.open("g", "events", &[]);
+        for event in events {
+            let lane = event.lane.and_then(|place| self.rows.lane_of(place));
+            let row = self.rows.events;
+            let top = match event.line {
+                Some(line) => row.top + 3 + line as Px * EVENT,
+                None => row.bottom(),
+            };
+            let bottom = lane.unwrap_or(self.rows.bottom);
+            self.svg.open("g", event.kind.class(), &[]);
+            self.svg.title(&event.words);
+            let path = format!("M{} {}V{}", event.x, top, bottom);
+            self.svg.path("leader", &path);
+            match event.kind {
+                Kind::LastHeard => last_heard_shape(self.svg, event.x, bottom),
+                Kind::Left => lane_end_shape(self.svg, event.x, bottom),
+                Kind::Ours | Kind::Note => (),
             }
-        }
-        self.svg.close("g");
-        self.svg.open("g", "states", &[]);
-        let states: Vec<State> = lines.iter().map(|line| line.answer.state).collect();
-        for (first, last) in stretches(&states) {
-            let name = format!("{:?}", states[first]);
-            let words = format!("{} after {}", name, entries_words(first, last));
-            let class = format!("block {}", name);
-            self.draw_block(self.rows.state, first, last, &class, &name, &words);
-        }
-        self.svg.close("g");
-        self.svg.open("g", "next-stations", &[]);
-        let next: Vec<u8> = lines.iter().map(|line| line.answer.next_station).collect();
-        for (first, last) in stretches(&next) {
-            let name = next[first].to_string();
-            let words = format!("next station {} after {}", name, entries_words(first, last));
-            let row = self.rows.next_station;
-            self.draw_block(row, first, last, "block plain", &name, &words);
+            if event.line.is_some() {
+                let (x, base) = (event.x + ASIDE, top + LABEL);
+                self.svg
+                    .text("label", x, base, LABEL, Anchor::Start, &event.label);
+            }
+            self.svg.close("g");
         }
         self.svg.close("g");
     }
 
-    /// A block over the columns of some entries, with its name if that fits on one line or on three.
-    fn draw_block(
-        &mut self,
-        row: Row,
-        first: usize,
-        last: usize,
-        class: &str,
-        name: &str,
-        words: &str,
-    ) {
+    /// The blocks of the clock's seconds, of the state and of the next station: one for each stretch of entries that
+    /// have the same.
+    fn draw_blocks(&mut self) {
+        let seconds = seconds(self.all);
+        let seconds = &seconds[self.shown.clone()];
+        self.svg.open("g", "seconds", &[]);
+        for (first, last) in stretches(seconds) {
+            if let Some(second) = seconds[first] {
+                let name = second_words(second);
+                let words = format!("clock {}, {}", name, self.entries_words(first, last));
+                let stretch = self.stretch(first, last);
+                self.draw_block(self.rows.second, &stretch, "block plain", &name, &words);
+            }
+        }
+        self.svg.close("g");
+        let answers: Vec<Answer> = self.lines().iter().map(|line| line.answer).collect();
+        self.svg.open("g", "states", &[]);
+        let states: Vec<State> = answers.iter().map(|answer| answer.state).collect();
+        for (first, last) in stretches(&states) {
+            let after = format!("after {}", self.entries_words(first, last));
+            let stretch = self.stretch(first, last);
+            self.draw_state(&stretch, states[first], &after);
+        }
+        self.svg.close("g");
+        self.svg.open("g", "next-stations", &[]);
+        let next: Vec<u8> = answers.iter().map(|answer| answer.next_station).collect();
+        for (first, last) in stretches(&next) {
+            let after = format!("after {}", self.entries_words(first, last));
+            let stretch = self.stretch(first, last);
+            self.draw_next_station(&stretch, next[first], &after);
+        }
+        self.svg.close("g");
+    }
+
+    /// What the entries before those shown led to.
+    fn draw_lead_in(&mut self) {
+        let column = match self.columns.lead_in {
+            Some(column) => column,
+            None => return,
+        };
+        let before = self.all[self.shown.start - 1].answer;
+        let number = format!("before entry {}", self.shown.start + 1);
+        self.svg.open("g", "lead-in", &[]);
+        let base = self.rows.entry.base(SMALL);
+        self.svg.text(
+            "faint",
+            column.middle(),
+            base,
+            SMALL,
+            Anchor::Middle,
+            "before",
+        );
+        self.draw_state(&column, before.state, &number);
+        self.draw_next_station(&column, before.next_station, &number);
+        self.svg.close("g");
+    }
+
+    /// The block of a state.
+    fn draw_state(&mut self, stretch: &Column, state: State, when: &str) {
+        let name = format!("{:?}", state);
+        let words = format!("{} {}", name, when);
+        let class = format!("block {}", state_class(state));
+        self.draw_block(self.rows.state, stretch, &class, &name, &words);
+    }
+
+    /// The block of a next station.
+    fn draw_next_station(&mut self, stretch: &Column, address: u8, when: &str) {
+        let name = address.to_string();
+        let words = format!("next station {} {}", name, when);
+        let row = self.rows.next_station;
+        self.draw_block(row, stretch, "block plain", &name, &words);
+    }
+
+    /// The columns of some entries and what stands between them, as one.
+    fn stretch(&self, first: usize, last: usize) -> Column {
         let columns = &self.columns.columns;
-        let start = columns[first].x;
-        let end = columns
-            .get(last + 1)
-            .map_or(self.columns.end, |next| next.x);
-        let width = end - start;
+        let x = columns[first].x;
+        let next = columns.get(last + 1);
+        Column {
+            x,
+            width: next.map_or(self.columns.end, |next| next.x) - x,
+        }
+    }
+
+    /// A block over some columns, with its name if that fits on one line or on three.
+    fn draw_block(&mut self, row: Row, stretch: &Column, class: &str, name: &str, words: &str) {
+        let (x, width) = (stretch.x, stretch.width);
         self.svg
-            .titled_rectangle(class, start, row.top, width, row.height, words);
-        let middle = start + width / 2;
+            .titled_rectangle(class, x, row.top, width, row.height, words);
+        let middle = stretch.middle();
         let parts = capitalised(name);
         let longest = parts.iter().map(String::len).max().unwrap_or(0);
         if text_width(name.len(), LABEL) + 6 <= width {
             let base = row.base(LABEL);
             self.svg
                 .text("block-name", middle, base, LABEL, Anchor::Middle, name);
-        } else if text_width(longest, TINY) + 2 <= width {
-            let above = TINY * parts.len() as Px + parts.len() as Px;
+        } else if text_width(longest, THIRD) + 2 <= width {
+            let above = THIRD * parts.len() as Px + parts.len() as Px;
             let mut y = row.top + (row.height - above) / 2;
             for part in &parts {
-                y += TINY + 1;
+                y += THIRD + 1;
                 self.svg
-                    .text("block-name", middle, y - 2, TINY, Anchor::Middle, part);
+                    .text("block-name", middle, y - 2, THIRD, Anchor::Middle, part);
             }
+        }
+    }
+
+    /// "entries 2 to 5", for two indices among those shown.
+    fn entries_words(&self, first: usize, last: usize) -> String {
+        let number = |index: usize| self.shown.start + index + 1;
+        if first == last {
+            format!("entry {}", number(first))
+        } else {
+            format!("entries {} to {}", number(first), number(last))
         }
     }
 
@@ -495,22 +622,13 @@ impl Bus<'_> {
     fn draw_ending(&mut self, refusal: Refusal, words: &str) {
         let row = self.rows.refusal;
         let x = self.columns.end + GUTTER / 2;
-        self.svg.open("g", "end", &[]);
+        self.svg.open("g", "end alarm", &[]);
         self.svg.title(words);
         let path = format!("M{} {}V{}", x, row.bottom(), self.rows.bottom);
         self.svg.path("ending", &path);
         let number = refusal.number().to_string();
         refusal_shape(self.svg, x, row.top + row.height / 2, &number, GUTTER);
         self.svg.close("g");
-    }
-}
-
-/// "entries 2 to 5".
-fn entries_words(first: usize, last: usize) -> String {
-    if first == last {
-        format!("entry {}", first + 1)
-    } else {
-        format!("entries {} to {}", first + 1, last + 1)
     }
 }
 

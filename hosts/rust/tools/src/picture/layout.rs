@@ -1,28 +1,38 @@
 //! Where each column, row and lane stands. The numbers are pixels at the picture's own size.
 
 use super::arrows::{Arrow, Place};
+use super::presence::Stay;
 use super::svg::{text_width, Px};
 use crate::explain::{thousands, Line};
+use amsulfezd::answer::Notice;
+use amsulfezd::trace::Entry;
+use std::ops::Range;
 
-/// The sizes of type: of most labels, of small ones inside a column, of the heading's lines.
-pub const LABEL: Px = 10;
-pub const SMALL: Px = 9;
+/// The sizes of type: of most labels, of small ones inside a column, of a state's name on three lines, of what is turned
+/// inside the narrowest column, of the heading's lines.
+pub const LABEL: Px = 11;
+pub const SMALL: Px = 10;
+pub const THIRD: Px = 9;
 pub const TINY: Px = 8;
-pub const HEADING: Px = 11;
-pub const NAME: Px = 16;
+pub const HEADING: Px = 12;
+pub const NAME: Px = 17;
 
 /// The space around the picture.
 pub const MARGIN: Px = 12;
 /// The columns begin here; the names of rows and lanes stand to the left.
 const LEFT: Px = 132;
-/// A picture is never narrower, so that its heading has room.
-const NARROWEST: Px = 1060;
-/// The columns of a trace with few entries are as wide as this, ..
+/// The width of a page. A picture is never narrower, so that its heading has room.
+const PAGE: Px = 900;
+/// The columns of a few entries are as wide as this, ..
 const WIDEST_COLUMN: Px = 110;
-/// .. those of a trace with many never narrower, ..
+/// .. those of some more fill a page as long as they are not narrower than this, ..
+const NARROWEST_ON_PAGE: Px = 48;
+/// .. beyond that the columns together are about as wide as this, ..
+const WISHED: Px = 1700;
+/// .. and never narrower.
 const NARROWEST_COLUMN: Px = 8;
-/// .. and between the two the columns together are about as wide as this.
-const WISHED: Px = 1600;
+/// The width of the column before a range of entries, which shows what the entries before it led to.
+const LEAD_IN: Px = 46;
 /// A column with several arrows gives each at least so much where the columns are not narrower.
 const ARROW: Px = 24;
 /// In a picture wider than a screen the names of the lanes are repeated in a gutter whenever the columns went on for
@@ -33,6 +43,8 @@ const SCREEN: Px = 2200;
 const WIDEST_TEXT: Px = 1500;
 /// The width of a gutter, which has room for three digits, and of the place of the ending's mark.
 pub const GUTTER: Px = 40;
+/// What stands right of the columns: the ending's mark, the lanes' names, the margin.
+const RIGHT: Px = 2 * GUTTER + MARGIN;
 /// The distance of lanes: between these two, the less the more lanes there are.
 const WIDEST_LANE: Px = 40;
 const NARROWEST_LANE: Px = 14;
@@ -47,6 +59,11 @@ pub struct Column {
 }
 
 impl Column {
+    /// The x of its end.
+    pub fn end(&self) -> Px {
+        self.x + self.width
+    }
+
     /// The x of its middle.
     pub fn middle(&self) -> Px {
         self.x + self.width / 2
@@ -83,13 +100,22 @@ impl Row {
             height,
         }
     }
+
+    /// The same if it is needed, else a row of no height.
+    fn then_if(&self, needed: bool, height: Px) -> Row {
+        self.then(if needed { height } else { 0 })
+    }
 }
 
-/// The columns of all entries and what stands between them.
+/// The columns of the entries that are shown and what stands between them.
 #[derive(Debug, Clone)]
 pub struct Columns {
+    /// The index of the first entry that is shown.
+    first: usize,
     /// The width of a column with at most one arrow.
     pub base: Px,
+    /// What the entries before the first one led to; none if there are no entries before.
+    pub lead_in: Option<Column>,
     pub columns: Vec<Column>,
     /// Where the lanes' names are repeated.
     pub gutters: Vec<Px>,
@@ -100,17 +126,25 @@ pub struct Columns {
 }
 
 impl Columns {
-    /// One column for each entry, wide enough for its arrows.
-    pub fn of(arrows: &[Vec<Arrow>]) -> Columns {
-        let count = (arrows.len() as Px).max(1);
-        let base = (WISHED / count).clamp(NARROWEST_COLUMN, WIDEST_COLUMN);
-        let widths = arrows
+    /// One column for each entry that is shown, wide enough for its arrows.
+    pub fn of(shown: Range<usize>, arrows: &[Vec<Arrow>]) -> Columns {
+        let lead_in = if shown.start == 0 {
+            None
+        } else {
+            Some(Column {
+                x: LEFT,
+                width: LEAD_IN,
+            })
+        };
+        let start = lead_in.map_or(LEFT, |column| column.end());
+        let base = column_width(shown.len(), PAGE - start - RIGHT);
+        let widths = arrows[shown.clone()]
             .iter()
             .map(|arrows| base.max(arrows.len() as Px * base.min(ARROW)));
-        let wide = LEFT + widths.clone().sum::<Px>() > SCREEN;
+        let wide = start + widths.clone().sum::<Px>() > SCREEN;
         let mut columns = Vec::new();
         let mut gutters = Vec::new();
-        let mut x = LEFT;
+        let mut x = start;
         let mut since_gutter = 0;
         for width in widths {
             if wide && since_gutter >= BETWEEN_GUTTERS {
@@ -122,20 +156,48 @@ impl Columns {
             x += width;
             since_gutter += width;
         }
-        // Room for the ending's mark and for the lanes' names at the right end.
-        let width = (x + 2 * GUTTER + MARGIN).max(NARROWEST);
         Columns {
+            first: shown.start,
             base,
+            lead_in,
             columns,
             gutters,
             end: x,
-            width,
+            width: (x + RIGHT).max(PAGE),
         }
     }
 
     /// Where the rows and lanes begin.
     pub fn start(&self) -> Px {
         LEFT
+    }
+
+    /// Where the lanes end.
+    pub fn lanes_end(&self) -> Px {
+        self.end + GUTTER
+    }
+
+    /// Whether the entry with this index is shown.
+    pub fn shows(&self, entry: usize) -> bool {
+        entry >= self.first && entry - self.first < self.columns.len()
+    }
+
+    /// Where the column of an entry begins: for an entry before those shown where the lanes begin, for one after them
+    /// where the lanes end.
+    pub fn before(&self, entry: usize) -> Px {
+        self.place(entry, |column| column.x)
+    }
+
+    /// Where the column of an entry ends, with the same rule.
+    pub fn after(&self, entry: usize) -> Px {
+        self.place(entry, Column::end)
+    }
+
+    fn place(&self, entry: usize, of: fn(&Column) -> Px) -> Px {
+        match entry.checked_sub(self.first) {
+            None => self.start(),
+            Some(index) => self.columns.get(index).map_or(self.lanes_end(), of),
+        }
     }
 
     /// How wide the heading and the legend may be.
@@ -149,6 +211,17 @@ impl Columns {
     }
 }
 
+/// How wide a column is where so many fill a page whose columns have this width together.
+fn column_width(count: usize, page: Px) -> Px {
+    let count = (count as Px).max(1);
+    let wished = if page / count >= NARROWEST_ON_PAGE {
+        page
+    } else {
+        WISHED
+    };
+    (wished / count).clamp(NARROWEST_COLUMN, WIDEST_COLUMN)
+}
+
 /// The rows over the bus, and the lanes of the bus.
 #[derive(Debug, Clone)]
 pub struct Rows {
@@ -156,6 +229,7 @@ pub struct Rows {
     pub clock: Row,
     pub second: Row,
     pub since: Row,
+    pub events: Row,
     pub command: Row,
     pub refusal: Row,
     pub state: Row,
@@ -173,10 +247,25 @@ pub struct Rows {
 pub const LONGEST_COMMAND: usize = 7;
 
 impl Rows {
-    /// The rows of a picture whose heading ends at `top`.
-    pub fn of(own: u8, top: Px, lines: &[Line], arrows: &[Vec<Arrow>], columns: &Columns) -> Rows {
+    /// The rows of a picture whose heading ends at `top`, with these lanes, so many lines of events, and the mark of an
+    /// ending or not. A row that would be empty has no height.
+    pub fn of(
+        top: Px,
+        lines: &[Line],
+        lanes: &[Place],
+        events: usize,
+        ending: bool,
+        columns: &Columns,
+    ) -> Rows {
         let clocks = lines.iter().filter_map(|line| line.clock);
         let clock = clocks.map(|clock| thousands(clock).len()).max();
+        let commands = lines
+            .iter()
+            .any(|line| !matches!(line.entry, Entry::Poll(_)));
+        let refusals = ending || lines.iter().any(|line| line.answer.refusal.is_some());
+        let notices = lines
+            .iter()
+            .any(|line| line.answer.notice != Notice::Nothing);
         let command = if columns.has_room_for(LONGEST_COMMAND) {
             16
         } else {
@@ -186,24 +275,20 @@ impl Rows {
         let clock = entry.then(text_width(clock.unwrap_or(0), SMALL) + 8);
         let second = clock.then(16);
         let since = second.then(50);
-        let command = since.then(command);
-        let refusal = command.then(20);
+        let events = since.then_if(events > 0, events as Px * EVENT + 6);
+        let command = events.then_if(commands, command);
+        let refusal = command.then_if(refusals, 20);
         let state = refusal.then(34);
         let next_station = state.then(16);
-        let notice = next_station.then(24);
-        let places = places(own, arrows);
-        let lane = (LANES / places.len() as Px).clamp(NARROWEST_LANE, WIDEST_LANE);
+        let notice = next_station.then_if(notices, 24);
+        let lane = (LANES / lanes.len() as Px).clamp(NARROWEST_LANE, WIDEST_LANE);
         let first = notice.bottom() + 32;
-        let lanes: Vec<(Place, Px)> = places
-            .into_iter()
-            .enumerate()
-            .map(|(index, place)| (place, first + lane * index as Px))
-            .collect();
         Rows {
             entry,
             clock,
             second,
             since,
+            events,
             command,
             refusal,
             state,
@@ -211,29 +296,38 @@ impl Rows {
             notice,
             lane,
             bottom: first + lane * (lanes.len() as Px - 1) + 16,
-            lanes,
+            lanes: (0..)
+                .zip(lanes)
+                .map(|(index, &place)| (place, first + lane * index))
+                .collect(),
         }
     }
 
-    /// The y of a place's lane; every place of an arrow has one.
-    pub fn lane_of(&self, place: Place) -> Px {
+    /// The y of a place's lane, if it has one.
+    pub fn lane_of(&self, place: Place) -> Option<Px> {
         let lane = self.lanes.iter().find(|(there, _)| *there == place);
-        lane.expect("a lane for each place of an arrow").1
+        lane.map(|&(_, y)| y)
     }
 }
 
-/// Our station, then the other places that arrows begin or end at, in order, each once.
-fn places(own: u8, arrows: &[Vec<Arrow>]) -> Vec<Place> {
+/// The height of one line of events.
+pub const EVENT: Px = 16;
+
+/// The places that have a lane: our station, then in order the other places at which arrows of the entries that are
+/// shown begin or end, and the stations whose stay goes on when the first of them comes.
+pub fn lanes(own: u8, shown: Range<usize>, arrows: &[Vec<Arrow>], stays: &[Stay]) -> Vec<Place> {
     let ours = Place::Address(own);
-    let mut others: Vec<Place> = arrows
-        .iter()
-        .flatten()
+    let staying = stays.iter().filter(|stay| stay.goes_on_at(shown.start));
+    let staying = staying.map(|stay| Place::Address(stay.address));
+    let touched = arrows[shown.clone()].iter().flatten();
+    let mut others: Vec<Place> = touched
         .flat_map(|arrow| [arrow.from, arrow.to])
+        .chain(staying)
         .filter(|&place| place != ours)
         .collect();
     others.sort();
     others.dedup();
-    let mut places = vec![ours];
-    places.extend(others);
-    places
+    let mut lanes = vec![ours];
+    lanes.extend(others);
+    lanes
 }

@@ -64,3 +64,14 @@ pub fn refusal_shape(svg: &mut Svg, x: Px, y: Px, number: &str, width: Px) {
 pub fn pending_shape(svg: &mut Svg, x: Px, y: Px) {
     svg.path("pending", &format!("M{} {}l3 3l3 -3l-3 -3z", x - 3, y));
 }
+
+/// The sign on a lane that its station was heard here for the last time: a ring around a point.
+pub fn last_heard_shape(svg: &mut Svg, x: Px, y: Px) {
+    let path = format!("M{} {}a4 4 0 1 0 8 0a4 4 0 1 0 -8 0z", x - 4, y);
+    svg.path("ring", &path);
+}
+
+/// The end of the lane of a station that is out of the ring: a bar across it.
+pub fn lane_end_shape(svg: &mut Svg, x: Px, y: Px) {
+    svg.rectangle("bar-across", x - 2, y - 8, 4, 16);
+}

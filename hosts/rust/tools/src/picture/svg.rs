@@ -1,5 +1,7 @@
 //! Elements and text of an SVG file.
 
+use std::collections::BTreeSet;
+
 /// Lengths and places, in pixels.
 pub type Px = i64;
 
@@ -7,6 +9,8 @@ pub type Px = i64;
 #[derive(Default)]
 pub struct Svg {
     text: String,
+    /// Every class that an element has.
+    classes: BTreeSet<String>,
 }
 
 /// Where a text stands relative to its point.
@@ -32,6 +36,17 @@ impl Svg {
     /// An element with nothing in it.
     pub fn element(&mut self, name: &str, class: &str, attributes: &[(&str, &str)]) {
         self.tag(name, class, attributes, "/>\n");
+    }
+
+    /// Whether an element with this class was written.
+    pub fn has(&self, class: &str) -> bool {
+        self.classes.contains(class)
+    }
+
+    /// An element that has nothing but a text in it, with a name for references.
+    pub fn words(&mut self, name: &str, id: &str, words: &str) {
+        let after = format!(">{}</{}>\n", escaped(words), name);
+        self.tag(name, "", &[("id", id)], &after);
     }
 
     /// The words that the pointer shows over the element that is open.
@@ -97,6 +112,7 @@ impl Svg {
         self.text.push_str(&format!("<{}", name));
         if !class.is_empty() {
             self.text.push_str(&format!(" class=\"{}\"", class));
+            self.classes.extend(class.split(' ').map(String::from));
         }
         for (attribute, value) in attributes {
             self.text
