@@ -2,8 +2,8 @@
 # Compares the proved code with Rust: the settings with the published parameters.rs, the ring and the records, as the
 # programs ring_replay and records_show run them, with the models of oracle/, and the trace call with the published
 # active.rs. SEED, RING_SEQUENCES, RECORD_ITEMS and TRACES in the environment change what is generated.
-set -u
-cd "$(dirname "$0")/.."
+set -euo pipefail
+cd "$(dirname "$0")/.." || exit 1
 me=compare
 . scripts/common.sh
 
@@ -24,6 +24,7 @@ library=
 if [ "$(uname -m)" = x86_64 ]; then
     (build_staticlib) >/dev/null 2>&1 &
     library=$!
+    trap 'wait "$library" || true' EXIT
 fi
 build_oracle --release
 
@@ -49,7 +50,7 @@ target/oracle/release/compare_records "$seed" "$items" -- "${runner[@]}" target/
 
 # The whole station: the proved trace call and the published active.rs in one process. Where the machine cannot link
 # the static library (status 3) this is said and nothing else is lost.
-[ -z "$library" ] || wait "$library"
-SEED=$seed COUNT=$traces bash scripts/compare_traces.sh
-status=$?
+[ -z "$library" ] || wait "$library" || true
+status=0
+SEED=$seed COUNT=$traces bash scripts/compare_traces.sh || status=$?
 [ "$status" -eq 0 ] || [ "$status" -eq 3 ] || fail "the trace call is not the published station's (seed $seed)"

@@ -1,8 +1,8 @@
 #!/usr/bin/env bash
 # make compare SEED=n COUNT=m: runs m generated traces of seed n through the proved replay_trace and through the
 # oracle, in one process, and compares the number and every byte of the answer buffer.
-set -u
-cd "$(dirname "$0")/.."
+set -euo pipefail
+cd "$(dirname "$0")/.." || exit 1
 me="make compare"
 . scripts/common.sh
 

@@ -1,5 +1,5 @@
--- One telegram heard in ActiveIdle, in the order of active.rs: handle_telegram. request (status_request), previous
--- (new_previous_station) and collisions are the fields of c's state, last whether the telegram is the last of its poll.
+-- One telegram heard in ActiveIdle, in the order of active.rs: handle_telegram. request (status_request),
+-- newPreviousStation (new_previous_station) and collisions are the fields of c's state, last whether the telegram is the last of its poll.
 use Prim.Native.Nat.{ℕ}
 use mathlib.Core.Bool.{Bool, false, cond}
 use lib.Dec.{eqb}
