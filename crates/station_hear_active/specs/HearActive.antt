@@ -35,7 +35,8 @@ unfoldable pub acceptedOf : Core → Ring → Micros → Heard
 acceptedOf c ring now = heardOf (toUseToken c (withTokenTime now)) ring outcome.Delay
 
 -- handle_telegram: a token to us, last of its poll: accepted from the previous station or the remembered one (only the
--- remembered one's pass is witnessed); from any other its sender is remembered
+-- remembered one's pass is witnessed); from any other its sender is remembered. Previous is the ring's at this telegram, after the
+-- poll's earlier tokens
 unfoldable pub tokenToUs : Core → Ring → Micros → OptionAddress → OptionAddress → ℕ → ℕ → Heard
 tokenToUs c ring now request newPreviousStation destination source =
     cond (eqb source (prevOf ring)) (acceptedOf c ring now)
