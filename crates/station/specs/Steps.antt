@@ -37,7 +37,7 @@ withTokenTime now = record { «token_time» = now; «first_app» = optionApplica
 unfoldable pub toListenToken : Core → Core
 toListenToken c = withState c (ListenToken optionAddress.None 0)
 
--- State::transition_active_idle: it clears request, predecessor and collisions. No other place forgets the predecessor
+-- State::transition_active_idle: it clears request, predecessor and collisions. A remembered predecessor is cleared only here
 unfoldable pub toActiveIdle : Core → Core
 toActiveIdle c = withState c (ActiveIdle optionAddress.None optionAddress.None 0)
 
