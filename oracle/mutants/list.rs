@@ -14,27 +14,12 @@ pub struct Planted {
 
 /// An error that generated traces have to find.
 const fn planted(file: &'static str, old: &'static str, new: &'static str) -> Planted {
-    Planted {
-        file,
-        old,
-        new,
-        hidden: "",
-    }
+    Planted { file, old, new, hidden: "" }
 }
 
 /// An error that no generated trace can show, and why.
-const fn hidden(
-    file: &'static str,
-    old: &'static str,
-    new: &'static str,
-    hidden: &'static str,
-) -> Planted {
-    Planted {
-        file,
-        old,
-        new,
-        hidden,
-    }
+const fn hidden(file: &'static str, old: &'static str, new: &'static str, hidden: &'static str) -> Planted {
+    Planted { file, old, new, hidden }
 }
 
 pub const PLANTED: &[Planted] = &[

@@ -1,9 +1,9 @@
 //! Entries per second of two calls on one long ordinary trace, in one process.
 
-use crate::ordinary::{header, ordinary_trace};
-use crate::records::{Answer, PollRecord, Sent};
+use super::compare::Replay;
+use crate::generator::ordinary::{header, ordinary_trace};
+use crate::records::{PollRecord, Sent};
 use crate::trace::{Entry, Runner, ANSWER, HEADER};
-use crate::trace_compare::Replay;
 use std::time::Instant;
 
 /// How often each call is run.
@@ -14,11 +14,7 @@ fn once(replay: Replay, trace: &[u8], entries: usize) -> (f64, u64, Vec<u8>) {
     let mut answers = vec![0; ANSWER * entries];
     let started = Instant::now();
     let number = replay(trace, &mut answers);
-    (
-        entries as f64 / started.elapsed().as_secs_f64(),
-        number,
-        answers,
-    )
+    (entries as f64 / started.elapsed().as_secs_f64(), number, answers)
 }
 
 /// The oracle's polls alone, with the records read beforehand and the answers not written: how much of
@@ -36,11 +32,7 @@ fn station_alone(trace: &[u8]) -> f64 {
     let mut runner = Runner::new(&header);
     runner.entry(Entry::Online);
     let started = Instant::now();
-    let sends = |record: &PollRecord| match runner.poll(record) {
-        Answer::Done { sent, .. } => sent != Sent::Nothing,
-        Answer::Refused { .. } => false,
-    };
-    let sent = records.iter().map(sends).filter(|sent| *sent).count();
+    let sent = records.iter().filter(|record| runner.poll(record).sent != Sent::Nothing).count();
     let seconds = started.elapsed().as_secs_f64();
     assert!(sent > 0, "the ordinary trace sends nothing");
     records.len() as f64 / seconds
@@ -68,10 +60,8 @@ pub fn speed(names: [&str; 2], calls: [Replay; 2], entries: usize) -> Result<Str
         runs[0].push(first);
         runs[1].push(second);
     }
-    let mut said = format!(
-        "speed: {} entries of one ordinary trace, {} runs each in turn, one process\n",
-        entries, RUNS
-    );
+    let mut said =
+        format!("speed: {} entries of one ordinary trace, {} runs each in turn, one process\n", entries, RUNS);
     let mut middles = Vec::new();
     for (name, runs) in names.iter().zip(&runs) {
         let (middle, spread) = middle_and_spread(runs);
@@ -85,12 +75,7 @@ pub fn speed(names: [&str; 2], calls: [Replay; 2], entries: usize) -> Result<Str
         ));
         middles.push(middle);
     }
-    said.push_str(&format!(
-        "speed: {} : {} = {:.2}\n",
-        names[0],
-        names[1],
-        middles[0] / middles[1]
-    ));
+    said.push_str(&format!("speed: {} : {} = {:.2}\n", names[0], names[1], middles[0] / middles[1]));
     let alone: Vec<f64> = (0..RUNS).map(|_| station_alone(&trace)).collect();
     let (middle, spread) = middle_and_spread(&alone);
     said.push_str(&format!(

@@ -14,7 +14,7 @@ pub use parameters::{Parameters, ParametersBuilder};
 /// The published `parameters.rs`.
 #[allow(dead_code, clippy::all)]
 pub mod parameters {
-    include!("../published/parameters.rs");
+    include!("../../published/parameters.rs");
 
     /// The private function of the published file.
     pub fn factors(dur: crate::time::Duration) -> Option<Result<(u8, u8), ()>> {
@@ -49,13 +49,8 @@ pub enum ResponseStatus {
 
 #[derive(Debug, Clone, Copy, PartialEq, Eq)]
 pub enum FunctionCode {
-    Request {
-        status_request: bool,
-    },
-    Response {
-        state: ResponseState,
-        status: ResponseStatus,
-    },
+    Request { status_request: bool },
+    Response { state: ResponseState, status: ResponseStatus },
 }
 
 #[derive(Debug, Clone, Copy, PartialEq, Eq)]
@@ -74,9 +69,7 @@ impl DataTelegram {
     /// Something, if this is an FDL status request.
     pub fn is_fdl_status_request(&self) -> Option<()> {
         match self.h.fc {
-            FunctionCode::Request {
-                status_request: true,
-            } => Some(()),
+            FunctionCode::Request { status_request: true } => Some(()),
             _ => None,
         }
     }
@@ -101,49 +94,26 @@ impl Telegram {
 
     /// The telegram that a poll record lists.
     pub fn of_record(telegram: &records::Telegram) -> Telegram {
+        let data = |da, sa, fc| Telegram::Data(DataTelegram { h: DataTelegramHeader { da, sa, fc } });
         match *telegram {
-            records::Telegram::Token {
-                destination,
-                source,
-            } => Telegram::Token(TokenTelegram {
-                da: destination,
-                sa: source,
-            }),
+            records::Telegram::Token { destination: da, source: sa } => Telegram::Token(TokenTelegram { da, sa }),
             records::Telegram::ShortConfirmation => Telegram::ShortConfirmation(ShortConfirmation),
-            records::Telegram::Request {
-                destination,
-                source,
-                status_request,
-            } => Telegram::Data(DataTelegram {
-                h: DataTelegramHeader {
-                    da: destination,
-                    sa: source,
-                    fc: FunctionCode::Request { status_request },
-                },
-            }),
-            records::Telegram::Response {
-                destination,
-                source,
-                station_type,
-                status,
-            } => Telegram::Data(DataTelegram {
-                h: DataTelegramHeader {
-                    da: destination,
-                    sa: source,
-                    fc: FunctionCode::Response {
-                        state: match station_type {
-                            0 => ResponseState::Slave,
-                            1 => ResponseState::MasterNotReady,
-                            2 => ResponseState::MasterWithoutToken,
-                            _ => ResponseState::MasterInRing,
-                        },
-                        status: match status {
-                            0 => ResponseStatus::Ok,
-                            other => ResponseStatus::Other(other),
-                        },
-                    },
-                },
-            }),
+            records::Telegram::Request { destination, source, status_request } => {
+                data(destination, source, FunctionCode::Request { status_request })
+            }
+            records::Telegram::Response { destination, source, station_type, status } => {
+                let state = match station_type {
+                    0 => ResponseState::Slave,
+                    1 => ResponseState::MasterNotReady,
+                    2 => ResponseState::MasterWithoutToken,
+                    _ => ResponseState::MasterInRing,
+                };
+                let status = match status {
+                    0 => ResponseStatus::Ok,
+                    other => ResponseStatus::Other(other),
+                };
+                data(destination, source, FunctionCode::Response { state, status })
+            }
         }
     }
 }
@@ -156,14 +126,8 @@ pub struct TelegramTxResponse {
 }
 
 impl TelegramTxResponse {
-    /// "A token has 3 bytes, an FDL status request or response 6."
     pub fn bytes_sent(&self) -> usize {
-        match self.sent {
-            Sent::Nothing => 0,
-            Sent::Token { .. } => 3,
-            Sent::StatusRequest { .. } | Sent::StatusResponse { .. } => 6,
-            Sent::Application { bytes, .. } => usize::from(bytes),
-        }
+        usize::from(self.sent.bytes())
     }
 
     pub fn expects_reply(&self) -> Option<Address> {
@@ -176,17 +140,11 @@ pub struct TelegramTx;
 
 impl TelegramTx {
     pub fn send_token_telegram(self, da: Address, _sa: Address) -> TelegramTxResponse {
-        TelegramTxResponse {
-            sent: Sent::Token { destination: da },
-            expects_reply: None,
-        }
+        TelegramTxResponse { sent: Sent::Token { destination: da }, expects_reply: None }
     }
 
     pub fn send_fdl_status_request(self, da: Address, _sa: Address) -> TelegramTxResponse {
-        TelegramTxResponse {
-            sent: Sent::StatusRequest { destination: da },
-            expects_reply: Some(da),
-        }
+        TelegramTxResponse { sent: Sent::StatusRequest { destination: da }, expects_reply: Some(da) }
     }
 
     pub fn send_fdl_status_response(
@@ -197,10 +155,7 @@ impl TelegramTx {
         _status: ResponseStatus,
     ) -> TelegramTxResponse {
         TelegramTxResponse {
-            sent: Sent::StatusResponse {
-                destination: da,
-                response_type: state as u8,
-            },
+            sent: Sent::StatusResponse { destination: da, response_type: state as u8 },
             expects_reply: None,
         }
     }
@@ -214,12 +169,7 @@ impl TelegramTx {
         bytes: u8,
     ) -> TelegramTxResponse {
         TelegramTxResponse {
-            sent: Sent::Application {
-                destination: reply.unwrap_or(0),
-                application,
-                high,
-                bytes,
-            },
+            sent: Sent::Application { destination: reply.unwrap_or(0), application, high, bytes },
             expects_reply: reply,
         }
     }
@@ -237,13 +187,7 @@ pub trait FdlApplication {
     ) -> Option<TelegramTxResponse>;
 
     /// The reply to what was sent last.
-    fn receive_reply(
-        &mut self,
-        now: Instant,
-        fdl: &FdlActiveStation,
-        addr: Address,
-        telegram: Telegram,
-    );
+    fn receive_reply(&mut self, now: Instant, fdl: &FdlActiveStation, addr: Address, telegram: Telegram);
 
     /// No reply came from this address.
     fn handle_timeout(&mut self, now: Instant, fdl: &FdlActiveStation, addr: Address);

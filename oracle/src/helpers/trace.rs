@@ -33,44 +33,41 @@ pub struct Header {
 }
 
 impl Header {
+    /// The header of document 01's example 12.
+    pub const EXAMPLE_12: Header = Header {
+        address: 5,
+        baud: 6,
+        slot: 200,
+        rotation: 32436,
+        gap: 10,
+        hsa: 126,
+        retry: 1,
+        min_tsdr: 11,
+        applications: 1,
+        factors: (0, 0),
+        zero: 0,
+    };
+
     pub fn read(bytes: &[u8; HEADER]) -> Header {
-        let b = bytes;
-        Header {
-            address: b[0],
-            baud: b[1],
-            slot: u16::from_be_bytes([b[2], b[3]]),
-            rotation: u32::from_be_bytes([b[4], b[5], b[6], b[7]]),
-            gap: b[8],
-            hsa: b[9],
-            retry: b[10],
-            min_tsdr: b[11],
-            applications: b[12],
-            factors: (b[13], b[14]),
-            zero: b[15],
-        }
+        let [address, baud, s0, s1, r0, r1, r2, r3, gap, hsa, retry, min_tsdr, applications, f1, f2, zero] = *bytes;
+        let (slot, rotation) = (u16::from_be_bytes([s0, s1]), u32::from_be_bytes([r0, r1, r2, r3]));
+        let factors = (f1, f2);
+        Header { address, baud, slot, rotation, gap, hsa, retry, min_tsdr, applications, factors, zero }
     }
 
-    pub fn write(&self) -> [u8; HEADER] {
-        let slot = self.slot.to_be_bytes();
-        let rotation = self.rotation.to_be_bytes();
-        [
-            self.address,
-            self.baud,
-            slot[0],
-            slot[1],
-            rotation[0],
-            rotation[1],
-            rotation[2],
-            rotation[3],
-            self.gap,
-            self.hsa,
-            self.retry,
-            self.min_tsdr,
-            self.applications,
-            self.factors.0,
-            self.factors.1,
-            self.zero,
-        ]
+    pub fn write(&self) -> Vec<u8> {
+        let (f1, f2) = self.factors;
+        let mut bytes = vec![self.address, self.baud];
+        bytes.extend(self.slot.to_be_bytes());
+        bytes.extend(self.rotation.to_be_bytes());
+        bytes.extend([self.gap, self.hsa, self.retry, self.min_tsdr, self.applications, f1, f2, self.zero]);
+        bytes
+    }
+
+    /// The header that a trace starts with, if it has one that is accepted.
+    pub fn accepted(trace: &[u8]) -> Option<Header> {
+        let header = Header::read(trace.get(..HEADER)?.try_into().ok()?);
+        header.refusal().is_none().then_some(header)
     }
 
     /// The number of the refusal: that of the first fault.
@@ -93,19 +90,12 @@ impl Header {
             (8, (self.factors.0 == 0) != (self.factors.1 == 0)),
             (14, self.zero != 0),
         ];
-        rules
-            .iter()
-            .filter(|rule| rule.1)
-            .map(|rule| rule.0)
-            .collect()
+        rules.iter().filter(|(_, broken)| *broken).map(|(number, _)| *number).collect()
     }
 
     /// Whether the slot bits are below the least for the baud code, if that code is one.
     fn slot_too_small(&self) -> bool {
-        match LEAST_SLOT_BITS.get(usize::from(self.baud)) {
-            Some(least) => self.slot < *least,
-            None => false,
-        }
+        LEAST_SLOT_BITS.get(usize::from(self.baud)).map_or(false, |least| self.slot < *least)
     }
 
     /// The settings of an accepted header, made by the published builder. "HSA does not set rotation
@@ -165,29 +155,21 @@ pub struct Runner {
 impl Runner {
     /// A fresh station for an accepted header.
     pub fn new(header: &Header) -> Runner {
-        Runner {
-            station: FdlActiveStation::new(header.parameters()),
-            applications: header.applications,
-        }
+        Runner { station: FdlActiveStation::new(header.parameters()), applications: header.applications }
     }
 
     /// Does what the entry says and gives its answer.
     pub fn entry(&mut self, entry: Entry) -> Answer {
         match entry {
-            Entry::Online => {
-                self.station.set_online();
-                self.done(0, Sent::Nothing, 0, Notice::Nothing)
-            }
-            Entry::Offline => {
-                self.station.set_offline();
-                self.done(0, Sent::Nothing, 0, Notice::Nothing)
-            }
-            Entry::Passive => self.refused(16),
+            Entry::Online => self.station.set_online(),
+            Entry::Offline => self.station.set_offline(),
+            Entry::Passive => return self.answer(16),
             Entry::Poll(bytes) => match PollRecord::decode(self.applications, bytes) {
-                Ok(record) => self.poll(&record),
-                Err(refused) => self.refused(refused.number),
+                Ok(record) => return self.poll(&record),
+                Err((number, _)) => return self.answer(number),
             },
         }
+        self.answer(0)
     }
 
     /// Polls the published station with a port and applications that do what the record says.
@@ -195,9 +177,9 @@ impl Runner {
         let now = Instant::from_micros(record.clock as i64);
         let mut port = RecordPort::new(record);
         let mut applications = RecordApplication::all(record);
-        let mut list: Vec<&mut dyn FdlApplication> = Vec::with_capacity(applications.len());
+        let mut list = Vec::with_capacity(applications.len());
         for application in applications.iter_mut() {
-            list.push(application);
+            list.push(application as &mut dyn FdlApplication);
         }
         let outcome = self.station.poll_done(now, &mut port, &mut list);
         let mut notice = Notice::Nothing;
@@ -207,28 +189,40 @@ impl Runner {
                 notice = application.notice;
             }
         }
-        self.done(outcome, port.sent, port.consumed as u8, notice)
+        Answer { outcome, sent: port.sent, consumed: port.consumed as u8, notice, ..self.answer(0) }
     }
 
-    fn done(&self, outcome: u8, sent: Sent, consumed: u8, notice: Notice) -> Answer {
-        Answer::Done {
-            outcome,
+    /// The answer to an entry that sends, takes and tells nothing.
+    fn answer(&self, refusal: u8) -> Answer {
+        Answer {
+            refusal,
+            outcome: 0,
             state: self.station.state_number(),
-            sent,
-            consumed,
-            notice,
+            sent: Sent::Nothing,
+            consumed: 0,
+            notice: Notice::Nothing,
             next_application: self.station.next_application() as u8,
             next_station: self.station.inspect_token_ring().next_station(),
         }
     }
+}
 
-    fn refused(&self, number: u8) -> Answer {
-        Answer::Refused {
-            number,
-            state: self.station.state_number(),
-            next_application: self.station.next_application() as u8,
-            next_station: self.station.inspect_token_ring().next_station(),
-        }
+/// A trace in parts, and the buffer for its answers. Damage may have moved where the entries begin.
+#[derive(Debug, Clone, PartialEq, Eq)]
+pub struct Trace {
+    pub header: Vec<u8>,
+    /// One part for each entry as it was meant.
+    pub entries: Vec<Vec<u8>>,
+    /// The length of the answer buffer.
+    pub room: usize,
+    /// The byte that the buffer is filled with before the call.
+    pub fill: u8,
+}
+
+impl Trace {
+    /// The whole trace.
+    pub fn bytes(&self) -> Vec<u8> {
+        [self.header.clone(), self.entries.concat()].concat()
     }
 }
 

@@ -25,9 +25,7 @@ impl Add<Duration> for Instant {
     type Output = Instant;
 
     fn add(self, time: Duration) -> Instant {
-        Instant {
-            micros: self.micros + time.micros as i64,
-        }
+        Instant { micros: self.micros + time.micros as i64 }
     }
 }
 
@@ -42,9 +40,7 @@ impl Sub<Instant> for Instant {
     type Output = Duration;
 
     fn sub(self, earlier: Instant) -> Duration {
-        Duration {
-            micros: u64::try_from(self.micros - earlier.micros).unwrap_or(0),
-        }
+        Duration { micros: u64::try_from(self.micros - earlier.micros).unwrap_or(0) }
     }
 }
 
@@ -62,15 +58,11 @@ impl Duration {
     }
 
     pub fn from_millis(millis: u64) -> Duration {
-        Duration {
-            micros: millis * 1000,
-        }
+        Duration { micros: millis * 1000 }
     }
 
     pub fn from_secs(secs: u64) -> Duration {
-        Duration {
-            micros: secs * 1_000_000,
-        }
+        Duration { micros: secs * 1_000_000 }
     }
 
     pub fn total_micros(self) -> u64 {

@@ -1,7 +1,5 @@
-//! Document 01, "Ring (ours)", word by word, over a plain set.
-//!
-//! Addresses are walked one by one; nothing here is clever. The names are those that the Rust
-//! station calls.
+//! Document 01, "Ring (ours)", word by word, over a plain set whose addresses are walked one by one. The names are those
+//! that the published station calls.
 
 pub type Address = u8;
 
@@ -53,18 +51,9 @@ impl TokenRing {
     /// "Fresh: own only, 0, no." An own address above 125 is refused long before (refusal 1).
     pub fn new(own: Address) -> Self {
         assert!(own <= LAST, "own address {} is above {}", own, LAST);
-        let mut ring = TokenRing {
-            own,
-            members: [false; LAST as usize + 1],
-            laps: 0,
-            ready: false,
-        };
+        let mut ring = TokenRing { own, members: [false; LAST as usize + 1], laps: 0, ready: false };
         ring.members[own as usize] = true;
         ring
-    }
-
-    pub fn own(&self) -> Address {
-        self.own
     }
 
     /// "Next: first member going up from own, 125 followed by 0; own if alone."
@@ -134,25 +123,8 @@ impl TokenRing {
         self.ready
     }
 
-    pub fn laps(&self) -> u8 {
-        self.laps
-    }
-
-    pub fn member(&self, address: Address) -> bool {
-        address <= LAST && self.members[address as usize]
-    }
-
-    /// The members, lowest first.
-    pub fn members(&self) -> impl Iterator<Item = Address> + '_ {
-        (0..=LAST).filter(|address| self.members[*address as usize])
-    }
-
     pub fn size(&self) -> usize {
-        self.members().count()
-    }
-
-    pub fn alone(&self) -> bool {
-        self.size() == 1
+        self.members.iter().filter(|member| **member).count()
     }
 
     /// "Gap walk from a: candidate a + 1, or 0 if that is ≥ HSA. It is polled exactly if it lies
@@ -163,16 +135,12 @@ impl TokenRing {
             Some(above) if above < highest_station_address => above,
             _ => 0,
         };
-        let polled = if self.alone() {
+        let polled = if self.size() == 1 {
             candidate != self.own
         } else {
             strictly_between(self.own, self.next_station()).contains(&candidate)
         };
-        if polled {
-            Some(candidate)
-        } else {
-            None
-        }
+        polled.then_some(candidate)
     }
 }
 
@@ -182,57 +150,44 @@ mod tests {
 
     fn ring(own: Address, others: &[Address]) -> TokenRing {
         let mut ring = TokenRing::new(own);
-        for &address in others {
-            ring.set_next_station(address);
-        }
+        others.iter().for_each(|address| ring.set_next_station(*address));
         ring
     }
 
     fn listed(ring: &TokenRing) -> Vec<Address> {
-        ring.members().collect()
-    }
-
-    #[test]
-    fn a_fresh_ring_is_alone() {
-        let ring = TokenRing::new(5);
-        assert_eq!(listed(&ring), [5]);
-        assert_eq!((ring.next_station(), ring.previous_station()), (5, 5));
-        assert_eq!((ring.laps(), ring.ready_for_ring()), (0, false));
+        (0..=LAST).filter(|address| ring.members[*address as usize]).collect()
     }
 
     #[test]
     fn next_and_previous_pass_125_to_0() {
-        let ring = ring(125, &[3, 9]);
-        assert_eq!((ring.next_station(), ring.previous_station()), (3, 9));
-        let ring = self::ring(0, &[125]);
-        assert_eq!((ring.next_station(), ring.previous_station()), (125, 125));
+        for (own, others, next, previous) in
+            [(5, &[][..], 5, 5), (125, &[3, 9], 3, 9), (0, &[125], 125, 125), (5, &[9, 2], 9, 2)]
+        {
+            let ring = ring(own, others);
+            assert_eq!((ring.next_station(), ring.previous_station()), (next, previous));
+        }
     }
 
     #[test]
     fn a_pass_takes_out_those_it_jumps_but_never_own() {
         let mut ring = ring(5, &[4, 6, 9]);
-        ring.witness_token_pass(3, 9);
-        assert_eq!(listed(&ring), [3, 5, 9]);
-        ring.witness_token_pass(120, 2);
-        assert_eq!(listed(&ring), [2, 3, 5, 9, 120]);
-        ring.witness_token_pass(9, 3);
-        assert_eq!(listed(&ring), [3, 5, 9]);
+        for (source, destination, left) in
+            [(3, 9, &[3, 5, 9][..]), (120, 2, &[2, 3, 5, 9, 120]), (9, 3, &[3, 5, 9]), (3, 3, &[3, 5, 9])]
+        {
+            ring.witness_token_pass(source, destination);
+            assert_eq!(listed(&ring), left);
+        }
     }
 
     #[test]
     fn one_pass_can_reset_laps_and_raise_them() {
         let mut ring = TokenRing::new(5);
-        ring.witness_token_pass(9, 9);
-        assert_eq!((ring.laps(), ring.ready_for_ring()), (1, false));
-        ring.witness_token_pass(9, 9);
-        assert_eq!((ring.laps(), ring.ready_for_ring()), (2, true));
-        ring.witness_token_pass(9, 9);
-        assert_eq!(ring.laps(), 2);
-        ring.witness_token_pass(9, 10);
-        assert_eq!((ring.laps(), ring.ready_for_ring()), (0, true));
-        ring.witness_token_pass(10, 9);
-        ring.witness_token_pass(10, 8);
-        assert_eq!(ring.laps(), 1);
+        for (source, destination, laps, ready) in
+            [(9, 9, 1, false), (9, 9, 2, true), (9, 9, 2, true), (9, 10, 0, true), (10, 9, 1, true), (10, 8, 1, true)]
+        {
+            ring.witness_token_pass(source, destination);
+            assert_eq!((ring.laps, ring.ready), (laps, ready), "{} to {}", source, destination);
+        }
     }
 
     #[test]
@@ -241,10 +196,8 @@ mod tests {
         for high in [126, 127, 200, 255] {
             ring.witness_token_pass(high, 3);
             ring.witness_token_pass(3, high);
-            ring.witness_token_pass(high, high);
             ring.set_next_station(high);
             ring.remove_station(high);
-            assert!(!ring.member(high));
         }
         assert_eq!(ring, TokenRing::new(5));
     }
@@ -257,32 +210,25 @@ mod tests {
         ring.set_next_station(7);
         ring.remove_station(7);
         ring.remove_station(5);
-        assert_eq!((ring.laps(), ring.ready_for_ring()), (1, true));
-        assert_eq!(listed(&ring), [5, 9]);
+        assert_eq!((ring.laps, ring.ready, listed(&ring)), (1, true, vec![5, 9]));
     }
 
-    /// Document 01, example 8.
+    /// Document 01's example 8, then gaps that end at the next station.
     #[test]
-    fn the_gap_walk_of_example_8() {
-        let ring = TokenRing::new(5);
-        assert_eq!(ring.gap_walk(5, 126), Some(6));
-        assert_eq!(ring.gap_walk(125, 126), Some(0));
-        assert_eq!(ring.gap_walk(4, 126), None);
-    }
-
-    #[test]
-    fn the_gap_ends_at_next() {
-        let ring = ring(5, &[9, 2]);
-        assert_eq!(ring.gap_walk(7, 126), Some(8));
-        assert_eq!(ring.gap_walk(8, 126), None);
-        assert_eq!(ring.gap_walk(9, 126), None);
-        assert_eq!(ring.gap_walk(5, 6), None);
-        let ring = self::ring(100, &[3]);
-        assert_eq!(ring.gap_walk(100, 110), Some(101));
-        assert_eq!(ring.gap_walk(109, 110), Some(0));
-        assert_eq!(ring.gap_walk(255, 110), Some(0));
-        assert_eq!(ring.gap_walk(1, 110), Some(2));
-        assert_eq!(ring.gap_walk(2, 110), None);
-        assert_eq!(ring.gap_walk(99, 110), None);
+    fn the_gap_walk() {
+        for (own, others, from, hsa, polled) in [
+            (5, &[][..], 5, 126, Some(6)),
+            (5, &[], 125, 126, Some(0)),
+            (5, &[], 4, 126, None),
+            (5, &[9, 2], 7, 126, Some(8)),
+            (5, &[9, 2], 8, 126, None),
+            (5, &[9, 2], 5, 6, None),
+            (100, &[3], 109, 110, Some(0)),
+            (100, &[3], 255, 110, Some(0)),
+            (100, &[3], 1, 110, Some(2)),
+            (100, &[3], 2, 110, None),
+        ] {
+            assert_eq!(ring(own, others).gap_walk(from, hsa), polled, "own {}, from {}", own, from);
+        }
     }
 }

@@ -1,5 +1,5 @@
-//! A port and applications that do what a poll record says and write down what the station asked of
-//! them. The answer's fields are taken from here.
+//! A port and applications that do what a poll record says and write down what the station did: the answer's fields are
+//! taken from here.
 
 use crate::fdl::{FdlActiveStation, FdlApplication, Telegram, TelegramTx, TelegramTxResponse};
 use crate::phy::ProfibusPhy;
@@ -18,11 +18,7 @@ pub struct RecordPort<'a> {
 
 impl<'a> RecordPort<'a> {
     pub fn new(record: &'a PollRecord) -> Self {
-        RecordPort {
-            record,
-            sent: Sent::Nothing,
-            consumed: 0,
-        }
+        RecordPort { record, sent: Sent::Nothing, consumed: 0 }
     }
 
     /// The telegrams not yet taken. The published trait forbids this call in a transmission.
@@ -88,12 +84,7 @@ pub struct RecordApplication {
 impl RecordApplication {
     /// The applications of a record, in their order.
     pub fn all(record: &PollRecord) -> Vec<RecordApplication> {
-        let of = |(index, &(normal, high))| RecordApplication {
-            index,
-            normal,
-            high,
-            notice: Notice::Nothing,
-        };
+        let of = |(index, &(normal, high))| RecordApplication { index, normal, high, notice: Notice::Nothing };
         (0..).zip(&record.decisions).map(of).collect()
     }
 
@@ -111,36 +102,18 @@ impl FdlApplication for RecordApplication {
         tx: TelegramTx,
         high_prio_only: bool,
     ) -> Option<TelegramTxResponse> {
-        let decision = if high_prio_only {
-            self.high
-        } else {
-            self.normal
-        };
+        let decision = if high_prio_only { self.high } else { self.normal };
         match decision {
             Decision::Declines => None,
-            Decision::Sends { reply, length } => {
-                Some(tx.send_application(self.index, high_prio_only, reply, length))
-            }
+            Decision::Sends { reply, length } => Some(tx.send_application(self.index, high_prio_only, reply, length)),
         }
     }
 
-    fn receive_reply(
-        &mut self,
-        _now: Instant,
-        _fdl: &FdlActiveStation,
-        addr: Address,
-        _telegram: Telegram,
-    ) {
-        self.tell(Notice::Reply {
-            application: self.index,
-            address: addr,
-        });
+    fn receive_reply(&mut self, _now: Instant, _fdl: &FdlActiveStation, addr: Address, _telegram: Telegram) {
+        self.tell(Notice::Reply { application: self.index, address: addr });
     }
 
     fn handle_timeout(&mut self, _now: Instant, _fdl: &FdlActiveStation, addr: Address) {
-        self.tell(Notice::Timeout {
-            application: self.index,
-            address: addr,
-        });
+        self.tell(Notice::Timeout { application: self.index, address: addr });
     }
 }
