@@ -1,5 +1,14 @@
 //! The planted errors. Each is one change of a text that stands exactly once in its file.
 
+/// The run that shows an error.
+#[derive(Debug, Clone, Copy, PartialEq, Eq)]
+pub enum By {
+    Traces,
+    SettingsTable,
+    /// None can, and why.
+    Nothing(&'static str),
+}
+
 /// One planted error.
 pub struct Planted {
     /// The file of the oracle; "active" and "parameters" are the published ones.
@@ -8,18 +17,22 @@ pub struct Planted {
     pub old: &'static str,
     /// What is put in its place.
     pub new: &'static str,
-    /// Why no generated trace can show it; empty if one does.
-    pub hidden: &'static str,
+    pub by: By,
 }
 
 /// An error that generated traces have to find.
 const fn planted(file: &'static str, old: &'static str, new: &'static str) -> Planted {
-    Planted { file, old, new, hidden: "" }
+    Planted { file, old, new, by: By::Traces }
 }
 
-/// An error that no generated trace can show, and why.
-const fn hidden(file: &'static str, old: &'static str, new: &'static str, hidden: &'static str) -> Planted {
-    Planted { file, old, new, hidden }
+/// An error of the published settings that the settings table has to find.
+const fn settings(old: &'static str, new: &'static str) -> Planted {
+    Planted { file: "parameters", old, new, by: By::SettingsTable }
+}
+
+/// An error that no trace can show, and why.
+const fn hidden(file: &'static str, old: &'static str, new: &'static str, why: &'static str) -> Planted {
+    Planted { file, old, new, by: By::Nothing(why) }
 }
 
 pub const PLANTED: &[Planted] = &[
@@ -311,6 +324,23 @@ pub const PLANTED: &[Planted] = &[
     planted("parameters", "assert!(ttr >= 256 && ttr <= 16_777_960);", "assert!(ttr > 256 && ttr <= 16_777_960);"),
     planted("parameters", "self.0.gap_wait_rotations = gap_wait;", "self.0.gap_wait_rotations = gap_wait - 1;"),
     planted("parameters", "assert!(hsa > self.0.address && hsa <= 126);", "assert!(hsa > self.0.address + 1 && hsa <= 126);"),
+    // The settings as no trace makes them.
+    settings("assert!(address <= 125);", "assert!(address <= 126);"),
+    settings("assert!(slot_bits >= min_slot_bits(self.0.baudrate));", "assert!(slot_bits + 1 >= min_slot_bits(self.0.baudrate));"),
+    settings("hsa <= 126);\n        self", "hsa <= 127);\n        self"),
+    settings("u32::from(hsa) * 5000", "u32::from(hsa) * 4999"),
+    settings("ttr <= 16_777_960", "ttr <= 16_777_961"),
+    settings("gap_wait >= 1 &&", "gap_wait <= 100 &&"),
+    settings("max_retry_limit <= 15", "max_retry_limit <= 16"),
+    settings("min_tsdr_bits >= 11", "min_tsdr_bits >= 10"),
+    settings("Duration::from_millis(10));", "Duration::from_millis(9));"),
+    settings("Duration::from_secs(650));", "Duration::from_secs(651));"),
+    settings("(timeout_10ms + f1 - 1) / f1", "timeout_10ms / f1"),
+    settings("if f2 < 256 {", "if f2 < 255 {"),
+    settings("for f1 in 1..256 {", "for f1 in 1..255 {"),
+    settings("max_tsdr + 15", "max_tsdr + 14"),
+    settings("u32::from(self.min_tsdr_bits)", "u32::from(self.min_tsdr_bits) + 1"),
+    settings("u64::from(f2) * 10", "u64::from(f2) * 11"),
     // The ring.
     planted("ring", "if source > LAST || destination > LAST {", "if source >= LAST || destination > LAST {"),
     planted("ring", "        self.members[source as usize] = true;\n", ""),
@@ -322,15 +352,77 @@ pub const PLANTED: &[Planted] = &[
     planted("ring", "Some(above) if above < highest_station_address => above,", "Some(above) if above <= highest_station_address => above,"),
     planted("ring", "            candidate != self.own\n", "            candidate != self.own || self.laps > 0\n"),
     planted("ring", "strictly_between(self.own, self.next_station())", "strictly_between(self.next_station(), self.own)"),
-    // Records and answers.
+    planted("ring", "        self.members[source as usize] = true;\n", "        self.members[source as usize] = source == self.own;\n"),
+    planted("ring", "        self.members[destination as usize] = true;\n", "        self.members[destination as usize] = destination == self.own;\n"),
+    planted("ring", "for address in strictly_between(source, destination) {\n", "for address in strictly_between(source, source) {\n"),
+    planted("ring", "    if from != to {\n", "    if from <= LAST {\n"),
+    planted("ring", "            if address != self.own {\n", "            let address = ((2 * u16::from(source) + 126 - u16::from(address)) % 126) as u8;\n            if address != self.own {\n"),
+    planted("ring", "            if address != self.own {\n", "            let address = if address < source { LAST } else { address };\n            if address != self.own {\n"),
+    planted("ring", "if source > LAST || destination > LAST {\n            return;\n        }\n", "if source > LAST {\n            return;\n        }\n        let destination = destination % 126;\n"),
+    planted("ring", "if source > LAST || destination > LAST {\n            return;\n        }\n", "if source > 126 || destination > 126 {\n            return;\n        }\n        let (source, destination) = (source % 126, destination % 126);\n"),
+    planted("ring", "        if self.members != before {\n            self.laps = 0;\n        }\n        if destination <= source {\n            self.laps = std::cmp::min(self.laps + 1, 2);\n        }\n", "        if destination <= source {\n            self.laps = std::cmp::min(self.laps + 1, 2);\n        }\n        if self.members != before {\n            self.laps = 0;\n        }\n"),
+    hidden("ring", "std::cmp::min(self.laps + 1, 2)", "std::cmp::min(self.laps + 1, 3)", "ready is set on the way to 3, at 2, and stays; laps are in no answer"),
+    planted("ring", "        if self.laps == 2 {\n            self.ready = true;\n        }\n", "        if self.laps == 2 {\n            self.ready = true;\n        } else if self.members != before {\n            self.ready = false;\n        }\n"),
+    hidden("ring", "    pub fn claim_token(&mut self) {\n", "    pub fn claim_token(&mut self) {\n        self.laps = 0;\n", "laps only make a ring ready, and a claim does that too"),
+    hidden("ring", "        if address <= LAST {\n", "        if address <= LAST {\n            self.laps = 0;\n", "laps only make a ring ready, and a station that asks the gap holds the token, so its ring is ready"),
+    hidden("ring", "        if address <= LAST {\n", "        if address <= LAST {\n            strictly_between(self.own, address).iter().for_each(|a| self.members[*a as usize] = false);\n", "the station adds only the address that it has just asked, which lies between own and next: nobody lies between own and it"),
+    hidden("ring", "        if address != self.own && address <= LAST {\n", "        if address != self.own && address <= LAST {\n            self.laps = 0;\n", "laps only make a ring ready, and a station that passes a token held it, so its ring is ready"),
+    hidden("ring", "        if address != self.own && address <= LAST {\n", "        if address <= LAST {\n", "the station takes out the next station alone, in CheckTokenPass, which it enters only with another station as next"),
+    planted("ring", "        address\n    }\n\n    /// \"Previous", "        if address < self.own {\n            self.own\n        } else {\n            address\n        }\n    }\n\n    /// \"Previous"),
+    planted("ring", "        let mut address = down(self.own);", "        return self.next_station();\n        let mut address = down(self.own);"),
+    planted("ring", "            candidate != self.own\n", "            true\n"),
+    planted("ring", ".contains(&candidate)", ".contains(&candidate) || candidate == self.next_station()"),
+    planted("ring", "strictly_between(self.own, self.next_station()).contains(&candidate)", "candidate != self.own"),
+    hidden("ring", "match from.checked_add(1) {", "match (from % 128 + 1).checked_rem(128) {", "the walk goes on from own or from a polled address, both at most 125"),
+    planted("active", "            *self = Self::new(parameters);", "            let ready = self.token_ring.ready_for_ring(); *self = Self::new(parameters); if ready { self.token_ring.claim_token(); }"),
+    // Records.
     planted("records", "        if count > 8 {", "        if count > 9 {"),
-    planted("records", "            return refused(13, Place::Count);", "            return refused(12, Place::Count);"),
-    planted("records", "if bytes.len() != 8 + 6 * applications + 4 * count {", "if bytes.len() < 8 + 6 * applications + 4 * count {"),
-    planted("records", "        if fields.zero != 0 {", "        if fields.zero > 1 {"),
+    planted("records", "return Err((13, Place::Count));", "return Err((12, Place::Count));"),
+    planted("records", "if bytes.len() != middle + 4 * count {", "if bytes.len() < middle + 4 * count {"),
+    planted("records", "if zero != 0\n            || (sends", "if zero > 1\n            || (sends"),
     planted("records", "            return Err(15);", "            return Err(14);"),
-    planted("records", "if fields.expects_reply == 0 && fields.reply_address != 0 {", "if fields.expects_reply == 0 && fields.reply_address > 1 {"),
-    planted("records", "        bits.put(8, self.bytes.into());", "        bits.put(8, (self.bytes % 128).into());"),
-    planted("records", "                        fields.high = high as u8;", "                        fields.high = !high as u8;"),
+    planted("records", "(expects_reply == 0 && reply_address != 0)", "(expects_reply == 0 && reply_address > 1)"),
+    planted("records", "(self.sent.kind(), self.sent.bytes())", "(self.sent.kind(), self.sent.bytes() % 128)"),
+    planted("records", "application, high as u8]", "application, !high as u8]"),
+    planted("records", "        // \"without a send all is zero, without a reply the address is\"\n", "        if sends == 1 && length == 0 {\n            return Err(15);\n        }\n        // \"without a send all is zero, without a reply the address is\"\n"),
+    planted("records", "        let mut decided = Vec::new();\n", "        if bytes[8..middle].chunks(3).any(|word| Decision::decode(word) == Err(14)) || bytes[middle..].chunks(4).any(|word| Telegram::decode(word).is_none()) {\n            return Err((14, Place::Length));\n        }\n        let mut decided = Vec::new();\n"),
+    planted("records", "        let mut decided = Vec::new();\n", "        if bytes[middle..].chunks(4).any(|word| Telegram::decode(word).is_none()) {\n            return Err((14, Place::Length));\n        }\n        let mut decided = Vec::new();\n"),
+    planted("records", "        let mut decided = Vec::new();\n", "        if let Some(number) = bytes[8..middle].chunks(3).rev().find_map(|word| Decision::decode(word).err()) {\n            return Err((number, Place::Length));\n        }\n        let mut decided = Vec::new();\n"),
+    planted("records", "        if count > 8 {", "        if bytes.len() != 8 + 6 * usize::from(applications) + 4 * count as usize {\n            return Err((12, Place::Length));\n        }\n        if count > 8 {"),
+    planted("records", "        if bytes.len() < 8 {", "        if bytes.len() == 7 && bytes[6] / 8 % 16 > 8 {\n            return Err((13, Place::Count));\n        }\n        if bytes.len() < 8 {"),
+    planted("records", "        if bytes.len() != middle + 4 * count {\n            return Err((12, Place::Length));\n        }\n", "        if bytes.len() != middle + 4 * count && bytes.len() != middle + 4 * count + 1 {\n            return Err((12, Place::Length));\n        }\n        let bytes = &bytes[..middle + 4 * count];\n"),
+    planted("records", "if zero != 0\n            || (sends", "if zero > 127\n            || (sends"),
+    planted("records", "            || (expects_reply == 0 && reply_address != 0)\n", ""),
+    planted("records", "(sends == 0 && (expects_reply != 0 || reply_address != 0 || length != 0))", "(sends == 0 && (reply_address != 0 || length != 0))"),
+    planted("records", "(sends == 0 && (expects_reply != 0 || reply_address != 0 || length != 0))", "(sends == 0 && (expects_reply != 0 || reply_address != 0))"),
+    planted("records", "        if length == 0 {", "        if length == 0 && expects_reply == 0 {"),
+    planted("records", "        // \"without a send all is zero, without a reply the address is\"\n", "        if sends == 0 && expects_reply == 1 && length == 0 {\n            return Err(15);\n        }\n        // \"without a send all is zero, without a reply the address is\"\n"),
+    planted("records", "        // \"without a send all is zero, without a reply the address is\"\n", "        if expects_reply == 1 && reply_address == 126 {\n            return Err(14);\n        }\n        // \"without a send all is zero, without a reply the address is\"\n"),
+    planted("records", "        for (i, word) in bytes[8..middle].chunks(3).enumerate() {\n", "        for (i, word) in bytes[8..middle].chunks(3).enumerate() {\n            let word = if 8 + 3 * i + 3 == middle && Decision::decode(word).is_err() { &[0; 3][..] } else { word };\n"),
+    planted("records", "(kind != 2 && status_request != 0)", "(kind != 2 && kind != 0 && status_request != 0)"),
+    planted("records", "(kind != 3 && (station_type != 0 || status != 0))", "(kind != 3 && ((kind != 2 && station_type != 0) || status != 0))"),
+    planted("records", "(kind != 3 && (station_type != 0 || status != 0))", "(kind != 3 && (station_type != 0 || (kind != 2 && status != 0)))"),
+    planted("records", "(kind != 2 && status_request != 0)", "(kind != 2 && kind != 3 && status_request != 0)"),
+    planted("records", "            || (kind == 1 && (destination != 0 || source != 0))\n", ""),
+    planted("records", "if zero != 0\n            || (kind", "if zero > 511\n            || (kind"),
+    planted("records", "            || (kind == 1 && (destination != 0 || source != 0))\n", "            || (kind == 1 && (destination != 0 || source != 0))\n            || source == 126\n"),
+    planted("records", "            || (kind == 1 && (destination != 0 || source != 0))\n", "            || (kind == 1 && (destination != 0 || source != 0))\n            || destination == 127\n"),
+    planted("records", "        for (i, word) in bytes[middle..].chunks(4).enumerate() {\n", "        for (i, word) in bytes[middle..].chunks(4).enumerate() {\n            let word = if i > 0 && i + 1 == count && Telegram::decode(word).is_none() { &[0x40, 0, 0, 0][..] } else { word };\n"),
+    planted("records", "Ok(PollRecord { clock,", "Ok(PollRecord { clock: clock % (1 << 47),"),
+    planted("records", "pending: pending as u16", "pending: pending as u16 % 1024"),
+    planted("records", "(pair[0], pair[1])", "(pair[1], pair[0])"),
+    // Answers.
+    planted("records", "            Sent::Token { .. } => 3,", "            Sent::Token { .. } => 4,"),
+    planted("records", "Sent::StatusResponse { .. } => 6,", "Sent::StatusResponse { .. } => 5,"),
+    planted("records", "[destination, response_type, 0, 0]", "[destination, 0, 0, 0]"),
+    planted("records", "Notice::Nothing => [0, 0, 0],", "Notice::Nothing => [0, 0, self.next_station],"),
+    planted("records", "[1, application, address]", "[2, application, address]"),
+    planted("records", "[2, application, address]", "[2, 0, address]"),
+    planted("records", "            self.consumed,\n", "            self.consumed % 8,\n"),
+    planted("records", "            self.next_station,\n", "            self.next_station % 125,\n"),
+    planted("records", "            0,\n        ];", "            1,\n        ];"),
+    planted("trace", "            outcome: 0,\n", "            outcome: u8::from(refusal != 0),\n"),
+    planted("trace", "            consumed: 0,\n", "            consumed: u8::from(refusal != 0),\n"),
     // The trace.
     planted("trace", "(1, self.address > 125),", "(1, self.address > 126),"),
     planted("trace", "(3, self.hsa <= self.address || self.hsa > 126),", "(3, self.hsa <= self.address || self.hsa > 125),"),
@@ -345,7 +437,7 @@ pub const PLANTED: &[Planted] = &[
     planted("trace", "            None => return (answered, 17),", "            None => return (answered, 18),"),
     planted("trace", "        if room.len() < ANSWER {", "        if room.len() <= ANSWER {"),
     planted("trace", "            return (answered, 18);", "            return (answered, 17);"),
-    planted("trace", "            Entry::Passive => self.refused(16),", "            Entry::Passive => self.refused(12),"),
+    planted("trace", "return self.answer(16)", "return self.answer(12)"),
     planted("trace", "trace.len() < HEADER {", "trace.len() <= HEADER {"),
     hidden(
         "trace",
@@ -353,6 +445,9 @@ pub const PLANTED: &[Planted] = &[
         "trace.len() as u64 > LONGEST + 1",
         "generated traces are short; compare_proved tries traces of 2^32 bytes and of one byte more besides",
     ),
+    planted("trace", "(11, self.applications < 1 || self.applications > 8),", "(11, self.applications > 8),"),
+    planted("trace", "(11, self.applications < 1 || self.applications > 8),", "(11, self.applications < 1 || self.applications > 9),"),
+    planted("trace", "(11, self.applications < 1 || self.applications > 8),\n            (8, (self.factors.0 == 0) != (self.factors.1 == 0)),", "(8, (self.factors.0 == 0) != (self.factors.1 == 0)),\n            (11, self.applications < 1 || self.applications > 8),"),
     // The port and the applications.
     planted("port", "i + 1 == pending.len()", "i == 0"),
     planted("port", "            said = Some(f(Telegram::of_record(telegram), i + 1 == pending.len()));", "            let one = f(Telegram::of_record(telegram), i + 1 == pending.len()); said = said.or(Some(one));"),
@@ -363,11 +458,11 @@ pub const PLANTED: &[Planted] = &[
         "let decision = if !high_prio_only {",
     ),
     // Telegrams, baud rates and times.
-    planted("fdl", "            Sent::Token { .. } => 3,", "            Sent::Token { .. } => 4,"),
-    planted("fdl", "Sent::StatusRequest { .. } | Sent::StatusResponse { .. } => 6,", "Sent::StatusRequest { .. } | Sent::StatusResponse { .. } => 5,"),
-    planted("fdl", "                destination: reply.unwrap_or(0),", "                destination: reply.unwrap_or(127),"),
-    planted("fdl", "                            0 => ResponseStatus::Ok,", "                            0 | 1 => ResponseStatus::Ok,"),
-    planted("fdl", "                            2 => ResponseState::MasterWithoutToken,", "                            2 => ResponseState::Slave,"),
+    planted("fdl", "usize::from(self.sent.bytes())", "usize::from(self.sent.bytes()) + usize::from(matches!(self.sent, Sent::Token { .. }))"),
+    planted("fdl", "usize::from(self.sent.bytes())", "usize::from(self.sent.bytes()) - usize::from(matches!(self.sent, Sent::StatusRequest { .. } | Sent::StatusResponse { .. }))"),
+    planted("fdl", "reply.unwrap_or(0)", "reply.unwrap_or(127)"),
+    planted("fdl", "0 => ResponseStatus::Ok,", "0 | 1 => ResponseStatus::Ok,"),
+    planted("fdl", "2 => ResponseState::MasterWithoutToken,", "2 => ResponseState::Slave,"),
     planted("baud", "(Baudrate::B45450, 45450),", "(Baudrate::B45450, 45454),"),
     planted("baud", "400, 600, 1000];", "400, 600, 999];"),
     planted(
@@ -381,5 +476,5 @@ pub const PLANTED: &[Planted] = &[
         "        self.micros = (self.micros - time.micros as i64).max(0);",
         "a clock is never below zero, so a hold that ended below zero and one that ended at zero are both over",
     ),
-    planted("time", "            micros: self.micros + time.micros as i64,", "            micros: self.micros + time.micros as i64 + 1,"),
+    planted("time", "micros: self.micros + time.micros as i64", "micros: self.micros + time.micros as i64 + 1"),
 ];
