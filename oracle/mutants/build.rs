@@ -62,7 +62,9 @@ fn main() {
                 writeln!(root, "#[path = \"{}.rs\"]\npub mod {};", file, file).expect("text");
             }
         }
-        root.push_str("pub mod station {\n    pub use super::active::{ConnectivityState, FdlActiveStation, Watched};\n}\n");
+        root.push_str(
+            "pub mod station {\n    pub use super::active::{ConnectivityState, FdlActiveStation, Watched};\n}\n",
+        );
         root.push_str("pub use baud::Baudrate;\npub use oracle::{debug_assert_address, Address};\n");
         std::fs::write(folder.join("mod.rs"), root).expect("a file can be written");
         writeln!(index, "#[path = \"{}/mod.rs\"]\nmod {};", name, name).expect("text");

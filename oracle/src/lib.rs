@@ -44,6 +44,7 @@ pub mod coverage {
     mod events;
     mod met;
     mod points;
+    mod poll;
     mod refusals;
     pub use met::Met;
 }
@@ -52,6 +53,7 @@ pub mod coverage {
 pub mod comparison {
     pub mod compare;
     pub mod program;
+    pub mod run;
     pub mod shorten;
     pub mod speed;
     mod words;

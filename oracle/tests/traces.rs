@@ -1,8 +1,8 @@
 //! Document 01's examples 9 to 12 through the oracle, the published calls that the replay does not make, the programs, and
 //! that the comparison can fail.
 
-use oracle::comparison::compare::{compare_traces, Replay};
-use oracle::comparison::hex;
+use oracle::comparison::compare::compare_traces;
+use oracle::comparison::{hex, run::Replay};
 use oracle::fdl::{FdlActiveStation, FdlApplication};
 use oracle::generator::trace;
 use oracle::port::{RecordApplication, RecordPort};

@@ -15,7 +15,7 @@ mod copies {
 }
 
 use list::{By, PLANTED};
-use oracle::comparison::compare::{first_difference, run, Left};
+use oracle::comparison::run::{first_difference, run, Left};
 use oracle::comparison::shorten::shorten;
 use oracle::generator::trace;
 use oracle::settings_table::table;

@@ -36,7 +36,7 @@ impl Program {
         let mut pipes = self.pipes.borrow_mut();
         let (input, output) = &mut *pipes;
         let lengths = [trace.len(), answers.len()].map(|length| (length as u64).to_be_bytes());
-        let said = [&lengths.concat(), trace, answers].concat();
+        let said = [&lengths.concat()[..], trace, answers].concat();
         input.as_mut().expect("its input").write_all(&said)?;
         let mut number = [0; 8];
         output.read_exact(&mut number)?;

@@ -1,6 +1,6 @@
 //! Makes a trace that differs as short as it can be.
 
-use super::compare::{parts_from_oracle, Replay};
+use super::run::{parts_from_oracle, Replay};
 use crate::records::{Decision, PollRecord};
 use crate::trace::{Header, Trace, ANSWER};
 use std::time::{Duration, Instant};

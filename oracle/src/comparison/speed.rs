@@ -1,6 +1,6 @@
 //! Entries per second of two calls on one long ordinary trace, in one process.
 
-use super::compare::Replay;
+use super::run::Replay;
 use crate::generator::ordinary::{header, ordinary_trace};
 use crate::records::{PollRecord, Sent};
 use crate::trace::{Entry, Runner, ANSWER, HEADER};

@@ -1,6 +1,6 @@
 //! What a call left, in words.
 
-use super::compare::Left;
+use super::run::Left;
 use crate::records;
 use crate::trace::ANSWER;
 

@@ -1,6 +1,6 @@
 //! What happened in a poll, in words.
 
-use super::met::Poll;
+use super::poll::Poll;
 use crate::records::{Notice, Sent, Telegram};
 use crate::time::Instant;
 

@@ -1,6 +1,6 @@
 //! Entries per second of the proved call and of the oracle on one long ordinary trace.
 
-use oracle::comparison::{compare::Replay, speed};
+use oracle::comparison::{run::Replay, speed};
 
 fn main() {
     let words: Vec<String> = std::env::args().skip(1).collect();

@@ -1,0 +1,104 @@
+//! One accepted poll, as the cases look at it.
+
+use crate::fdl::{Parameters, Watched};
+use crate::records::{Answer, PollRecord, Sent, Telegram};
+
+/// One poll that was accepted: the station before it, what it was, its answer, and the station after it.
+pub struct Poll<'a> {
+    pub parameters: &'a Parameters,
+    pub own: u8,
+    pub was: Watched,
+    /// The ring before: the next station, whether it is ready, its size.
+    pub next: u8,
+    pub ready: bool,
+    pub size: usize,
+    pub record: PollRecord,
+    pub answer: Answer,
+    pub is: Watched,
+    pub size_after: usize,
+}
+
+impl Poll<'_> {
+    /// How long it is since the last activity, where nothing is being transmitted.
+    pub fn waited(&self) -> Option<i64> {
+        let last = self.was.last_bus_activity?.total_micros();
+        let waited = self.record.clock as i64 - last;
+        (!self.record.transmitting && waited > 0).then_some(waited)
+    }
+
+    /// The awaited reply to a gap question: the station's type, and whether its status is Ok.
+    pub fn gap_reply(&self) -> Option<(u8, bool)> {
+        if self.was.state != 8 || self.answer.consumed == 0 {
+            return None;
+        }
+        match self.record.telegrams[0] {
+            Telegram::Response { destination, source, station_type, status }
+                if destination == self.own && Some(source) == self.was.awaited =>
+            {
+                Some((station_type, status == 0))
+            }
+            _ => None,
+        }
+    }
+
+    /// "Consumed: none where a transmission is found going on (outcome 2, nothing sent). Else the two reply-waiting states
+    /// the first telegram, if any; ListenToken and ActiveIdle all, but none in a poll that claims or has a request to
+    /// answer; CheckTokenPass all, but none once the slot has expired; any other poll none." A claim and an expired slot
+    /// are seen by the token that is then sent.
+    pub fn consumed_as_document_01_says(&self) -> usize {
+        let all = self.record.telegrams.len();
+        let sends_token = matches!(self.answer.sent, Sent::Token { .. });
+        if !self.was.online || (self.answer.outcome == 2 && self.answer.sent == Sent::Nothing) {
+            return 0;
+        }
+        match self.was.state {
+            5 | 8 => all.min(1),
+            0..=2 if sends_token || self.was.status_request.is_some() => 0,
+            7 if sends_token => 0,
+            0..=2 | 7 => all,
+            _ => 0,
+        }
+    }
+
+    /// The questions of time that this poll asks, each with how far it is from where the answer changes.
+    pub fn times(&self) -> Vec<(&'static str, i64)> {
+        let (was, p) = (&self.was, self.parameters);
+        let mut asked = Vec::new();
+        if let (Some(last), false) = (was.last_bus_activity, self.record.transmitting) {
+            asked.push(("a transmission going on", self.record.clock as i64 - last.total_micros()));
+        }
+        let waited = match self.waited() {
+            Some(waited) if self.record.pending <= was.pending_bytes as u16 => waited,
+            _ => return asked,
+        };
+        let pause = waited - p.bits_to_time(33).total_micros() as i64;
+        let slot = waited - p.slot_time().total_micros() as i64;
+        let lost = waited - p.token_lost_timeout().total_micros() as i64;
+        let silent = self.record.telegrams.is_empty();
+        let answers = was.status_request.is_some() && lost < 0;
+        match was.state {
+            0 | 1 => {
+                asked.push(("lost token in ListenToken", lost));
+                asked.extend(answers.then_some(("pause before an answer in ListenToken", pause)));
+            }
+            2 => {
+                asked.push(("lost token in ActiveIdle", lost));
+                asked.extend(answers.then_some(("pause before an answer in ActiveIdle", pause)));
+            }
+            3 => {
+                asked.push(("pause in UseToken", pause));
+                let end = self.record.clock as i64 - self.is.end_token_hold_time.total_micros();
+                let question =
+                    if was.first_cycle_done { "end of hold, a cycle done" } else { "end of hold, no cycle done" };
+                asked.extend((pause >= 0).then_some((question, end)));
+            }
+            4 => asked.push(("pause in ClaimToken", pause)),
+            5 if silent => asked.push(("slot in AwaitDataResponse", slot)),
+            6 => asked.push(("pause in PassToken", pause)),
+            7 => asked.push(("slot in CheckTokenPass", slot)),
+            8 if silent => asked.push(("slot in AwaitStatusResponse", slot)),
+            _ => {}
+        }
+        asked
+    }
+}
