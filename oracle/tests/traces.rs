@@ -275,5 +275,5 @@ fn wrong_calls_are_found() {
     // a program that says nothing
     let (status, said, _) = program(COMPARE_TRACES, &["5", "300", "--", "true"], &[]);
     assert_eq!(status, 1);
-    assert!(said.contains("ended by a panic"), "{}", said);
+    assert!(said.contains("it ended without an answer"), "{}", said);
 }

@@ -26,8 +26,8 @@ fn status(words: &[String]) -> i32 {
                     let call = |trace: &[u8], answers: &mut [u8]| program.replay_trace(trace, answers);
                     compare::main(USAGE, &call, &[seed.clone(), count.clone()])
                 }
-                Err(said) => {
-                    eprintln!("compare_traces: {}", said);
+                Err(error) => {
+                    eprintln!("compare_traces: the program cannot be started: {}", error);
                     2
                 }
             };

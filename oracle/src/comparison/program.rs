@@ -5,59 +5,76 @@
 //! What it left is the number, 8 bytes, a byte that is 1 if nothing but the buffer was changed, and the buffer.
 
 use std::cell::RefCell;
-use std::io::{Read, Write};
-use std::process::{Child, ChildStdin, ChildStdout, Command, Stdio};
+use std::io::{Error, ErrorKind, Read, Result, Write};
+use std::panic::resume_unwind;
+use std::process::{Child, Command, Stdio};
 
-/// A program that was started.
+/// A program with its arguments, and the process that runs it. After a failure it is started anew, so that a trace that
+/// ends it can be made short.
 pub struct Program {
-    child: Child,
-    /// Its standard input and output.
-    pipes: RefCell<(Option<ChildStdin>, ChildStdout)>,
+    words: Vec<String>,
+    running: RefCell<Option<Child>>,
 }
 
 impl Program {
-    /// Starts the program with its arguments.
-    pub fn start(words: &[String]) -> Result<Program, String> {
-        let (program, arguments) = words.split_first().ok_or("no program is named")?;
-        let mut command = Command::new(program);
-        command.args(arguments).stdin(Stdio::piped()).stdout(Stdio::piped());
-        let mut child = command.spawn().map_err(|e| format!("{} cannot be started: {}", program, e))?;
-        let pipes = (child.stdin.take(), child.stdout.take().expect("its output"));
-        Ok(Program { child, pipes: RefCell::new(pipes) })
+    /// Starts the program.
+    pub fn start(words: &[String]) -> Result<Program> {
+        let running = RefCell::new(Some(start(words)?));
+        Ok(Program { words: words.to_vec(), running })
     }
 
-    /// Has the program make the call. A program that has ended or changed other bytes is a panic, which the comparison
-    /// counts as a difference.
+    /// Has the program make the call. That it does not answer is a panic, which the comparison counts as a difference.
     pub fn replay_trace(&self, trace: &[u8], answers: &mut [u8]) -> u64 {
-        self.call(trace, answers).unwrap_or_else(|e| panic!("the program did not answer: {}", e))
+        let mut running = self.running.borrow_mut();
+        let mut child = running.take().unwrap_or_else(|| start(&self.words).expect("it started before"));
+        match call(&mut child, trace, answers) {
+            Ok(number) => {
+                *running = Some(child);
+                number
+            }
+            Err(error) => {
+                end(child);
+                // without a line for each: the comparison reports it
+                resume_unwind(Box::new(error))
+            }
+        }
     }
+}
 
-    fn call(&self, trace: &[u8], answers: &mut [u8]) -> std::io::Result<u64> {
-        let mut pipes = self.pipes.borrow_mut();
-        let (input, output) = &mut *pipes;
-        let lengths = [trace.len(), answers.len()].map(|length| (length as u64).to_be_bytes());
-        let said = [&lengths.concat()[..], trace, answers].concat();
-        input.as_mut().expect("its input").write_all(&said)?;
-        let mut number = [0; 8];
-        output.read_exact(&mut number)?;
-        let mut kept = [0];
-        output.read_exact(&mut kept)?;
-        output.read_exact(answers)?;
-        assert_eq!(kept, [1], "bytes outside of the buffer were changed");
-        Ok(u64::from_be_bytes(number))
+impl Drop for Program {
+    fn drop(&mut self) {
+        self.running.take().map(end);
     }
+}
+
+fn start(words: &[String]) -> Result<Child> {
+    let (program, arguments) = words.split_first().ok_or_else(|| Error::new(ErrorKind::Other, "none is named"))?;
+    Command::new(program).args(arguments).stdin(Stdio::piped()).stdout(Stdio::piped()).spawn()
 }
 
 /// At the end of its input the program ends.
-impl Drop for Program {
-    fn drop(&mut self) {
-        self.pipes.get_mut().0 = None;
-        let _ = self.child.wait();
+fn end(mut child: Child) {
+    drop((child.stdin.take(), child.stdout.take()));
+    let _ = child.wait();
+}
+
+fn call(child: &mut Child, trace: &[u8], answers: &mut [u8]) -> Result<u64> {
+    let lengths = [trace.len(), answers.len()].map(|length| (length as u64).to_be_bytes());
+    let said = [&lengths.concat()[..], trace, answers].concat();
+    child.stdin.as_mut().expect("its input").write_all(&said)?;
+    let output = child.stdout.as_mut().expect("its output");
+    let (mut number, mut kept) = ([0; 8], [0]);
+    output.read_exact(&mut number)?;
+    output.read_exact(&mut kept)?;
+    output.read_exact(answers)?;
+    if kept != [1] {
+        return Err(Error::new(ErrorKind::Other, "bytes outside of the buffer were changed"));
     }
+    Ok(u64::from_be_bytes(number))
 }
 
 /// Answers calls from standard input by the oracle until it ends: what such a program does.
-pub fn serve() -> std::io::Result<()> {
+pub fn serve() -> Result<()> {
     let (mut input, mut output) = (std::io::stdin().lock(), std::io::stdout().lock());
     let mut lengths = [0; 16];
     while input.read_exact(&mut lengths).is_ok() {
