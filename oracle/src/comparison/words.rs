@@ -45,7 +45,7 @@ pub fn answer(left: &Left, entry: usize) -> String {
 pub fn end(left: &Left) -> String {
     let number = match left.number {
         Some(number) => format!("{} entries, ending {}", number / 256, number % 256),
-        None => "nothing: it ended without an answer".to_string(),
+        None => "nothing: it ended without an answer, or changed bytes outside of its buffer".to_string(),
     };
     number + if left.outside_kept { "" } else { ", and bytes outside of the buffer were changed" }
 }
