@@ -60,7 +60,7 @@ pub mod comparison {
     pub use words::hex;
 }
 
-/// The table of crates/settings_table by the published `parameters.rs`.
+/// The settings table by the published `parameters.rs`.
 pub mod settings_table;
 
 // The published files find these names at the root.

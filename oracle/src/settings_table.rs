@@ -1,4 +1,4 @@
-//! The table of crates/settings_table, worked out by the published `parameters.rs`. Document 01's time and baud types and
+//! The table that the proved settings program prints, worked out by the published `parameters.rs`. Document 01's time and baud types and
 //! a list of peripherals stand in for the rest of profirust. A panic of the published code is written as the refusal that
 //! document 01 gives.
 

@@ -1,4 +1,4 @@
-//! Prints the table of crates/settings_table, worked out by the published `parameters.rs`.
+//! Prints the settings table, worked out by the published `parameters.rs`.
 #![forbid(unsafe_code)]
 
 fn main() {

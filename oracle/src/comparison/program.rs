@@ -43,7 +43,9 @@ impl Program {
 
 impl Drop for Program {
     fn drop(&mut self) {
-        self.running.take().map(end);
+        if let Some(child) = self.running.take() {
+            end(child);
+        }
     }
 }
 
