@@ -1,7 +1,7 @@
 //! What happened in a poll, in words.
 
 use super::poll::Poll;
-use crate::records::{Notice, Sent, Telegram};
+use crate::records::{state::*, Notice, Sent, Telegram};
 use crate::time::Instant;
 
 /// All that has to happen in some poll.
@@ -95,20 +95,21 @@ pub fn events(poll: &Poll) -> Vec<&'static str> {
         let lost = waited >= poll.parameters.token_lost_timeout().total_micros() as i64;
         let expired = waited >= poll.parameters.slot_time().total_micros() as i64;
         when(true, "pending bytes grew and no more is asked");
-        when(was.state <= 2 && lost, "pending bytes grew where the token was lost");
-        when([5, 7, 8].contains(&was.state) && expired, "pending bytes grew where the slot had expired");
+        when(was.state <= ACTIVE_IDLE && lost, "pending bytes grew where the token was lost");
+        let waits = [AWAIT_DATA_RESPONSE, CHECK_TOKEN_PASS, AWAIT_STATUS_RESPONSE].contains(&was.state);
+        when(waits && expired, "pending bytes grew where the slot had expired");
     }
     if poll.answer.outcome == 2 && poll.answer.sent == Sent::Nothing {
         return met;
     }
     match was.state {
-        0 | 1 => listen_token(poll, &mut when),
-        2 => active_idle(poll, &mut when),
-        3 => use_token(poll, &mut when),
-        5 => await_data_response(poll, &mut when),
-        6 => pass_token(poll, &mut when),
-        7 => check_token_pass(poll, &mut when),
-        8 => await_status_response(poll, &mut when),
+        OFFLINE | LISTEN_TOKEN => listen_token(poll, &mut when),
+        ACTIVE_IDLE => active_idle(poll, &mut when),
+        USE_TOKEN => use_token(poll, &mut when),
+        AWAIT_DATA_RESPONSE => await_data_response(poll, &mut when),
+        PASS_TOKEN => pass_token(poll, &mut when),
+        CHECK_TOKEN_PASS => check_token_pass(poll, &mut when),
+        AWAIT_STATUS_RESPONSE => await_status_response(poll, &mut when),
         _ => {}
     }
     met
@@ -136,25 +137,28 @@ fn listen_token(poll: &Poll, when: When) {
     match poll.answer.sent {
         Sent::Token { .. } => {
             claims(poll, when);
-            return when(was.state == 0, "Offline: claims in the poll that starts listening");
+            return when(was.state == OFFLINE, "Offline: claims in the poll that starts listening");
         }
         Sent::StatusResponse { response_type, .. } => {
             when(response_type != 1, "ListenToken: answers without token");
-            when(response_type == 1 && is.state == 1, "ListenToken: answers not ready, stays");
-            return when(response_type == 1 && is.state != 1, "ListenToken: answers not ready, goes to ActiveIdle");
+            when(response_type == 1 && is.state == LISTEN_TOKEN, "ListenToken: answers not ready, stays");
+            return when(
+                response_type == 1 && is.state == ACTIVE_IDLE,
+                "ListenToken: answers not ready, goes to ActiveIdle",
+            );
         }
         _ if was.status_request.is_some() => return gone(poll, when),
         _ if poll.answer.consumed == 0 => return,
         _ => {}
     }
-    if is.state == 0 {
+    if is.state == OFFLINE {
         let by_own: Vec<usize> = (0..telegrams.len()).filter(|i| telegrams[*i].source() == Some(poll.own)).collect();
         let second = by_own[1 - usize::from(was.collision_count)];
         when(second + 1 == telegrams.len(), "ListenToken: second collision, last telegram");
         when(second + 1 < telegrams.len(), "ListenToken: second collision, a telegram more");
         let after_another = second > 0 && !by_own.contains(&(second - 1));
         when(after_another, "ListenToken: second collision after another's telegram");
-        return when(was.state == 0, "Offline: two collisions in the poll that starts listening");
+        return when(was.state == OFFLINE, "Offline: two collisions in the poll that starts listening");
     }
     when(was.collision_count == 0 && is.collision_count == 1, "ListenToken: first collision");
     when(is.status_request.is_some(), "ListenToken: request noted");
@@ -171,7 +175,7 @@ fn active_idle(poll: &Poll, when: When) {
         Sent::Nothing if poll.answer.consumed > 0 => {}
         _ => return,
     }
-    if is.state == 1 {
+    if is.state == LISTEN_TOKEN {
         return when(true, "ActiveIdle: second collision");
     }
     when(is.collision_count == 1, "ActiveIdle: first collision");
@@ -199,7 +203,7 @@ fn active_idle(poll: &Poll, when: When) {
         Some(token) if to_us(token) => token.0,
         _ => return,
     };
-    let (accepted, remembered) = (is.state == 3, was.new_previous_station == Some(source));
+    let (accepted, remembered) = (is.state == USE_TOKEN, was.new_previous_station == Some(source));
     when(accepted && remembered, "ActiveIdle: token of the remembered station accepted");
     when(accepted && remembered && source > 125, "ActiveIdle: token of 126 or 127 accepted");
     when(accepted && !remembered, "ActiveIdle: token of the previous station accepted");
@@ -216,7 +220,7 @@ fn use_token(poll: &Poll, when: When) {
         when(high, "UseToken: an application sends at high priority");
         when(!high, "UseToken: an application sends at normal priority");
         when(usize::from(application) != was.next_application, "UseToken: one declines, a later one sends");
-    } else if is.state == 6 {
+    } else if is.state == PASS_TOKEN {
         let held = (poll.record.clock as i64) < is.end_token_hold_time.total_micros();
         when(held, "UseToken: all decline at normal priority");
         when(!held && !was.first_cycle_done, "UseToken: all decline at high priority");
@@ -267,8 +271,8 @@ fn pass_token(poll: &Poll, when: When) {
             let counted = was.gap_poll.is_none() && is.gap_count == was.gap_count + 1;
             when(was.do_gap && counted, "PassToken: waiting is counted");
             when(was.do_gap && was.gap_poll.is_some() && is.gap_poll.is_none(), "PassToken: the walk ends");
-            when(is.state == 3, "PassToken: alone");
-            when(is.state != 3, "PassToken: to another");
+            when(is.state == USE_TOKEN, "PassToken: alone");
+            when(is.state == CHECK_TOKEN_PASS, "PassToken: to another");
         }
         _ => {}
     }
@@ -283,7 +287,7 @@ fn check_token_pass(poll: &Poll, when: When) {
             match (poll.size_after < poll.size, is.state, poll.was.attempt) {
                 (false, _, 1) => "CheckTokenPass: second attempt",
                 (false, _, _) => "CheckTokenPass: third attempt",
-                (true, 3, _) => "CheckTokenPass: taken out, alone",
+                (true, USE_TOKEN, _) => "CheckTokenPass: taken out, alone",
                 (true, ..) => "CheckTokenPass: taken out, next neighbour",
             },
         );
@@ -295,13 +299,13 @@ fn check_token_pass(poll: &Poll, when: When) {
     when(source.is_none(), "CheckTokenPass: short confirmation first");
     when(source == Some(poll.next), "CheckTokenPass: next station heard first");
     when(source.map_or(false, |source| source != poll.next), "CheckTokenPass: another station heard first");
-    when(is.state == 1, "CheckTokenPass: second collision");
-    when(is.state == 3, "CheckTokenPass: token accepted");
-    when(![1, 3].contains(&is.state) && is.status_request.is_some(), "CheckTokenPass: request noted");
+    when(is.state == LISTEN_TOKEN, "CheckTokenPass: second collision");
+    when(is.state == USE_TOKEN, "CheckTokenPass: token accepted");
+    when(is.state == ACTIVE_IDLE && is.status_request.is_some(), "CheckTokenPass: request noted");
 }
 
 fn await_status_response(poll: &Poll, when: When) {
     when(matches!(poll.answer.sent, Sent::Token { .. }), "AwaitStatusResponse: timeout");
-    when(poll.answer.consumed > 0 && poll.is.state == 2, "AwaitStatusResponse: unexpected telegram");
+    when(poll.answer.consumed > 0 && poll.is.state == ACTIVE_IDLE, "AwaitStatusResponse: unexpected telegram");
     when(poll.gap_reply().map_or(false, |(_, ok)| !ok), "AwaitStatusResponse: status other than Ok");
 }

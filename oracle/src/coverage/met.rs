@@ -5,7 +5,7 @@ use super::events::{events, EVENTS};
 use super::points::Points;
 use super::poll::Poll;
 use super::refusals;
-use crate::records::{Notice, PollRecord, Sent, Telegram, LAST_CLOCK};
+use crate::records::{state::*, Notice, PollRecord, Sent, Telegram, LAST_CLOCK};
 use crate::trace::{Entry, Header, Runner, Trace, ANSWER, HEADER};
 
 /// The states by document 01's numbers.
@@ -87,7 +87,7 @@ const QUESTIONS: [&str; 13] = [
 const SHIFTS: [&str; 3] = ["-1", "0", "+1"];
 
 /// The states that take telegrams.
-const HEARING: [u8; 5] = [1, 2, 5, 7, 8];
+const HEARING: [u8; 5] = [LISTEN_TOKEN, ACTIVE_IDLE, AWAIT_DATA_RESPONSE, CHECK_TOKEN_PASS, AWAIT_STATUS_RESPONSE];
 
 const KINDS: [&str; 9] = [
     "short confirmation",
@@ -309,7 +309,7 @@ impl Met {
         for event in events(poll) {
             self.points.hit("event", event);
         }
-        let hears = STATES[usize::from(was.state.max(1))];
+        let hears = STATES[usize::from(was.state.max(LISTEN_TOKEN))];
         for (i, telegram) in record.telegrams[..consumed].iter().enumerate() {
             let last = LAST[usize::from(i + 1 == record.telegrams.len())];
             let kind = KINDS[kind_of(telegram, poll.own)];
@@ -324,7 +324,7 @@ impl Met {
     fn see_applications(&mut self, poll: &Poll) {
         let mut hit = |i: u8, what: usize| self.points.hit("application", format_args!("{} {}", i, APPLICATION[what]));
         if let Sent::Application { application, high, .. } = poll.answer.sent {
-            hit(application, 2 * usize::from(high) + usize::from(poll.is.state != 5));
+            hit(application, 2 * usize::from(high) + usize::from(poll.is.state != AWAIT_DATA_RESPONSE));
             hit(poll.is.next_application as u8, 6);
         }
         match poll.answer.notice {

@@ -1,7 +1,7 @@
 //! One accepted poll, as the cases look at it.
 
 use crate::fdl::{Parameters, Watched};
-use crate::records::{Answer, PollRecord, Sent, Telegram};
+use crate::records::{state::*, Answer, PollRecord, Sent, Telegram};
 
 /// One poll that was accepted: the station before it, what it was, its answer, and the station after it.
 pub struct Poll<'a> {
@@ -28,7 +28,7 @@ impl Poll<'_> {
 
     /// The awaited reply to a gap question: the station's type, and whether its status is Ok.
     pub fn gap_reply(&self) -> Option<(u8, bool)> {
-        if self.was.state != 8 || self.answer.consumed == 0 {
+        if self.was.state != AWAIT_STATUS_RESPONSE || self.answer.consumed == 0 {
             return None;
         }
         match self.record.telegrams[0] {
@@ -52,10 +52,10 @@ impl Poll<'_> {
             return 0;
         }
         match self.was.state {
-            5 | 8 => all.min(1),
-            0..=2 if sends_token || self.was.status_request.is_some() => 0,
-            7 if sends_token => 0,
-            0..=2 | 7 => all,
+            AWAIT_DATA_RESPONSE | AWAIT_STATUS_RESPONSE => all.min(1),
+            OFFLINE..=ACTIVE_IDLE if sends_token || self.was.status_request.is_some() => 0,
+            CHECK_TOKEN_PASS if sends_token => 0,
+            OFFLINE..=ACTIVE_IDLE | CHECK_TOKEN_PASS => all,
             _ => 0,
         }
     }
@@ -77,26 +77,26 @@ impl Poll<'_> {
         let silent = self.record.telegrams.is_empty();
         let answers = was.status_request.is_some() && lost < 0;
         match was.state {
-            0 | 1 => {
+            OFFLINE | LISTEN_TOKEN => {
                 asked.push(("lost token in ListenToken", lost));
                 asked.extend(answers.then_some(("pause before an answer in ListenToken", pause)));
             }
-            2 => {
+            ACTIVE_IDLE => {
                 asked.push(("lost token in ActiveIdle", lost));
                 asked.extend(answers.then_some(("pause before an answer in ActiveIdle", pause)));
             }
-            3 => {
+            USE_TOKEN => {
                 asked.push(("pause in UseToken", pause));
                 let end = self.record.clock as i64 - self.is.end_token_hold_time.total_micros();
                 let question =
                     if was.first_cycle_done { "end of hold, a cycle done" } else { "end of hold, no cycle done" };
                 asked.extend((pause >= 0).then_some((question, end)));
             }
-            4 => asked.push(("pause in ClaimToken", pause)),
-            5 if silent => asked.push(("slot in AwaitDataResponse", slot)),
-            6 => asked.push(("pause in PassToken", pause)),
-            7 => asked.push(("slot in CheckTokenPass", slot)),
-            8 if silent => asked.push(("slot in AwaitStatusResponse", slot)),
+            CLAIM_TOKEN => asked.push(("pause in ClaimToken", pause)),
+            AWAIT_DATA_RESPONSE if silent => asked.push(("slot in AwaitDataResponse", slot)),
+            PASS_TOKEN => asked.push(("pause in PassToken", pause)),
+            CHECK_TOKEN_PASS => asked.push(("slot in CheckTokenPass", slot)),
+            AWAIT_STATUS_RESPONSE if silent => asked.push(("slot in AwaitStatusResponse", slot)),
             _ => {}
         }
         asked

@@ -5,7 +5,7 @@
 use super::bad_records::bad_record;
 use super::seed::Seed;
 use crate::fdl::Watched;
-use crate::records::{entry_of, Decision, PollRecord, Telegram, LAST_CLOCK};
+use crate::records::{entry_of, state::*, Decision, PollRecord, Telegram, LAST_CLOCK};
 use crate::ring::{Address, LAST};
 use crate::time::Instant;
 use crate::trace::{Entry, Header, Runner};
@@ -137,9 +137,9 @@ impl Maker {
         let pause = last + self.time(33);
         match watched.state {
             // a request to answer, a claim, a token to use or pass: the pause
-            1 | 2 if watched.status_request.is_some() => self.near(pause),
-            4 | 6 => self.near(pause),
-            3 => {
+            LISTEN_TOKEN | ACTIVE_IDLE if watched.status_request.is_some() => self.near(pause),
+            CLAIM_TOKEN | PASS_TOKEN => self.near(pause),
+            USE_TOKEN => {
                 let end = self.hold_end(watched).total_micros();
                 if end > pause && self.seed.one_in(3) {
                     self.near(end)
@@ -148,8 +148,8 @@ impl Maker {
                 }
             }
             // listening: what is heard comes soon, else the token is lost
-            0..=2 if hears || self.early => self.soon(last),
-            0..=2 => self.near(last + self.lost()),
+            OFFLINE..=ACTIVE_IDLE if hears || self.early => self.soon(last),
+            OFFLINE..=ACTIVE_IDLE => self.near(last + self.lost()),
             // waiting: the reply comes soon, else the slot expires
             _ if hears && (self.early || !self.seed.one_in(8)) => self.soon(last),
             _ => self.near(last + self.slot()),
@@ -269,10 +269,10 @@ impl Maker {
             return Vec::new();
         }
         match watched.state {
-            0 | 1 => self.heard_listening(),
-            2 => self.heard_idle(watched),
-            5 | 8 => self.heard_waiting(watched),
-            7 => self.heard_after_pass(),
+            OFFLINE | LISTEN_TOKEN => self.heard_listening(),
+            ACTIVE_IDLE => self.heard_idle(watched),
+            AWAIT_DATA_RESPONSE | AWAIT_STATUS_RESPONSE => self.heard_waiting(watched),
+            CHECK_TOKEN_PASS => self.heard_after_pass(),
             // nothing is taken there; seldom something is listed
             _ if self.seed.one_in(10) => vec![self.any_telegram()],
             _ => Vec::new(),
@@ -328,7 +328,7 @@ impl Maker {
             0..=8 => vec![self.response(own, awaited)],
             // the awaited station, but not to us
             9 => vec![self.response(self.neighbours().0, awaited)],
-            10 | 11 if watched.state == 5 => vec![Telegram::ShortConfirmation],
+            10 | 11 if watched.state == AWAIT_DATA_RESPONSE => vec![Telegram::ShortConfirmation],
             12 => vec![self.any_telegram()],
             _ => Vec::new(),
         };

@@ -16,6 +16,19 @@ pub const ANSWER: [usize; 16] = [5, 3, 4, 3, 7, 2, 3, 1, 8, 4, 2, 3, 7, 3, 7, 2]
 /// The clock's last value.
 pub const LAST_CLOCK: u64 = (1 << 48) - 1;
 
+/// "State after the entry, 0..8", by the names of the Rust.
+pub mod state {
+    pub const OFFLINE: u8 = 0;
+    pub const LISTEN_TOKEN: u8 = 1;
+    pub const ACTIVE_IDLE: u8 = 2;
+    pub const USE_TOKEN: u8 = 3;
+    pub const CLAIM_TOKEN: u8 = 4;
+    pub const AWAIT_DATA_RESPONSE: u8 = 5;
+    pub const PASS_TOKEN: u8 = 6;
+    pub const CHECK_TOKEN_PASS: u8 = 7;
+    pub const AWAIT_STATUS_RESPONSE: u8 = 8;
+}
+
 /// What a bit is worth at each place of its byte, from the left.
 const PLACES: [u8; 8] = [128, 64, 32, 16, 8, 4, 2, 1];
 
