@@ -60,7 +60,7 @@ static uint64_t number_of(const uint8_t *bytes)
 int main(void)
 {
     for (;;) {
-        uint8_t head[17];
+        uint8_t head[16]; /* the two lengths, and later the number and whether all else was kept */
         size_t count = fread(head, 1, 16, stdin);
         if (count == 0 && feof(stdin)) {
             return EXIT_SUCCESS;

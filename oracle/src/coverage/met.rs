@@ -3,7 +3,7 @@
 
 use super::events::{events, EVENTS};
 use super::points::Points;
-use super::poll::Poll;
+use super::poll::{Poll, WITNESSED};
 use super::refusals;
 use crate::records::{state::*, Notice, PollRecord, Sent, Telegram, LAST_CLOCK};
 use crate::trace::{Entry, Header, Runner, Trace, ANSWER, HEADER};
@@ -174,6 +174,7 @@ impl Default for Met {
         points.group("application", pairs(&[0, 1, 2, 3, 4, 5, 6, 7], " ", &APPLICATION));
         let hearing = HEARING.map(|state| STATES[usize::from(state)]);
         points.group("heard", pairs(&pairs(&hearing, ": ", &KINDS), ", ", &LAST));
+        points.group("token witnessed", WITNESSED);
         points.group("reply to a gap question", pairs(&STATION_TYPES, ", ", &OK));
         points.group("event", CLOCKS.iter().chain(&EVENTS));
         Met { points, traces: 0, entries: 0 }
@@ -314,6 +315,9 @@ impl Met {
             let last = LAST[usize::from(i + 1 == record.telegrams.len())];
             let kind = KINDS[kind_of(telegram, poll.own)];
             self.points.hit("heard", format_args!("{}: {}, {}", hears, kind, last));
+        }
+        if [OFFLINE, LISTEN_TOKEN, ACTIVE_IDLE].contains(&was.state) {
+            poll.witnessed().iter().for_each(|case| self.points.hit("token witnessed", WITNESSED[*case]));
         }
         if let Some((station_type, ok)) = poll.gap_reply() {
             let kind = STATION_TYPES[usize::from(station_type)];

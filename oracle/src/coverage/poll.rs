@@ -2,6 +2,18 @@
 
 use crate::fdl::{Parameters, Watched};
 use crate::records::{state::*, Answer, PollRecord, Sent, Telegram};
+use crate::ring::LAST;
+
+/// Cases of a token that the ring witnesses.
+pub const WITNESSED: [&str; 7] = [
+    "source above 125",
+    "destination above 125",
+    "source is destination",
+    "own lies between",
+    "from 125 on to 0",
+    "the ring grows",
+    "the ring shrinks",
+];
 
 /// One poll that was accepted: the station before it, what it was, its answer, and the station after it.
 pub struct Poll<'a> {
@@ -24,6 +36,30 @@ impl Poll<'_> {
         let last = self.was.last_bus_activity?.total_micros();
         let waited = self.record.clock as i64 - last;
         (!self.record.transmitting && waited > 0).then_some(waited)
+    }
+
+    /// The cases of the tokens that were witnessed, as numbers of `WITNESSED`. Tokens by our address are collisions.
+    pub fn witnessed(&self) -> Vec<usize> {
+        let mut cases = Vec::new();
+        for telegram in &self.record.telegrams[..usize::from(self.answer.consumed)] {
+            let (source, destination) = match *telegram {
+                Telegram::Token { source, destination } if source != self.own => (source, destination),
+                _ => continue,
+            };
+            let legal = source <= LAST && destination <= LAST;
+            let up_to = |address: u8| (u16::from(address) + 126 - u16::from(source)) % 126;
+            let met = [
+                source > LAST,
+                destination > LAST,
+                legal && source == destination,
+                legal && 0 < up_to(self.own) && up_to(self.own) < up_to(destination),
+                legal && destination < source,
+                self.size_after > self.size,
+                self.size_after < self.size,
+            ];
+            cases.extend((0..met.len()).filter(|case| met[*case]));
+        }
+        cases
     }
 
     /// The awaited reply to a gap question: the station's type, and whether its status is Ok.
