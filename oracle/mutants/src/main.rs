@@ -10,7 +10,7 @@ mod list;
 
 /// The copies, one module each, as build.rs writes them.
 mod copies {
-    #![allow(warnings)]
+    #![allow(warnings, clippy::all)]
     include!(concat!(env!("OUT_DIR"), "/index.rs"));
 }
 
