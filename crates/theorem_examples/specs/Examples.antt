@@ -36,7 +36,7 @@ use Rattle.ring.specs.declared.Ring.{Ring}
 use Rattle.station.specs.declared.Station.{Station}
 use Rattle.station.specs.declared.Started.{Started}
 use Rattle.station.specs.declared.Started.the-variants as started
-use Rattle.theorem_examples.specs.Table.{TraceParts, leftOn, leftBy, traceBytes, afterEntries, example, example9, alone, example10, neighboured, example11, collidedOnce, AllHold, table}
+use Rattle.theorem_examples.specs.Table.{TraceParts, leftOn, leftBy, traceBytes, afterEntries, example, example9, aloneStation, example10, neighbourStation, example11, collidedOnce, AllHold, table}
 
 -- two rings are equal by their numbers, which is told by tests (a test computes where the rings' words would be compared bit by bit)
 same-ring : (x y : Ring) → eqb (x .low) (y .low) ≡ true → eqb (x .high) (y .high) ≡ true → eqb (x .own) (y .own) ≡ true → eqb (x .laps) (y .laps) ≡ true → x .ready ≡ y .ready → x ≡ y
@@ -56,15 +56,15 @@ left-by : (trace : TraceParts) (fresh left : Station) → startOf (traceBytes tr
 left-by trace fresh left start after = ap (λ (x : Started). leftOn x (trace .entries)) start ∙ ap started.Accepted after
 
 -- the three stations that traces leave
-left : (leftBy example9 ≡ started.Accepted alone) × (leftBy example10 ≡ started.Accepted neighboured) × (leftBy example11 ≡ started.Accepted collidedOnce)
+stations-left : (leftBy example9 ≡ started.Accepted aloneStation) × (leftBy example10 ≡ started.Accepted neighbourStation) × (leftBy example11 ≡ started.Accepted collidedOnce)
 unfolding baudOf rounded timeOf refuseBelow refuseOutside factorsRefusal restRefusal codedRefusal firstRefusal pairOf builtAt buildOf plainOf slotTimeOf tokenLostOf rotationTimeOf has make claimOf others nextOf freshOf passed witnessOf polls gapOf walk nearest betweenOf addTo takeOut keeps sameSet roundOf lapsOf candidateOf bitOf wordOf hasIn fieldOf beFrom loadOf responseStateOf telegramOf zeroOr14 telegramRefusal decisionOf lengthRefusal decisionRefusal headOf decisionAt telegramAt entryRefusal wordsRefusal recordRefusal withState withActivity withGap withPending withTokenTimes withNextApplication withOnline freshCore freshStation newStation withTokenTime toListenToken toActiveIdle toUseToken toClaimToken toAwaitDataResponse toPassToken toCheckTokenPass toAwaitStatusResponse knownAt elapsedOf markedAt busyOf ongoingOf pauseOf sentAt busActivityOf rxOf slotExpiredOf tokenLostWaitOf doneOf transmitOf claimNext claimAfter claimTokenOf declinesOn declinesAt usePassOf appTransmitOf firstOr turnOf askedFrom askedOf holdLess holdEndOf holdsOf useAppsAfter useAppsOf useTokenAfter useTokenTimed useTokenOf validResponse receivedOf awaitDataOf heardOf lostTokenOf collided listenHeard listenTelegramOn listenTelegram activeCollided tokenWitnessed tokenHeard activeHeard handleTelegramOn handleTelegram heardTelegram heardAll receivedAll consumedAll listenTokenOn listenTokenAfter listenTokenOf activeIdleOn activeIdleAfter activeIdleOf gapAdvanced passSent passSend passPollOn passPoll passAfter passTokenOf statusTimeout awaitStatusAfter awaitStatusOf connectedOn connectedOf dispatchOn dispatchOf pollOnline pollInner polledOf acceptedAfter acceptedPoll pollOf onlineOf headerAt headerOf applicationsRefusal zeroRefusal lateRefusal headerRefusalOn headerRefusal startedAfter startedOf startOf entryOf
-left = (
+stations-left = (
   let fresh = freshStation (example 10) 1 in
       let after = afterEntries fresh (example9 .entries) in
-      left-by example9 fresh alone refl (same-station after alone refl (same-ring (after .«token_ring») (alone .«token_ring») refl refl refl refl refl) refl refl),
+      left-by example9 fresh aloneStation refl (same-station after aloneStation refl (same-ring (after .«token_ring») (aloneStation .«token_ring») refl refl refl refl refl) refl refl),
   let fresh = freshStation (example 10) 1 in
       let after = afterEntries fresh (example10 .entries) in
-      left-by example10 fresh neighboured refl (same-station after neighboured refl (same-ring (after .«token_ring») (neighboured .«token_ring») refl refl refl refl refl) refl refl),
+      left-by example10 fresh neighbourStation refl (same-station after neighbourStation refl (same-ring (after .«token_ring») (neighbourStation .«token_ring») refl refl refl refl refl) refl refl),
   let fresh = freshStation (example 1) 2 in
       let after = afterEntries fresh (example11 .entries) in
       left-by example11 fresh collidedOnce refl (same-station after collidedOnce refl (same-ring (after .«token_ring») (collidedOnce .«token_ring») refl refl refl refl refl) refl refl),
@@ -73,4 +73,4 @@ left = (
 -- every row of the table holds
 pub examples-1-to-12 : AllHold table
 unfolding baudOf rounded timeOf refuseBelow refuseOutside trial factorsOf newAt unless slotBitsOf hsaOf rotationOf gapWaitOf retryOf minTsdrOf withWatchdog watchdogAt watchdogOf slotCheckOf factorsRefusal restRefusal codedRefusal firstRefusal pairOf builtAt buildOf plainOf slotTimeOf minTsdrTimeOf tokenLostOf rotationTimeOf watchdogTimeOf newOf has make claimOf others nextOf prevOf freshOf addOf removeOf passed witnessOf polls gapOf walk nearest betweenOf addTo takeOut keeps sameSet roundOf lapsOf candidateOf bitOf wordOf hasIn fieldOf putOf beFrom loadOf storedOf responseStateOf telegramOf zeroOr14 telegramRefusal telegramWord decisionOf lengthRefusal decisionRefusal decisionWord headOf decisionAt telegramAt entryRefusal wordsRefusal recordRefusal outcomeOf sentFields sentFrom noticeFields noticeFrom refusedAnswer answerWord fullOf answerOf refusalKnown sentMeant meant unpackOf withState withActivity withGap withPending withTokenTimes withNextApplication withOnline freshCore freshStation newStation withTokenTime toListenToken toActiveIdle toUseToken toClaimToken toAwaitDataResponse toPassToken toCheckTokenPass toAwaitStatusResponse knownAt elapsedOf markedAt busyOf ongoingOf pauseOf sentAt busActivityOf rxOf slotExpiredOf tokenLostWaitOf doneOf transmitOf claimNext claimAfter claimTokenOf declinesOn declinesAt usePassOf appTransmitOf firstOr turnOf askedFrom askedOf holdLess holdEndOf holdsOf useAppsAfter useAppsOf useTokenAfter useTokenTimed useTokenOf validResponse receivedOf withNotice timeoutOf awaitDataAfter awaitDataOf heardOf lostTokenOf responseState listenAnswered listenResponseAfter listenResponse collided lastRequestToUs listened listenHeard listenTelegramOn listenTelegram activeCollided remembers acceptedOf tokenToUs tokenWitnessed tokenHeard activeRequested activeHeard handleTelegramOn handleTelegram heardTelegram heardAll receivedAll consumedAll listenTokenOn listenTokenAfter listenTokenOf activeResponseAfter activeResponse activeIdleOn activeIdleAfter activeIdleOf gapAdvanced passSent passSend passPollOn passPoll passAfter passTokenOf statusRingOn statusRing statusAnswered statusUnexpected statusReceived statusTimeout awaitStatusAfter awaitStatusOf resendOf checkReceived checkAfter checkTokenPassOf connectedOn connectedOf dispatchOn dispatchOf pollOnline pollInner stepAnswer polledOf refusedPoll acceptedAfter acceptedPoll pollOf onlineOf offlineOf passiveOf headerAt headerOf applicationsRefusal zeroRefusal lateRefusal headerRefusalOn headerRefusal startedAfter startedOf startOf recordLength entryOf runFrom ranOf replayOn replayOf numberOf written bufferOf
-examples-1-to-12 = (refl, (refl, (refl, (refl, (refl, (refl, (refl, (refl, (refl, (refl, (refl, ((refl, refl), ((refl, refl), ((refl, refl), ((left .0, refl), ((left .1, refl), ((left .2, refl), ((left .2, refl), ((refl, refl, refl), tt)))))))))))))))))))
+examples-1-to-12 = (refl, (refl, (refl, (refl, (refl, (refl, (refl, (refl, (refl, (refl, (refl, ((refl, refl), ((refl, refl), ((refl, refl), ((stations-left .0, refl), ((stations-left .1, refl), ((stations-left .2, refl), ((stations-left .2, refl), ((refl, refl, refl), tt)))))))))))))))))))

@@ -156,8 +156,8 @@ example12 =
 abbrev pub example9 : TraceParts
 example9 = record { header = example12 .header; entries = example12 .entries ++ (pollEntry (pollRecord 7664 []) ∷ []) }
 
-abbrev pub alone : Station
-alone =
+abbrev pub aloneStation : Station
+aloneStation =
     record {
       core = record { «last_token_time» = record { 0 = 7532 }; «end_token_hold_time» = record { from = zeroTime; span = record { 0 = 64872 }; less = zeroTime }; «last_bus_activity» = activity.At (record { 0 = 7598 }); state = PassToken true First; «gap_state» = Waiting 0; «pending_bytes» = 0; «next_application» = 0; online = true };
       «token_ring» = record { low = 2 ^ 5; high = 0; own = 5; laps = 0; ready = true };
@@ -175,8 +175,8 @@ abbrev pub example10 : TraceParts
 example10 =
     record { header = headed 10 1; entries = onlineEntry ∷ pollEntry (pollRecord 1000 []) ∷ pollEntry (pollRecord 1100 (token 9 5 ∷ [])) ∷ pollEntry (pollRecord 7500 []) ∷ pollEntry (pollRecord 7700 []) ∷ pollEntry (pollRecord 7900 []) ∷ [] }
 
-abbrev pub neighboured : Station
-neighboured =
+abbrev pub neighbourStation : Station
+neighbourStation =
     record {
       core = record { «last_token_time» = record { 0 = 7700 }; «end_token_hold_time» = record { from = zeroTime; span = record { 0 = 64872 }; less = zeroTime }; «last_bus_activity» = activity.At (record { 0 = 7766 }); state = PassToken true First; «gap_state» = Waiting 0; «pending_bytes» = 0; «next_application» = 0; online = true };
       «token_ring» = record { low = 2 ^ 5 + 2 ^ 9; high = 0; own = 5; laps = 1; ready = true };
@@ -229,7 +229,7 @@ Holds (factors ms expected) = factorsOf ms ≡ expected
 Holds (time bits code micros) = timeAt bits (baudOf code) ≡ record { 0 = micros }
 Holds (slot micros) = slotTimeOf (example 10) ≡ record { 0 = micros }
 Holds (lost micros) = tokenLostOf (example 10) ≡ record { 0 = micros }
-Holds (walk from before expected sends) = (gapOf (freshOf 5) from 126 ≡ expected) × (passesOf 1 7800 (withGapState alone before) ≡ (sends, expected) ∷ [])
+Holds (walk from before expected sends) = (gapOf (freshOf 5) from 126 ≡ expected) × (passesOf 1 7800 (withGapState aloneStation before) ≡ (sends, expected) ∷ [])
 Holds (passes trace left clock expected) = (leftBy trace ≡ started.Accepted left) × (passesOf (length expected) clock left ≡ expected)
 Holds (silence trace left clocks expected) = (leftBy trace ≡ started.Accepted left) × (sentAlong left clocks ≡ expected)
 Holds (collision trace left bytes expected) = (leftBy trace ≡ started.Accepted left) × (pollOf left bytes .station ≡ expected)
@@ -257,11 +257,11 @@ table =
     ∷ walk 5 (Waiting 11) (DoPoll 6) (sent.StatusRequest 6)
     ∷ walk 125 (DoPoll 125) (DoPoll 0) (sent.StatusRequest 0)
     ∷ walk 4 (DoPoll 4) (Waiting 0) (sent.Token 5)
-    ∷ passes example9 alone 7800
+    ∷ passes example9 aloneStation 7800
     ((sent.Token 5, Waiting 1) ∷ (sent.Token 5, Waiting 2) ∷ (sent.Token 5, Waiting 3) ∷ (sent.Token 5, Waiting 4) ∷ (sent.Token 5, Waiting 5)
     ∷ (sent.Token 5, Waiting 6) ∷ (sent.Token 5, Waiting 7) ∷ (sent.Token 5, Waiting 8) ∷ (sent.Token 5, Waiting 9) ∷ (sent.Token 5, Waiting 10)
     ∷ (sent.Token 5, Waiting 11) ∷ (sent.StatusRequest 6, DoPoll 6) ∷ [])
-    ∷ silence example10 neighboured (8000 ∷ 8466 ∷ 8932 ∷ 9398 ∷ []) (sent.Token 9 ∷ sent.Token 9 ∷ sent.Token 9 ∷ sent.Token 5 ∷ [])
+    ∷ silence example10 neighbourStation (8000 ∷ 8466 ∷ 8932 ∷ 9398 ∷ []) (sent.Token 9 ∷ sent.Token 9 ∷ sent.Token 9 ∷ sent.Token 5 ∷ [])
     ∷ collision example11 collidedOnce (twoRecord 10300 (token 5 3 ∷ [])) (freshBut activity.Unknown)
     ∷ collision example11 collidedOnce (twoRecord 10300 (token 5 3 ∷ token 9 3 ∷ [])) (freshBut (activity.At (record { 0 = 10300 })))
     ∷ replay example12 (0x0000000000000014 ∷ 0x0310000000000014 ∷ 0x0310000000000014 ∷ 0x0242140030000014 ∷ 0x0232140030000014 ∷ 0x0230000000000014 ∷ []) 6 0

@@ -43,11 +43,12 @@ use Rattle.station_answer.specs.Answer as answering
 use Rattle.station_command.specs.Command as commands
 use Rattle.station_poll.specs.Poll as polling
 use Rattle.theorem_sound.specs.Sound.{Call, poll, after, run}
+use Rattle.theorem_silence.specs.Theorem.{stationOf}
 use Rattle.theorem_silence.specs.Scripts.{token, declines, recordOf, responseOf1, pollHearing, pollSilent, lowest, hears-all, claims, begins-look, begins-question}
 
 -- the station with this core and ring
-abbrev pub on : Core → Ring → Station
-on c r = record { core = c; «token_ring» = r; p = lowest; applications = 1 }
+abbrev pub lowestWith : Core → Ring → Station
+lowestWith c r = stationOf lowest 1 c r
 
 -- an online core: the last token time, start and span of the hold, last activity, state, gap state
 abbrev pub coreAt : ℕ → ℕ → ℕ → ℕ → State → GapState → Core
@@ -58,25 +59,46 @@ coreAt token from span last state gap =
 abbrev pub listens : State
 listens = ListenToken optionAddress.None 0
 
+-- the cores on the way to a pass with the look at the gap: it listens, its last activity at this time; then it starts the pass
+abbrev pub listens-look : ℕ → Core
+listens-look last = coreAt 0 0 0 last listens (Waiting 0)
+
+abbrev pub pass-look : Core
+pass-look = coreAt 3500 0 64872 3566 (PassToken true First) (Waiting 0)
+
+-- and those on the way to a pass after a gap question: it listens, the gap count at 2; it starts a pass, in which the question is due;
+-- it awaits the answer of 1; it has it and starts the pass
+abbrev pub listens-question : ℕ → Core
+listens-question last = coreAt 3400 3000 64872 last listens (Waiting 2)
+
+abbrev pub pass-question : Core
+pass-question = coreAt 7600 3400 64872 7666 (PassToken true First) (Waiting 2)
+
+abbrev pub awaits-one : Core
+awaits-one = coreAt 7600 3400 64872 8132 (AwaitStatusResponse 1) (DoPoll 1)
+
+abbrev pub pass-answered : Core
+pass-answered = coreAt 7600 3400 64872 8300 (PassToken false First) (DoPoll 1)
+
 -- a station by its core and whatever ring it has
-by-core : (s : Station) (c : Core) → s .core ≡ c → s .p ≡ lowest → s .applications ≡ 1 → s ≡ on c (s .«token_ring»)
+by-core : (s : Station) (c : Core) → s .core ≡ c → s .p ≡ lowest → s .applications ≡ 1 → s ≡ lowestWith c (s .«token_ring»)
 by-core s c core p applications = λ i. record { core = core i; «token_ring» = s .«token_ring»; p = p i; applications = applications i }
 
 -- no call changes nothing, and a run goes on where the one before it ended
-pub run-none : (s : Station) → run s [] ≡ s
+pub calls-none : (s : Station) → run s [] ≡ s
 unfolding run
-run-none s = refl
+calls-none s = refl
 
-pub run-on : (cs ds : List Call) (s : Station) → run s (cs ++ ds) ≡ run (run s cs) ds
+pub calls-on : (cs ds : List Call) (s : Station) → run s (cs ++ ds) ≡ run (run s cs) ds
 unfolding run
-run-on [] ds s = refl
-run-on (c ∷ cs) ds s = run-on cs ds (after s c)
+calls-on [] ds s = refl
+calls-on (c ∷ cs) ds s = calls-on cs ds (after s c)
 
 -- The start, and who is heard.
 
 -- a pass with the look at the gap: online and listening from time 0; then all are heard
 abbrev pub begun-look : Station
-begun-look = on (coreAt 0 0 0 0 listens (Waiting 0)) (freshOf 0)
+begun-look = lowestWith (listens-look 0) (freshOf 0)
 
 abbrev pub ring-all : Ring
 ring-all = run begun-look (hears-all 100 1 7) .«token_ring»
@@ -86,26 +108,26 @@ abbrev pub ring-alone : Ring
 ring-alone = run (freshStation lowest 1) begins-question .«token_ring»
 
 abbrev pub begun-question : Station
-begun-question = on (coreAt 3400 3000 64872 4100 listens (Waiting 2)) ring-alone
+begun-question = lowestWith (listens-question 4100) ring-alone
 
 abbrev pub ring-but-one : Ring
 ring-but-one = run begun-question (hears-all 4200 2 6) .«token_ring»
 
 -- these four runs, worked out from the definitions, but for the ring
-pub record Begun : Type 0 where
+pub record FirstRuns : Type 0 where
   pub look : run (freshStation lowest 1) begins-look ≡ begun-look
-  pub heard-all : run begun-look (hears-all 100 1 7) ≡ on (coreAt 0 0 0 800 listens (Waiting 0)) ring-all
+  pub heard-all : run begun-look (hears-all 100 1 7) ≡ lowestWith (listens-look 800) ring-all
   pub question : run (freshStation lowest 1) begins-question ≡ begun-question
-  pub heard-but-one : run begun-question (hears-all 4200 2 6) ≡ on (coreAt 3400 3000 64872 4900 listens (Waiting 2)) ring-but-one
+  pub heard-but-one : run begun-question (hears-all 4200 2 6) ≡ lowestWith (listens-question 4900) ring-but-one
 
-pub begun : Begun
+pub first-runs : FirstRuns
 unfolding walk nearest betweenOf keeps sameSet roundOf lapsOf bitOf wordOf hasIn has make freshOf passed witnessOf claimOf nextOf rounded timeOf slotTimeOf tokenLostOf rotationTimeOf withState withActivity withGap withPending withTokenTimes withNextApplication withOnline after run fieldOf beFrom loadOf words.zeroOr14 words.responseStateOf words.telegramRefusal words.telegramOf decisions.lengthRefusal decisions.decisionRefusal decisions.decisionOf records.headOf records.telegramAt records.decisionAt records.entryRefusal records.wordsRefusal records.recordRefusal steps.knownAt steps.elapsedOf steps.markedAt steps.busyOf steps.ongoingOf steps.busActivityOf steps.doneOf polling.connectedOn polling.connectedOf polling.dispatchOn polling.dispatchOf polling.pollOnline polling.pollInner polling.acceptedAfter polling.acceptedPoll polling.pollOf answering.polledOf steps.rxOf steps.tokenLostWaitOf steps.heardOf hear.listenHeard hear.listenTelegramOn hear.listenTelegram listening.heardTelegram listening.heardAll listening.receivedAll listening.consumedAll listening.listenTokenOn listening.listenTokenAfter listening.listenTokenOf steps.pauseOf steps.sentAt steps.transmitOf steps.toClaimToken steps.toUseToken steps.withTokenTime claiming.claimNext claiming.claimAfter claiming.claimTokenOf listening.lostTokenOf steps.toPassToken holding.declinesOn holding.declinesAt holding.usePassOf holding.appTransmitOf holding.firstOr holding.turnOf holding.askedFrom holding.askedOf holding.holdLess holding.holdEndOf holding.holdsOf holding.useAppsAfter holding.useAppsOf holding.useTokenAfter holding.useTokenTimed holding.useTokenOf passing.gapAdvanced passing.passSent passing.passSend passing.passPollOn passing.passPoll passing.passAfter passing.passTokenOf freshStation freshCore commands.onlineOf steps.toListenToken steps.toAwaitDataResponse steps.toActiveIdle holding.validResponse holding.receivedOf holding.awaitDataOf listening.activeIdleOn listening.activeIdleAfter listening.activeIdleOf active.activeCollided active.tokenHeard active.activeHeard active.handleTelegramOn active.handleTelegram
-begun =
+first-runs =
     record {
       look = refl;
-      heard-all = by-core (run begun-look (hears-all 100 1 7)) (coreAt 0 0 0 800 listens (Waiting 0)) refl refl refl;
-      question = by-core (run (freshStation lowest 1) begins-question) (coreAt 3400 3000 64872 4100 listens (Waiting 2)) refl refl refl;
-      heard-but-one = by-core (run begun-question (hears-all 4200 2 6)) (coreAt 3400 3000 64872 4900 listens (Waiting 2)) refl refl refl;
+      heard-all = by-core (run begun-look (hears-all 100 1 7)) (listens-look 800) refl refl refl;
+      question = by-core (run (freshStation lowest 1) begins-question) (listens-question 4100) refl refl refl;
+      heard-but-one = by-core (run begun-question (hears-all 4200 2 6)) (listens-question 4900) refl refl refl;
     }
 
 -- and their rings' members
@@ -175,10 +197,10 @@ unfolding polling.pollOf polling.acceptedPoll
 by-head s bytes head e h = rw e (ap (polling.acceptedAfter s bytes) h)
 
 -- it is witnessed, and else only the last activity changes
-pub cut-heard : (bytes : List ℕ) (clock k : ℕ) → SaysToken bytes clock k → 1 ≤ k → (time from span last : ℕ) (gap : GapState) (r : Ring) → last < clock → clock < last + 2400 → run (on (coreAt time from span last listens gap) r) (poll bytes ∷ []) ≡ on (coreAt time from span clock listens gap) (witnessOf r k 0)
+pub cut-heard : (bytes : List ℕ) (clock k : ℕ) → SaysToken bytes clock k → 1 ≤ k → (time from span last : ℕ) (gap : GapState) (r : Ring) → last < clock → clock < last + 2400 → run (lowestWith (coreAt time from span last listens gap) r) (poll bytes ∷ []) ≡ lowestWith (coreAt time from span clock listens gap) (witnessOf r k 0)
 unfolding rounded timeOf slotTimeOf tokenLostOf rotationTimeOf withState withActivity withGap withPending withTokenTimes withNextApplication withOnline after run steps.knownAt steps.elapsedOf steps.markedAt steps.busyOf steps.ongoingOf steps.busActivityOf steps.doneOf polling.connectedOn polling.connectedOf polling.dispatchOn polling.dispatchOf polling.pollOnline polling.pollInner polling.acceptedAfter polling.acceptedPoll polling.pollOf answering.polledOf steps.rxOf steps.tokenLostWaitOf steps.heardOf hear.listenHeard hear.listenTelegramOn hear.listenTelegram listening.heardTelegram listening.heardAll listening.receivedAll listening.consumedAll listening.listenTokenOn listening.listenTokenAfter listening.listenTokenOf
 cut-heard bytes clock k said l time from span last gap r later soon =
-    let s = on (coreAt time from span last listens gap) r in
+    let s = lowestWith (coreAt time from span last listens gap) r in
     ap (λ (x : Polled). x .station) (by-head s bytes _ (said .accepted) (said .head))
     ∙ rw (lt-leb clock last later, lt-leb (last + 2400) clock soon, said .telegram, ne-eqb k 0 (λ e. omega arith), lt-ltb last clock later)
 
@@ -186,24 +208,24 @@ cut-heard bytes clock k said l time from span last gap r later soon =
 
 -- the token is claimed, sent twice and used
 pub record Claimed (r : Ring) : Type 0 where
-  pub look-none : run (on (coreAt 0 0 0 0 listens (Waiting 0)) r) (claims 3300) ≡ on (coreAt 3500 0 64872 3566 (PassToken true First) (Waiting 0)) (claimOf (claimOf r))
-  pub look-heard : run (on (coreAt 0 0 0 900 listens (Waiting 0)) r) (claims 3300) ≡ on (coreAt 3500 0 64872 3566 (PassToken true First) (Waiting 0)) (claimOf (claimOf r))
-  pub question-none : run (on (coreAt 3400 3000 64872 4100 listens (Waiting 2)) r) (claims 7400) ≡ on (coreAt 7600 3400 64872 7666 (PassToken true First) (Waiting 2)) (claimOf (claimOf r))
-  pub question-heard : run (on (coreAt 3400 3000 64872 5000 listens (Waiting 2)) r) (claims 7400) ≡ on (coreAt 7600 3400 64872 7666 (PassToken true First) (Waiting 2)) (claimOf (claimOf r))
+  pub look-none : run (lowestWith (listens-look 0) r) (claims 3300) ≡ lowestWith pass-look (claimOf (claimOf r))
+  pub look-heard : run (lowestWith (listens-look 900) r) (claims 3300) ≡ lowestWith pass-look (claimOf (claimOf r))
+  pub question-none : run (lowestWith (listens-question 4100) r) (claims 7400) ≡ lowestWith pass-question (claimOf (claimOf r))
+  pub question-heard : run (lowestWith (listens-question 5000) r) (claims 7400) ≡ lowestWith pass-question (claimOf (claimOf r))
 
 pub claimed : (r : Ring) → Claimed r
 unfolding rounded timeOf slotTimeOf tokenLostOf rotationTimeOf withState withActivity withGap withPending withTokenTimes withNextApplication withOnline after run fieldOf beFrom loadOf words.zeroOr14 words.responseStateOf words.telegramRefusal words.telegramOf decisions.lengthRefusal decisions.decisionRefusal decisions.decisionOf records.headOf records.telegramAt records.decisionAt records.entryRefusal records.wordsRefusal records.recordRefusal steps.knownAt steps.elapsedOf steps.markedAt steps.busyOf steps.ongoingOf steps.busActivityOf steps.doneOf polling.connectedOn polling.connectedOf polling.dispatchOn polling.dispatchOf polling.pollOnline polling.pollInner polling.acceptedAfter polling.acceptedPoll polling.pollOf answering.polledOf steps.rxOf steps.tokenLostWaitOf steps.heardOf hear.listenHeard hear.listenTelegramOn hear.listenTelegram listening.heardTelegram listening.heardAll listening.receivedAll listening.consumedAll listening.listenTokenOn listening.listenTokenAfter listening.listenTokenOf steps.pauseOf steps.sentAt steps.transmitOf steps.toClaimToken steps.toUseToken steps.withTokenTime claiming.claimNext claiming.claimAfter claiming.claimTokenOf listening.lostTokenOf steps.toPassToken holding.declinesOn holding.declinesAt holding.usePassOf holding.appTransmitOf holding.firstOr holding.turnOf holding.askedFrom holding.askedOf holding.holdLess holding.holdEndOf holding.holdsOf holding.useAppsAfter holding.useAppsOf holding.useTokenAfter holding.useTokenTimed holding.useTokenOf
 claimed r = record { look-none = refl; look-heard = refl; question-none = refl; question-heard = refl }
 
 -- 1 is asked, where the ring has it polled; and it answers: in the ring, or not ready
-pub one-gets-asked : (r : Ring) → polls r 1 ≡ true → run (on (coreAt 7600 3400 64872 7666 (PassToken true First) (Waiting 2)) r) (pollSilent 8000 ∷ []) ≡ on (coreAt 7600 3400 64872 8132 (AwaitStatusResponse 1) (DoPoll 1)) r
+pub one-gets-asked : (r : Ring) → polls r 1 ≡ true → run (lowestWith pass-question r) (pollSilent 8000 ∷ []) ≡ lowestWith awaits-one r
 unfolding rounded timeOf slotTimeOf tokenLostOf rotationTimeOf withState withActivity withGap withPending withTokenTimes withNextApplication withOnline after run fieldOf beFrom loadOf words.zeroOr14 words.responseStateOf words.telegramRefusal words.telegramOf decisions.lengthRefusal decisions.decisionRefusal decisions.decisionOf records.headOf records.telegramAt records.decisionAt records.entryRefusal records.wordsRefusal records.recordRefusal steps.knownAt steps.elapsedOf steps.markedAt steps.busyOf steps.ongoingOf steps.busActivityOf steps.doneOf polling.connectedOn polling.connectedOf polling.dispatchOn polling.dispatchOf polling.pollOnline polling.pollInner polling.acceptedAfter polling.acceptedPoll polling.pollOf answering.polledOf steps.pauseOf steps.sentAt steps.transmitOf steps.toClaimToken steps.toUseToken steps.withTokenTime claiming.claimNext claiming.claimAfter claiming.claimTokenOf listening.lostTokenOf passing.gapAdvanced passing.passSent passing.passSend passing.passPollOn passing.passPoll passing.passAfter passing.passTokenOf gapOf candidateOf steps.toAwaitStatusResponse status.statusRingOn status.statusRing status.statusAnswered status.statusReceived status.awaitStatusOf
 one-gets-asked r e = rw e
 
-pub record Answers (r : Ring) : Type 0 where
-  pub in-ring : run (on (coreAt 7600 3400 64872 8132 (AwaitStatusResponse 1) (DoPoll 1)) r) (pollHearing 8300 (responseOf1 3 ∷ []) ∷ []) ≡ on (coreAt 7600 3400 64872 8300 (PassToken false First) (DoPoll 1)) (addOf r 1)
-  pub not-ready : run (on (coreAt 7600 3400 64872 8132 (AwaitStatusResponse 1) (DoPoll 1)) r) (pollHearing 8300 (responseOf1 1 ∷ []) ∷ []) ≡ on (coreAt 7600 3400 64872 8300 (PassToken false First) (DoPoll 1)) r
+pub record OneAnswers (r : Ring) : Type 0 where
+  pub in-ring : run (lowestWith awaits-one r) (pollHearing 8300 (responseOf1 3 ∷ []) ∷ []) ≡ lowestWith pass-answered (addOf r 1)
+  pub not-ready : run (lowestWith awaits-one r) (pollHearing 8300 (responseOf1 1 ∷ []) ∷ []) ≡ lowestWith pass-answered r
 
-pub answers : (r : Ring) → Answers r
+pub one-answers : (r : Ring) → OneAnswers r
 unfolding rounded timeOf slotTimeOf tokenLostOf rotationTimeOf withState withActivity withGap withPending withTokenTimes withNextApplication withOnline after run fieldOf beFrom loadOf words.zeroOr14 words.responseStateOf words.telegramRefusal words.telegramOf decisions.lengthRefusal decisions.decisionRefusal decisions.decisionOf records.headOf records.telegramAt records.decisionAt records.entryRefusal records.wordsRefusal records.recordRefusal steps.knownAt steps.elapsedOf steps.markedAt steps.busyOf steps.ongoingOf steps.busActivityOf steps.doneOf polling.connectedOn polling.connectedOf polling.dispatchOn polling.dispatchOf polling.pollOnline polling.pollInner polling.acceptedAfter polling.acceptedPoll polling.pollOf answering.polledOf steps.rxOf steps.toPassToken gapOf candidateOf steps.toAwaitStatusResponse status.statusRingOn status.statusRing status.statusAnswered status.statusReceived status.awaitStatusOf
-answers r = record { in-ring = refl; not-ready = refl }
+one-answers r = record { in-ring = refl; not-ready = refl }

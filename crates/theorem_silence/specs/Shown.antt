@@ -27,7 +27,7 @@ use Rattle.codec_records.specs.declared.Head.{Head}
 use Rattle.codec_records.specs.Records as records
 use Rattle.codec_answers.specs.declared.Sent.the-variants.{Token, Application}
 use Rattle.station.specs.declared.PassTokenAttempt.the-variants.{First}
-use Rattle.station.specs.declared.State.the-variants.{PassToken, AwaitStatusResponse}
+use Rattle.station.specs.declared.State.the-variants.{PassToken}
 use Rattle.station.specs.declared.Station.{Station}
 use Rattle.station.specs.declared.Started.the-variants as started
 use Rattle.station.specs.Parts.{newStation, freshStation, freshCore, withState, withActivity, withGap, withPending, withTokenTimes, withNextApplication, withOnline}
@@ -50,7 +50,7 @@ use Rattle.theorem_silence.specs.Sharp.{turnTime, sharp}
 use Rattle.theorem_silence.specs.Scripts.{token, declines, sends-nine, recordOf, pollHearing, pollSilent, claims, lowest, hears-all, hears-cut, begins-look, others-look, responseOf1, answer-type, begins-question, others-question, asks-one, callsFor}
 use Rattle.theorem_silence.specs.Met.{Met, PremisesMet}
 use Rattle.theorem_silence.specs.Rings.{UpTo, others-up-to, cut-all, cut-added, one-out, one-asked}
-use Rattle.theorem_silence.specs.Made.{on, coreAt, run-none, run-on, begun-look, ring-all, ring-alone, begun-question, ring-but-one, begun, members, says-token, cut-heard, claimed, one-gets-asked, answers}
+use Rattle.theorem_silence.specs.Made.{lowestWith, coreAt, pass-look, pass-question, awaits-one, pass-answered, calls-none, calls-on, begun-look, ring-all, ring-alone, begun-question, ring-but-one, first-runs, members, says-token, cut-heard, claimed, one-gets-asked, one-answers}
 
 -- with accepted settings `new` gives a station for one application, and calls make others of it
 one-new : (p : Parameters) → newStation p 1 ≡ started.Accepted (freshStation p 1)
@@ -70,9 +70,9 @@ unfolding slotTimeOf timeOf rounded
 room k last h l = omega arith
 
 -- a core that starts a token pass, and a ring with the members 0, 1, .. k: the premises are met
-met-by : (k : ℕ) (gap : Bool) (time from last : ℕ) (turn : GapState) (r : Ring) (cs : List Call) → k ≤ 125 → last ≤ 9000 → run (freshStation lowest 1) cs ≡ on (coreAt time from 64872 last (PassToken gap First) turn) r → gapDue lowest (coreAt time from 64872 last (PassToken gap First) turn) r gap ≡ false → r .own ≡ 0 → UpTo r k → Met k gap
+met-by : (k : ℕ) (gap : Bool) (time from last : ℕ) (turn : GapState) (r : Ring) (cs : List Call) → k ≤ 125 → last ≤ 9000 → run (freshStation lowest 1) cs ≡ lowestWith (coreAt time from 64872 last (PassToken gap First) turn) r → gapDue lowest (coreAt time from 64872 last (PassToken gap First) turn) r gap ≡ false → r .own ≡ 0 → UpTo r k → Met k gap
 met-by k gap time from last turn r cs h l makes due own members =
-    let s = on (coreAt time from 64872 last (PassToken gap First) turn) r in
+    let s = lowestWith (coreAt time from 64872 last (PassToken gap First) turn) r in
     let calls = made-by lowest cs s lowest-accepted makes in
     let starts = start-of-calls s calls refl gap refl due in
     let size = others-up-to r k own h members in
@@ -105,22 +105,22 @@ claimed-own : (r : Ring) → claimOf (claimOf r) .own ≡ r .own
 claimed-own r = claim-own (claimOf r) ∙ claim-own r
 
 -- the calls make this station
-made-look : (k : ℕ) → k ≤ 125 → run (freshStation lowest 1) (callsFor k true) ≡ on (coreAt 3500 0 64872 3566 (PassToken true First) (Waiting 0)) (claimOf (claimOf (ring-of k)))
-made-look k l = run-on begins-look (others-look k ++ claims 3300) (freshStation lowest 1) ∙ ap (λ (s : Station). run s (others-look k ++ claims 3300)) (begun .look) ∙ go k l
+made-look : (k : ℕ) → k ≤ 125 → run (freshStation lowest 1) (callsFor k true) ≡ lowestWith pass-look (claimOf (claimOf (ring-of k)))
+made-look k l = calls-on begins-look (others-look k ++ claims 3300) (freshStation lowest 1) ∙ ap (λ (s : Station). run s (others-look k ++ claims 3300)) (first-runs .look) ∙ go k l
   where
-    go : (k : ℕ) → k ≤ 125 → run begun-look (others-look k ++ claims 3300) ≡ on (coreAt 3500 0 64872 3566 (PassToken true First) (Waiting 0)) (claimOf (claimOf (ring-of k)))
+    go : (k : ℕ) → k ≤ 125 → run begun-look (others-look k ++ claims 3300) ≡ lowestWith pass-look (claimOf (claimOf (ring-of k)))
     go zero l = claimed (freshOf 0) .look-none
     go (suc k) l =
         let cut = hears-cut 900 (suc k) ∷ [] in
-        run-on (others-look (suc k)) (claims 3300) begun-look
+        calls-on (others-look (suc k)) (claims 3300) begun-look
         ∙ ap (λ (s : Station). run s (claims 3300))
-        (run-on (hears-all 100 1 7) cut begun-look
-        ∙ ap (λ (s : Station). run s cut) (begun .heard-all)
+        (calls-on (hears-all 100 1 7) cut begun-look
+        ∙ ap (λ (s : Station). run s cut) (first-runs .heard-all)
         ∙ cut-heard _ 900 (suc k) (says-token (suc k) (omega arith) .0) (omega arith) 0 0 0 800 (Waiting 0) ring-all (omega arith) (omega arith))
         ∙ claimed (witnessOf ring-all (suc k) 0) .look-heard
 
 -- no question is due: the count is 0
-no-question : (r : Ring) → gapDue lowest (coreAt 3500 0 64872 3566 (PassToken true First) (Waiting 0)) r true ≡ false
+no-question : (r : Ring) → gapDue lowest pass-look r true ≡ false
 unfolding gapDue passing.gapAdvanced
 no-question r = refl
 
@@ -154,7 +154,7 @@ sound-begun : SoundStation (run (freshStation lowest 1) begins-question)
 sound-begun = sound-of-calls (run (freshStation lowest 1) begins-question) (made-by lowest begins-question (run (freshStation lowest 1) begins-question) lowest-accepted refl)
 
 sound-heard : SoundRing ring-but-one
-sound-heard = call.sound (hears-all 4200 2 6) begun-question (subst SoundStation (begun .question) sound-begun) .ring-sound
+sound-heard = call.sound (hears-all 4200 2 6) begun-question (subst SoundStation (first-runs .question) sound-begun) .ring-sound
 
 sound-before : (k : ℕ) → SoundRing (before-one k)
 sound-before zero = sound-begun .ring-sound
@@ -185,37 +185,37 @@ members-question (suc k) l x m = add-has (claimOf (claimOf (before-one (suc k)))
     go (suc k) l = cut-added ring-but-one (suc (suc k)) (members .own-but-one) (omega arith) l (members .but-one) x m
 
 -- the calls make this station
-made-question : (k : ℕ) → k ≤ 125 → run (freshStation lowest 1) (callsFor k false) ≡ on (coreAt 7600 3400 64872 8300 (PassToken false First) (DoPoll 1)) (after-one k)
+made-question : (k : ℕ) → k ≤ 125 → run (freshStation lowest 1) (callsFor k false) ≡ lowestWith pass-answered (after-one k)
 made-question k l =
     let r = claimOf (claimOf (before-one k)) in
-    let pass = on (coreAt 7600 3400 64872 7666 (PassToken true First) (Waiting 2)) r in
+    let pass = lowestWith pass-question r in
     let question = one-asked r (sound-claim (claimOf (before-one k)) (sound-claim (before-one k) (sound-before k))) (claimed-own (before-one k) ∙ own-before k) (claimed-has (before-one k) 1 ∙ one-absent k l) in
-    run-on begins-question (others-question k ++ (claims 7400 ++ asks-one k)) (freshStation lowest 1)
-    ∙ ap (λ (s : Station). run s (others-question k ++ (claims 7400 ++ asks-one k))) (begun .question)
-    ∙ run-on (others-question k) (claims 7400 ++ asks-one k) begun-question
-    ∙ run-on (claims 7400) (asks-one k) (run begun-question (others-question k))
+    calls-on begins-question (others-question k ++ (claims 7400 ++ asks-one k)) (freshStation lowest 1)
+    ∙ ap (λ (s : Station). run s (others-question k ++ (claims 7400 ++ asks-one k))) (first-runs .question)
+    ∙ calls-on (others-question k) (claims 7400 ++ asks-one k) begun-question
+    ∙ calls-on (claims 7400) (asks-one k) (run begun-question (others-question k))
     ∙ ap (λ (s : Station). run s (asks-one k)) (claimed-for k l)
-    ∙ run-on (pollSilent 8000 ∷ []) (pollHearing 8300 (responseOf1 (answer-type k) ∷ []) ∷ []) pass
+    ∙ calls-on (pollSilent 8000 ∷ []) (pollHearing 8300 (responseOf1 (answer-type k) ∷ []) ∷ []) pass
     ∙ ap (λ (s : Station). run s (pollHearing 8300 (responseOf1 (answer-type k) ∷ []) ∷ [])) (one-gets-asked r question)
     ∙ answered-for k
   where
-    claimed-for : (k : ℕ) → k ≤ 125 → run (run begun-question (others-question k)) (claims 7400) ≡ on (coreAt 7600 3400 64872 7666 (PassToken true First) (Waiting 2)) (claimOf (claimOf (before-one k)))
-    claimed-for zero l = ap (λ (s : Station). run s (claims 7400)) (run-none begun-question) ∙ claimed ring-alone .question-none
-    claimed-for (suc zero) l = ap (λ (s : Station). run s (claims 7400)) (run-none begun-question) ∙ claimed ring-alone .question-none
+    claimed-for : (k : ℕ) → k ≤ 125 → run (run begun-question (others-question k)) (claims 7400) ≡ lowestWith pass-question (claimOf (claimOf (before-one k)))
+    claimed-for zero l = ap (λ (s : Station). run s (claims 7400)) (calls-none begun-question) ∙ claimed ring-alone .question-none
+    claimed-for (suc zero) l = ap (λ (s : Station). run s (claims 7400)) (calls-none begun-question) ∙ claimed ring-alone .question-none
     claimed-for (suc (suc k)) l =
         let cut = hears-cut 5000 (suc (suc k)) ∷ [] in
         ap (λ (s : Station). run s (claims 7400))
-        (run-on (hears-all 4200 2 6) cut begun-question
-        ∙ ap (λ (s : Station). run s cut) (begun .heard-but-one)
+        (calls-on (hears-all 4200 2 6) cut begun-question
+        ∙ ap (λ (s : Station). run s cut) (first-runs .heard-but-one)
         ∙ cut-heard _ 5000 (suc (suc k)) (says-token (suc (suc k)) (omega arith) .1) (omega arith) 3400 3000 64872 4900 (Waiting 2) ring-but-one (omega arith) (omega arith))
         ∙ claimed (witnessOf ring-but-one (suc (suc k)) 0) .question-heard
 
-    answered-for : (k : ℕ) → run (on (coreAt 7600 3400 64872 8132 (AwaitStatusResponse 1) (DoPoll 1)) (claimOf (claimOf (before-one k)))) (pollHearing 8300 (responseOf1 (answer-type k) ∷ []) ∷ []) ≡ on (coreAt 7600 3400 64872 8300 (PassToken false First) (DoPoll 1)) (after-one k)
-    answered-for zero = answers (claimOf (claimOf ring-alone)) .not-ready
-    answered-for (suc k) = answers (claimOf (claimOf (before-one (suc k)))) .in-ring
+    answered-for : (k : ℕ) → run (lowestWith awaits-one (claimOf (claimOf (before-one k)))) (pollHearing 8300 (responseOf1 (answer-type k) ∷ []) ∷ []) ≡ lowestWith pass-answered (after-one k)
+    answered-for zero = one-answers (claimOf (claimOf ring-alone)) .not-ready
+    answered-for (suc k) = one-answers (claimOf (claimOf (before-one (suc k)))) .in-ring
 
 -- no question is due where the gap is not looked at
-no-look : (r : Ring) → gapDue lowest (coreAt 7600 3400 64872 8300 (PassToken false First) (DoPoll 1)) r false ≡ false
+no-look : (r : Ring) → gapDue lowest pass-answered r false ≡ false
 unfolding gapDue
 no-look r = refl
 
@@ -236,11 +236,11 @@ here = defaultOf 5 B500000
 
 -- a station with the neighbour 9, which starts a token pass: online, a token from 9 to us is heard, then the bus is silent, and the
 -- station claims the token, sends it twice to itself, holds it, and its application declines
-abbrev calls-neighboured : List Call
-calls-neighboured = call.online ∷ pollSilent 0 ∷ pollHearing 100 (token 9 5 ∷ []) ∷ claims 6600
+abbrev letterCalls : List Call
+letterCalls = call.online ∷ pollSilent 0 ∷ pollHearing 100 (token 9 5 ∷ []) ∷ claims 6600
 
-abbrev neighboured : Station
-neighboured = run (freshStation here 1) calls-neighboured
+abbrev letterStation : Station
+letterStation = run (freshStation here 1) letterCalls
 
 -- a silent record, told by its first 64 bits
 quiet-at : {bytes : List ℕ} (clock : ℕ) → records.recordRefusal bytes 1 ≡ 0 → records.headOf bytes ≡ record { clock = clock; pending = 0; telegrams = 0; transmitting = false } → Quiet 1 bytes
@@ -255,11 +255,11 @@ five = recordOf 7266 declines [] ∷ recordOf 7732 declines [] ∷ recordOf 8198
 -- document 01's example 10 and the letter's case, by the clock: all five polls are counted; tokens go to 9, 9, 9 and 5, and then the
 -- application's telegram goes out
 pub record LetterRun : Type 0 where
-  pub starts : Start neighboured
-  pub neighbour : others (neighboured .«token_ring») ≡ 9 ∷ []
+  pub starts : Start letterStation
+  pub neighbour : others (letterStation .«token_ring») ≡ 9 ∷ []
   pub quiet : AllQuiet 1 five
-  pub all-counted : countedIn neighboured five ≡ 5
-  pub sent : sentIn neighboured five ≡ Token 9 ∷ Token 9 ∷ Token 9 ∷ Token 5 ∷ Application 0 0 false 9 ∷ []
+  pub all-counted : countedIn letterStation five ≡ 5
+  pub sent : sentIn letterStation five ≡ Token 9 ∷ Token 9 ∷ Token 9 ∷ Token 5 ∷ Application 0 0 false 9 ∷ []
 
 here-accepted : firstRefusal (plainOf here) ≡ 0
 unfolding firstRefusal codedRefusal restRefusal plainOf refuseBelow refuseOutside factorsRefusal baudOf
@@ -270,7 +270,7 @@ pub letter-run : LetterRun
 unfolding fieldOf beFrom loadOf rounded timeOf slotTimeOf tokenLostOf rotationTimeOf walk nearest betweenOf keeps sameSet roundOf lapsOf bitOf wordOf hasIn has make others freshOf passed witnessOf claimOf nextOf prevOf freshStation freshCore withState withActivity withGap withPending withTokenTimes withNextApplication withOnline after run words.zeroOr14 decisions.lengthRefusal words.responseStateOf decisions.decisionRefusal words.telegramRefusal words.telegramOf decisions.decisionOf records.headOf records.telegramAt records.decisionAt records.entryRefusal records.wordsRefusal records.recordRefusal steps.toListenToken steps.knownAt steps.elapsedOf steps.markedAt steps.busyOf steps.ongoingOf steps.pauseOf steps.sentAt steps.busActivityOf steps.rxOf steps.slotExpiredOf steps.tokenLostWaitOf steps.doneOf steps.transmitOf steps.heardOf hear.listenHeard hear.listenTelegramOn hear.listenTelegram listening.heardTelegram listening.heardAll listening.receivedAll listening.consumedAll listening.listenTokenOn listening.listenTokenAfter listening.listenTokenOf polling.connectedOn polling.connectedOf polling.dispatchOn polling.dispatchOf polling.pollOnline polling.pollInner answering.polledOf polling.acceptedAfter polling.acceptedPoll polling.pollOf commands.onlineOf steps.toClaimToken claiming.claimNext claiming.claimAfter claiming.claimTokenOf steps.toUseToken steps.withTokenTime steps.toPassToken listening.lostTokenOf holding.declinesOn holding.declinesAt holding.usePassOf holding.appTransmitOf holding.firstOr holding.turnOf holding.askedFrom holding.askedOf holding.holdLess holding.holdEndOf holding.holdsOf holding.useAppsAfter holding.useAppsOf holding.useTokenAfter holding.useTokenTimed holding.useTokenOf passing.gapAdvanced passing.passSent passing.passSend passing.passPollOn passing.passPoll passing.passAfter passing.passTokenOf checking.resendOf checking.checkReceived checking.checkAfter checking.checkTokenPassOf removeOf takeOut steps.toCheckTokenPass counted countedIn slotAfter sentIn answering.stepAnswer gapDue
 letter-run =
     record {
-      starts = start-of-calls neighboured (made-by here calls-neighboured neighboured here-accepted refl) refl true refl refl;
+      starts = start-of-calls letterStation (made-by here letterCalls letterStation here-accepted refl) refl true refl refl;
       neighbour = refl;
       quiet = (quiet-at 7266 refl refl, (quiet-at 7732 refl refl, (quiet-at 8198 refl refl, (quiet-at 8664 refl refl, (quiet-at 9130 refl refl, tt)))));
       all-counted = refl;
