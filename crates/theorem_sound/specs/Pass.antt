@@ -1,9 +1,10 @@
--- What the steps of station_pass, station_await_status and station_check_pass keep.
+-- What the steps of station_pass, station_await_status and station_check_pass come to.
 use Prim.Native.Nat.{ℕ}
 use mathlib.Core.Bool.{Bool, false}
+use mathlib.Core.Path.{refl}
 use mathlib.Core.List.{List}
 use native.Mathlib.Omega.{arith}
-use lib.Dec.{ltb, eqb}
+use lib.Dec.{ltb, eqb, lit≤}
 use Rattle.bit_times.specs.declared.Micros.{Micros}
 use Rattle.settings.specs.declared.Parameters.{Parameters}
 use Rattle.ring.specs.declared.Ring.{Ring}
@@ -16,13 +17,18 @@ use Rattle.codec_telegrams.specs.declared.Telegram.{Telegram}
 use Rattle.codec_telegrams.specs.declared.Telegram.the-variants as telegram
 use Rattle.station.specs.declared.PassTokenAttempt.{PassTokenAttempt}
 use Rattle.station.specs.declared.PassTokenAttempt.the-variants.{First, Second, Third}
+use Rattle.station.specs.declared.State.{State}
+use Rattle.station.specs.declared.State.the-variants.{PassToken, CheckTokenPass, AwaitStatusResponse}
 use Rattle.station.specs.declared.Core.{Core}
-use Rattle.station.specs.declared.Waited.{Waited}
+use Rattle.station.specs.Parts.{withActivity}
+use Rattle.station.specs.Steps.{pauseOf, slotExpiredOf}
 use Rattle.station_pass.specs.Pass.{gapAdvanced, passSent, passSend, passPollOn, passPoll, passAfter, passTokenOf}
 use Rattle.station_await_status.specs.AwaitStatus.{statusRingOn, statusRing, statusAnswered, statusUnexpected, statusReceived, statusTimeout, awaitStatusAfter, awaitStatusOf}
 use Rattle.station_check_pass.specs.CheckPass.{resendOf, checkReceived, checkAfter, checkTokenPassOf}
-use Rattle.theorem_sound.specs.Keeps.{GapAddressed, RingGood, CoreGood, RingStepGood, either, gap-low, add-good, remove-good, witness-good, waited-good, gap-good, rx-good, idle-good, use-good, pass-good, check-good, await-status-good, done-good, transmit-good}
-use Rattle.theorem_sound.specs.Listen.{received-all-good, consumed-good}
+use Rattle.theorem_sound.specs.Moves.{GapAddressed, Known}
+use Rattle.theorem_sound.specs.Keeps.{RingGood, either, gap-low, add-good, remove-good, witness-good}
+use Rattle.theorem_sound.specs.Walk.{Came, RingMade, sound-at, known-here, new-token, paused, slotted, waited-known, rx, rx-known, gap-turned, to-idle, to-use, to-pass, to-check, to-await-status, done-made, transmit-made}
+use Rattle.theorem_sound.specs.Listen.{received-made}
 
 -- do_pass_token: the gap's turn
 pub advanced-good : (p : Parameters) (r : Ring) (s : GapState) → RingGood p r → GapAddressed (gapAdvanced p r s)
@@ -30,41 +36,7 @@ unfolding gapAdvanced
 advanced-good p r (Waiting count) g = either GapAddressed (ltb (p .«gap_wait_rotations») count) _ _ (gap-low r _ _ (g .sound)) tt
 advanced-good p r (DoPoll current) g = gap-low r _ _ (g .sound)
 
--- do_pass_token
-sent-good : (p : Parameters) (n : ℕ) (c : Core) (now : Micros) (k : PassTokenAttempt) (next : ℕ) (r : Ring) → CoreGood n c → RingGood p r → RingStepGood p n (passSent p c now k next r)
-unfolding passSent
-sent-good p n c now k next r b g =
-    either (RingStepGood p n) (eqb (nextOf r) (p .address)) _ _
-    (record { good-step = transmit-good p n _ now 3 _ (use-good n c _ b); good-ring = g })
-    (record { good-step = transmit-good p n _ now 3 _ (check-good n c k b); good-ring = g })
-
-send-good : (p : Parameters) (n : ℕ) (c : Core) (r : Ring) (now : Micros) (k : PassTokenAttempt) → CoreGood n c → RingGood p r → RingStepGood p n (passSend p c r now k)
-unfolding passSend
-send-good p n c r now k b g = sent-good p n c now k _ _ b (witness-good p r _ _ g)
-
-poll-on-good : (s : GapState) (p : Parameters) (n : ℕ) (c : Core) (r : Ring) (now : Micros) (k : PassTokenAttempt) → GapAddressed s → CoreGood n c → RingGood p r → RingStepGood p n (passPollOn s p c r now k)
-unfolding passPollOn
-poll-on-good (Waiting count) p n c r now k l b g = send-good p n c r now k b g
-poll-on-good (DoPoll current) p n c r now k l b g =
-    record { good-step = transmit-good p n _ now 6 _ (await-status-good n c current (omega arith) b); good-ring = g }
-
-poll-good : (p : Parameters) (n : ℕ) (c : Core) (r : Ring) (now : Micros) (k : PassTokenAttempt) → CoreGood n c → RingGood p r → RingStepGood p n (passPoll p c r now k)
-unfolding passPoll
-poll-good p n c r now k b g = poll-on-good (c .«gap_state») p n c r now k (b .gap-addressed) b g
-
-after-good : (p : Parameters) (n : ℕ) (c : Core) (r : Ring) (now : Micros) (gap : Bool) (k : PassTokenAttempt) (w : Waited) → CoreGood n c → RingGood p r → RingStepGood p n (passAfter p c r now gap k w)
-unfolding passAfter
-after-good p n c r now gap k w b g =
-    let q = waited-good n c _ b in
-    either (RingStepGood p n) (w .over) _ _
-    (either (RingStepGood p n) gap _ _ (poll-good p n _ r now k (gap-good n _ _ (advanced-good p r (c .«gap_state») g) q) g) (send-good p n _ r now k q g))
-    (record { good-step = done-good n _ _ q; good-ring = g })
-
-pub pass-token-good : (p : Parameters) (n : ℕ) (c : Core) (r : Ring) (now : Micros) (gap : Bool) (k : PassTokenAttempt) → CoreGood n c → RingGood p r → RingStepGood p n (passTokenOf p c r now gap k)
-unfolding passTokenOf
-pass-token-good p n c r now gap k b g = after-good p n c r now gap k _ b g
-
--- do_await_status_response
+-- do_await_status_response: the ring
 status-on-good : (s : ResponseState) (p : Parameters) (r : Ring) (a : ℕ) → RingGood p r → RingGood p (statusRingOn s r a)
 unfolding statusRingOn
 status-on-good Slave p r a g = g
@@ -76,58 +48,68 @@ status-ring-good : (p : Parameters) (r : Ring) (a : ℕ) (s : ResponseState) (st
 unfolding statusRing
 status-ring-good p r a s status g = either (RingGood p) (eqb status 0) _ _ (status-on-good s p r a g) g
 
-answered-good : (p : Parameters) (n : ℕ) (c : Core) (r : Ring) → CoreGood n c → RingGood p r → RingStepGood p n (statusAnswered c r)
-unfolding statusAnswered
-answered-good p n c r b g = record { good-step = record { step-core = pass-good n c _ _ b }; good-ring = g }
+module _ {p : Parameters} {n : ℕ} {now : Micros} {c₀ : Core} where
+  -- do_pass_token
+  send-made : {gap : Bool} {attempt : PassTokenAttempt} {c : Core} (r : Ring) → Came p n now c₀ (PassToken gap attempt) c → RingGood p r → RingMade p n now c₀ (passSend p c r now attempt)
+  unfolding passSend passSent
+  send-made {attempt = attempt} r k g =
+      let w = witness-good p r (p .address) (nextOf r) g in
+      either (RingMade p n now c₀) (eqb (nextOf _) (p .address)) _ _
+      (record { made-step = transmit-made 3 _ (lit≤ tt) (to-use _ refl (new-token n now (k .clock)) k); made-ring = w })
+      (record { made-step = transmit-made 3 _ (lit≤ tt) (to-check attempt refl k); made-ring = w })
 
-unexpected-good : (p : Parameters) (n : ℕ) (c : Core) (r : Ring) → CoreGood n c → RingGood p r → RingStepGood p n (statusUnexpected c r)
-unfolding statusUnexpected
-unexpected-good p n c r b g = record { good-step = record { step-core = idle-good n c b }; good-ring = g }
+  poll-on-made : {gap : Bool} {attempt : PassTokenAttempt} {c : Core} (s : GapState) (r : Ring) → GapAddressed s → Came p n now c₀ (PassToken gap attempt) c → RingGood p r → RingMade p n now c₀ (passPollOn s p c r now attempt)
+  unfolding passPollOn
+  poll-on-made (Waiting count) r l k g = send-made r k g
+  poll-on-made (DoPoll current) r l k g =
+      record { made-step = transmit-made 6 _ (lit≤ tt) (to-await-status current refl (omega arith) k); made-ring = g }
 
-received-good : (p : Parameters) (n : ℕ) (c : Core) (r : Ring) (a : ℕ) (t : Telegram) → CoreGood n c → RingGood p r → RingStepGood p n (statusReceived p c r a t)
-unfolding statusReceived
-received-good p n c r a (telegram.Token destination source) b g = unexpected-good p n c r b g
-received-good p n c r a telegram.ShortConfirmation b g = unexpected-good p n c r b g
-received-good p n c r a (telegram.Request destination source asks) b g = unexpected-good p n c r b g
-received-good p n c r a (telegram.Response destination source state status) b g =
-    either (RingStepGood p n) (eqb source a) _ _
-    (either (RingStepGood p n) (eqb destination (p .address)) _ _ (answered-good p n c _ b (status-ring-good p r a state status g)) (unexpected-good p n c r b g))
-    (unexpected-good p n c r b g)
+  pub pass-token-made : {attempt : PassTokenAttempt} {c : Core} (gap : Bool) (r : Ring) → Came p n now c₀ (PassToken gap attempt) c → RingGood p r → RingMade p n now c₀ (passTokenOf p c r now gap attempt)
+  unfolding passTokenOf passAfter passPoll
+  pass-token-made {c = c} gap r k g =
+      let q = paused k in
+      let t = gap-turned _ (advanced-good p r (c .«gap_state») g) q in
+      either (RingMade p n now c₀) (pauseOf p (c .«last_bus_activity») now .over) _ _
+      (either (RingMade p n now c₀) gap _ _ (poll-on-made _ r (sound-at t .gap-address) t g) (send-made r q g))
+      (record { made-step = done-made _ q; made-ring = g })
 
-timeout-good : (p : Parameters) (n : ℕ) (c : Core) (r : Ring) (now : Micros) → CoreGood n c → RingGood p r → RingStepGood p n (statusTimeout p c r now)
-unfolding statusTimeout
-timeout-good p n c r now b g = pass-token-good p n _ r now false First (pass-good n c _ _ b) g
+  -- do_await_status_response
+  answered-made : {a : ℕ} {c : Core} (r : Ring) → Came p n now c₀ (AwaitStatusResponse a) c → RingGood p r → RingMade p n now c₀ (statusAnswered c r)
+  unfolding statusAnswered
+  answered-made r k g = record { made-step = record { moves = to-pass false First refl k .by }; made-ring = g }
 
-await-after-good : (p : Parameters) (n : ℕ) (c : Core) (r : Ring) (now : Micros) (w : Waited) → CoreGood n c → RingGood p r → RingStepGood p n (awaitStatusAfter p c r now w)
-unfolding awaitStatusAfter
-await-after-good p n c r now w b g =
-    let q = waited-good n c _ b in
-    either (RingStepGood p n) (w .over) _ _ (timeout-good p n _ r now q g) (record { good-step = done-good n _ _ q; good-ring = g })
+  unexpected-made : {a : ℕ} {c : Core} (r : Ring) → Came p n now c₀ (AwaitStatusResponse a) c → RingGood p r → RingMade p n now c₀ (statusUnexpected c r)
+  unfolding statusUnexpected
+  unexpected-made r k g = record { made-step = record { moves = to-idle refl (known-here k) k .by }; made-ring = g }
 
-pub await-status-step-good : (p : Parameters) (n : ℕ) (c : Core) (r : Ring) (now : Micros) (a : ℕ) (bytes : List ℕ) (m count : ℕ) → CoreGood n c → RingGood p r → RingStepGood p n (awaitStatusOf p c r now a bytes m count)
-unfolding awaitStatusOf
-await-status-step-good p n c r now a bytes m count b g =
-    either (RingStepGood p n) (ltb 0 count) _ _ (received-good p n _ r a _ (rx-good n c now b) g) (await-after-good p n c r now _ b g)
+  status-made : {a : ℕ} {c : Core} (r : Ring) (t : Telegram) → Came p n now c₀ (AwaitStatusResponse a) c → RingGood p r → RingMade p n now c₀ (statusReceived p c r a t)
+  unfolding statusReceived
+  status-made r (telegram.Token destination source) k g = unexpected-made r k g
+  status-made r telegram.ShortConfirmation k g = unexpected-made r k g
+  status-made r (telegram.Request destination source asks) k g = unexpected-made r k g
+  status-made {a} r (telegram.Response destination source state status) k g =
+      either (RingMade p n now c₀) (eqb source a) _ _
+      (either (RingMade p n now c₀) (eqb destination (p .address)) _ _ (answered-made _ k (status-ring-good p r a state status g)) (unexpected-made r k g))
+      (unexpected-made r k g)
 
--- do_check_token_pass
-resend-good : (p : Parameters) (n : ℕ) (c : Core) (r : Ring) (now : Micros) (k : PassTokenAttempt) → CoreGood n c → RingGood p r → RingStepGood p n (resendOf p c r now k)
-unfolding resendOf
-resend-good p n c r now First b g = pass-token-good p n _ r now false Second (pass-good n c _ _ b) g
-resend-good p n c r now Second b g = pass-token-good p n _ r now false Third (pass-good n c _ _ b) g
-resend-good p n c r now Third b g = pass-token-good p n _ _ now false First (pass-good n c _ _ b) (remove-good p r (nextOf r) g)
+  pub await-status-made : {a : ℕ} {c : Core} (r : Ring) (bytes : List ℕ) (count : ℕ) → Came p n now c₀ (AwaitStatusResponse a) c → RingGood p r → RingMade p n now c₀ (awaitStatusOf p c r now a bytes n count)
+  unfolding awaitStatusOf awaitStatusAfter statusTimeout
+  await-status-made {c = c} r bytes count k g =
+      either (RingMade p n now c₀) (ltb 0 count) _ _ (status-made r _ (rx k) g)
+      (either (RingMade p n now c₀) (slotExpiredOf p (c .«last_bus_activity») now .over) _ _ (pass-token-made false r (to-pass false First refl (slotted k)) g)
+      (record { made-step = done-made _ (slotted k); made-ring = g }))
 
-check-received-good : (p : Parameters) (n : ℕ) (c : Core) (r : Ring) (now : Micros) (bytes : List ℕ) (m count : ℕ) → CoreGood n c → RingGood p r → RingStepGood p n (checkReceived p c r now bytes m count)
-unfolding checkReceived
-check-received-good p n c r now bytes m count b g =
-    either (RingStepGood p n) (ltb 0 count) _ _ (consumed-good p n _ count (received-all-good p n _ r now false bytes m count (idle-good n c b) g))
-    (record { good-step = done-good n c _ b; good-ring = g })
+  -- do_check_token_pass
+  resend-made : {c : Core} (attempt : PassTokenAttempt) (r : Ring) → Came p n now c₀ (CheckTokenPass attempt) c → RingGood p r → RingMade p n now c₀ (resendOf p c r now attempt)
+  unfolding resendOf
+  resend-made First r k g = pass-token-made false r (to-pass false Second refl k) g
+  resend-made Second r k g = pass-token-made false r (to-pass false Third refl k) g
+  resend-made Third r k g = pass-token-made false _ (to-pass false First refl k) (remove-good p r (nextOf r) g)
 
-check-after-good : (p : Parameters) (n : ℕ) (c : Core) (r : Ring) (now : Micros) (k : PassTokenAttempt) (bytes : List ℕ) (m count : ℕ) (w : Waited) → CoreGood n c → RingGood p r → RingStepGood p n (checkAfter p c r now k bytes m count w)
-unfolding checkAfter
-check-after-good p n c r now k bytes m count w b g =
-    let q = waited-good n c _ b in
-    either (RingStepGood p n) (w .over) _ _ (resend-good p n _ r now k q g) (check-received-good p n _ r now bytes m count q g)
-
-pub check-token-good : (p : Parameters) (n : ℕ) (c : Core) (r : Ring) (now : Micros) (k : PassTokenAttempt) (bytes : List ℕ) (m count : ℕ) → CoreGood n c → RingGood p r → RingStepGood p n (checkTokenPassOf p c r now k bytes m count)
-unfolding checkTokenPassOf
-check-token-good p n c r now k bytes m count b g = check-after-good p n c r now k bytes m count _ b g
+  pub check-token-made : {c : Core} (attempt : PassTokenAttempt) (r : Ring) (bytes : List ℕ) (count : ℕ) → Came p n now c₀ (CheckTokenPass attempt) c → RingGood p r → RingMade p n now c₀ (checkTokenPassOf p c r now attempt bytes n count)
+  unfolding checkTokenPassOf checkAfter checkReceived
+  check-token-made {c} attempt r bytes count k g =
+      let q = slotted k in
+      either (RingMade p n now c₀) (slotExpiredOf p (c .«last_bus_activity») now .over) _ _ (resend-made attempt r q g)
+      (either (RingMade p n now c₀) (ltb 0 count) _ _ (received-made r false bytes count (to-idle refl (waited-known c _) q) g)
+      (record { made-step = done-made _ q; made-ring = g }))
