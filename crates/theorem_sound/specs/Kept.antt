@@ -33,7 +33,7 @@ use Rattle.theorem_sound.specs.Moves.{has, activeIdleFrom, useTokenFrom,
 use Rattle.theorem_sound.specs.Lines.{Addressed, CollidedOnce, KnownIn, HeldIn, LastToken, ActivityFits, HoldMade, SoundCore}
 
 -- no truth is false
-never : {A : Type 0} → false ≡ true → A
+pub never : {A : Type 0} → false ≡ true → A
 never e = let z : _≡_ {A = ℕ} 0 1 = cc in absurd (omega arith)
 
 -- a transition that may not start in Offline starts in a station that is online: the line on Offline is kept
@@ -49,7 +49,7 @@ online-at : (c : Core) (x y : State) → c .state ≡ x → (stateNumber x ≡ 0
 online-at c x y e z h f = absurd (z (rw (sym e ∙ h f) refl))
 
 -- a transition that may start neither in Offline nor in ListenToken starts where the activity is known
-known-from : (states : List ℕ) (x : State) (a : Activity) → has states 0 ≡ false → has states 1 ≡ false → has states (stateNumber x) ≡ true → KnownIn x a → Known a
+pub known-from : (states : List ℕ) (x : State) (a : Activity) → has states 0 ≡ false → has states 1 ≡ false → has states (stateNumber x) ≡ true → KnownIn x a → Known a
 known-from states Offline a z o i b = never (sym z ∙ i)
 known-from states (ListenToken q k) a z o i b = never (sym o ∙ i)
 known-from states (ActiveIdle q m k) a z o i b = b

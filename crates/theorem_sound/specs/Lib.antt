@@ -13,3 +13,6 @@ pub mod Pass
 pub mod Sound
 pub mod Unchanged
 pub mod Fits
+pub mod Waits
+pub mod Guarded
+pub mod WaitsProof
