@@ -50,7 +50,7 @@ asked-good (suc k) bytes n a first high l =
     (either (AskedGood n) (eqb (turnOf a n) (firstOr first a)) _ _ (record { asked = t }) (asked-good k bytes n (turnOf a n) _ high t))
     (record { asked = l })
 
-first-or-good : (n : ℕ) (first : OptionApplication) (a : ℕ) → OneOf n first → a < n → firstOr first a < n
+pub first-or-good : (n : ℕ) (first : OptionApplication) (a : ℕ) → OneOf n first → a < n → firstOr first a < n
 unfolding firstOr
 first-or-good n optionApplication.None a f l = l
 first-or-good n (optionApplication.Some b) a f l = f

@@ -16,3 +16,4 @@ pub mod Fits
 pub mod Waits
 pub mod Guarded
 pub mod WaitsProof
+pub mod Never

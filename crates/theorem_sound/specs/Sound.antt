@@ -8,12 +8,12 @@ use mathlib.Core.List.{List, [], _∷_}
 use native.Mathlib.Omega.{arith}
 use borrow.Author.Tests.{leb-true}
 use lib.Dec.{leb, eqb, lit<}
-use Rattle.codec_fields.specs.Widths.{field-below}
 use Rattle.bit_times.specs.declared.Micros.{Micros}
 use Rattle.settings.specs.declared.Parameters.{Parameters}
 use Rattle.ring.specs.declared.Ring.{Ring}
 use Rattle.ring.specs.Laws.{SoundRing}
 use Rattle.codec_records.specs.Records.{headOf, recordRefusal}
+use Rattle.codec_records.specs.Laws.{clock-below}
 use Rattle.codec_answers.specs.declared.Outcome.the-variants as outcome
 use Rattle.station.specs.declared.State.{State}
 use Rattle.station.specs.declared.State.the-variants.{Offline, ListenToken, ActiveIdle, UseToken, ClaimToken, AwaitDataResponse, PassToken, CheckTokenPass, AwaitStatusResponse}
@@ -73,10 +73,9 @@ unfoldable pub run : Station → List Call → Station
 run s [] = s
 run s (c ∷ cs) = run (after s c) cs
 
--- a record's clock has 48 bits
+-- a record's clock is a time of a clock
 pub clock-fits : (bytes : List ℕ) → Clock (record { 0 = headOf bytes .clock })
-unfolding headOf
-clock-fits bytes = field-below _ 16 48
+clock-fits bytes = clock-below bytes
 
 -- the clock of a call: a poll's, and none for a command
 abbrev pub clockOf : Call → Micros
