@@ -65,7 +65,7 @@ use Rattle.theorem_sound.specs.Kept.{hold-next, moves-keep}
 use Rattle.theorem_sound.specs.Keeps.{RingGood, either, again-good, remove-good}
 use Rattle.theorem_sound.specs.Hold.{AskedGood, asked-good}
 use Rattle.theorem_sound.specs.Pass.{advanced-good}
-use Rattle.theorem_sound.specs.Sound.{SoundStation, Call, poll, online, offline, passive, clock-fits, dispatched, poll-inner-made, part-ring}
+use Rattle.theorem_sound.specs.Sound.{SoundStation, Call, poll, online, offline, passive, clock-fits, dispatched, inner-made, part-ring}
 
 -- what a step sends, consumes and tells fits
 record StepFits (s : Step) : Type 0 where
@@ -404,7 +404,7 @@ unfolding acceptedPoll acceptedAfter
 accepted-fits s bytes w z =
     let g = part-ring s w in
     let l = clock-fits bytes in
-    let m = poll-inner-made (s .p) (s .applications) _ (s .core) (s .«token_ring») _ _ bytes _ l (w .core-sound) g in
+    let m = inner-made s bytes _ _ _ w in
     polled-fits (s .p) (s .applications) _ (w .eight) (moves-keep l _ _ (m .made-step .moves) (w .core-sound) .next-one) (m .made-ring)
     (poll-inner-fits (s .p) (s .applications) bytes _ _ (given s bytes w z) (s .core) (s .«token_ring») _ _ l (w .core-sound) g)
 

@@ -14,10 +14,13 @@ use Rattle.codec_decisions.specs.declared.Decision.the-variants as decision
 use Rattle.codec_telegrams.specs.declared.Telegram.{Telegram}
 use Rattle.codec_answers.specs.declared.Notice.{Notice}
 use Rattle.station.specs.declared.Activity.the-variants as activity
+use Rattle.station.specs.declared.OptionAddress.the-variants as optionAddress
+use Rattle.station.specs.declared.PassTokenAttempt.the-variants.{First}
 use Rattle.station.specs.declared.OptionApplication.{OptionApplication}
 use Rattle.station.specs.declared.OptionApplication.the-variants as optionApplication
 use Rattle.station.specs.declared.UseTokenData.{UseTokenData}
-use Rattle.station.specs.declared.State.the-variants.{UseToken, AwaitDataResponse}
+use Rattle.station.specs.declared.State.{State}
+use Rattle.station.specs.declared.State.the-variants.{ActiveIdle, UseToken, AwaitDataResponse, PassToken}
 use Rattle.station.specs.declared.Core.{Core}
 use Rattle.station.specs.declared.Step.{Step}
 use Rattle.station.specs.Parts.{withState, withActivity, withNextApplication}
@@ -64,60 +67,68 @@ first-good (suc k) bytes n a first high l f =
     (either (FirstGood n) (eqb (turnOf a n) (firstOr first a)) _ _ (record { asked-first = o }) (first-good k bytes n (turnOf a n) _ high (turn-good a n l) o))
     (record { asked-first = f })
 
-module _ {p : Parameters} {n : ℕ} {now : Micros} {c₀ : Core} where
+-- where a step with the token in hand may end: it goes on with it, awaits a reply, or passes the token on
+pub record HoldEnds (E : State → Type 0) : Type 0 where
+  pub ends-use : (held : UseTokenData) (cycled : Bool) → E (UseToken held cycled)
+  pub ends-await : (a : ℕ) (held : UseTokenData) → E (AwaitDataResponse a held)
+  pub ends-pass : E (PassToken true First)
+
+module _ {p : Parameters} {n : ℕ} {now : Micros} {c₀ : Core} {E : State → Type 0} where
   -- do_use_token
-  use-pass-made : {held : UseTokenData} {cycled : Bool} {c : Core} → Came p n now c₀ (UseToken held cycled) c → Made p n now c₀ (usePassOf c)
+  use-pass-made : {held : UseTokenData} {cycled : Bool} {c : Core} → HoldEnds E → Came p n now c₀ (UseToken held cycled) c → Made p n now c₀ E (usePassOf c)
   unfolding usePassOf
-  use-pass-made k = done-made _ (to-pass _ _ refl k)
+  use-pass-made o k = done-made _ (to-pass true First refl k) (o .ends-pass)
 
-  app-made : {held : UseTokenData} {c : Core} (d : Decision) (high : Bool) → DecisionLow d → held .«token_time» .0 ≡ c .«last_token_time» .0 → Came p n now c₀ (UseToken held true) c → Made p n now c₀ (appTransmitOf p c now held d high)
+  app-made : {held : UseTokenData} {c : Core} (d : Decision) (high : Bool) → DecisionLow d → held .«token_time» .0 ≡ c .«last_token_time» .0 → HoldEnds E → Came p n now c₀ (UseToken held true) c → Made p n now c₀ E (appTransmitOf p c now held d high)
   unfolding appTransmitOf
-  app-made decision.Decline high l t k = use-pass-made k
-  app-made (decision.Send length) high l t k = transmit-made length _ l k
-  app-made {held} (decision.SendExpectReply address length) high l t k =
-      transmit-made length _ (l .1) (to-await-data address held refl (l .0) (held-at k) t k)
+  app-made decision.Decline high l t o k = use-pass-made o k
+  app-made (decision.Send length) high l t o k = transmit-made length _ l k (o .ends-use _ _)
+  app-made {held} (decision.SendExpectReply address length) high l t o k =
+      transmit-made length _ (l .1) (to-await-data address held refl (l .0) (held-at k) t k) (o .ends-await _ _)
 
-  apps-after-made : {held : UseTokenData} {cycled : Bool} {c : Core} (bytes : List ℕ) (high : Bool) (a : Asked) → AskedGood n a → FirstGood n a → held .«token_time» .0 ≡ c .«last_token_time» .0 → Came p n now c₀ (UseToken held cycled) c → Made p n now c₀ (useAppsAfter p c now held bytes n high a)
+  apps-after-made : {held : UseTokenData} {cycled : Bool} {c : Core} (bytes : List ℕ) (high : Bool) (a : Asked) → AskedGood n a → FirstGood n a → held .«token_time» .0 ≡ c .«last_token_time» .0 → HoldEnds E → Came p n now c₀ (UseToken held cycled) c → Made p n now c₀ E (useAppsAfter p c now held bytes n high a)
   unfolding useAppsAfter withState withNextApplication
-  apps-after-made bytes high a g o t k =
-      let q = cycle-done _ (record { token-time = held-at k .token-time; first-one = o .asked-first }) t (turned (a .application) (g .asked) k) in
-      either (Made p n now c₀) (a .sends) _ _ (app-made _ high (decision-low bytes n _ high) t q) (use-pass-made q)
+  apps-after-made bytes high a g f t o k =
+      let q = cycle-done _ (record { token-time = held-at k .token-time; first-one = f .asked-first }) t (turned (a .application) (g .asked) k) in
+      either (Made p n now c₀ E) (a .sends) _ _ (app-made _ high (decision-low bytes n _ high) t o q) (use-pass-made o q)
 
-  apps-made : {held : UseTokenData} {cycled : Bool} {c : Core} (bytes : List ℕ) (high : Bool) → held .«token_time» .0 ≡ c .«last_token_time» .0 → Came p n now c₀ (UseToken held cycled) c → Made p n now c₀ (useAppsOf p c now held bytes n high)
+  apps-made : {held : UseTokenData} {cycled : Bool} {c : Core} (bytes : List ℕ) (high : Bool) → held .«token_time» .0 ≡ c .«last_token_time» .0 → HoldEnds E → Came p n now c₀ (UseToken held cycled) c → Made p n now c₀ E (useAppsOf p c now held bytes n high)
   unfolding useAppsOf askedOf
-  apps-made bytes high t k =
+  apps-made bytes high t o k =
       let l = sound-at k .next-one in
-      apps-after-made bytes high _ (asked-good n bytes n _ _ high l) (first-good n bytes n _ _ high l (held-at k .first-one)) t k
+      apps-after-made bytes high _ (asked-good n bytes n _ _ high l) (first-good n bytes n _ _ high l (held-at k .first-one)) t o k
 
-  use-timed-made : {held : UseTokenData} {c : Core} (cycled : Bool) (bytes : List ℕ) → held .«token_time» .0 ≡ c .«last_token_time» .0 → Came p n now c₀ (UseToken held cycled) c → Made p n now c₀ (useTokenTimed p c now held cycled bytes n)
+  use-timed-made : {held : UseTokenData} {c : Core} (cycled : Bool) (bytes : List ℕ) → held .«token_time» .0 ≡ c .«last_token_time» .0 → HoldEnds E → Came p n now c₀ (UseToken held cycled) c → Made p n now c₀ E (useTokenTimed p c now held cycled bytes n)
   unfolding useTokenTimed useTokenAfter withActivity
-  use-timed-made {c} cycled bytes t k =
+  use-timed-made {c = c} cycled bytes t o k =
       let q = paused k in
-      either (Made p n now c₀) (pauseOf p (c .«last_bus_activity») now .over) _ _
-      (either (Made p n now c₀) (holdsOf now (c .«end_token_hold_time»)) _ _ (apps-made bytes false t q)
-      (either (Made p n now c₀) cycled _ _ (use-pass-made q) (apps-made bytes true t q)))
-      (done-made _ q)
+      either (Made p n now c₀ E) (pauseOf p (c .«last_bus_activity») now .over) _ _
+      (either (Made p n now c₀ E) (holdsOf now (c .«end_token_hold_time»)) _ _ (apps-made bytes false t o q)
+      (either (Made p n now c₀ E) cycled _ _ (use-pass-made o q) (apps-made bytes true t o q)))
+      (done-made _ q (o .ends-use _ _))
 
-  pub use-token-made : {held : UseTokenData} {c : Core} (cycled : Bool) (bytes : List ℕ) → Came p n now c₀ (UseToken held cycled) c → Made p n now c₀ (useTokenOf p c now held cycled bytes n)
+  pub use-token-made : {held : UseTokenData} {c : Core} (cycled : Bool) (bytes : List ℕ) → HoldEnds E → Came p n now c₀ (UseToken held cycled) c → Made p n now c₀ E (useTokenOf p c now held cycled bytes n)
   unfolding useTokenOf
-  use-token-made {held} {c} cycled bytes k = use-timed-made cycled bytes (hold-last p c (held .«token_time»)) (hold-set-at k)
+  use-token-made {held} {c} cycled bytes o k = use-timed-made cycled bytes (hold-last p c (held .«token_time»)) o (hold-set-at k)
 
   -- do_await_data_response
-  received-made : {address : ℕ} {held : UseTokenData} {c : Core} (t : Telegram) → Came p n now c₀ (AwaitDataResponse address held) c → Made p n now c₀ (receivedOf p c now address held t)
+  received-made : {address : ℕ} {held : UseTokenData} {c : Core} (t : Telegram) → HoldEnds E → E (ActiveIdle optionAddress.None optionAddress.None 0) → Came p n now c₀ (AwaitDataResponse address held) c → Made p n now c₀ E (receivedOf p c now address held t)
   unfolding receivedOf
-  received-made {address} {c = c} t k =
-      either (Made p n now c₀) (validResponse t address (p .address)) _ _ (record { moves = to-use-again (rx k) .by }) (record { moves = to-idle refl (rx-known c now) (rx k) .by })
+  received-made {address} {c = c} t o i k =
+      let u = to-use-again (rx k) in
+      let d = to-idle refl (rx-known c now) (rx k) in
+      either (Made p n now c₀ E) (validResponse t address (p .address)) _ _ (record { moves = u .by; ends = rw (u .is) (o .ends-use _ _) }) (record { moves = d .by; ends = rw (d .is) i })
 
-  notice-made : (s : Step) (x : Notice) → Made p n now c₀ s → Made p n now c₀ (withNotice s x)
+  notice-made : (s : Step) (x : Notice) → Made p n now c₀ E s → Made p n now c₀ E (withNotice s x)
   unfolding withNotice
-  notice-made s x g = record { moves = g .moves }
+  notice-made s x g = record { moves = g .moves; ends = g .ends }
 
-  timeout-made : {address : ℕ} {held : UseTokenData} {c : Core} (bytes : List ℕ) → Came p n now c₀ (AwaitDataResponse address held) c → Made p n now c₀ (timeoutOf p c now address held bytes n)
+  timeout-made : {address : ℕ} {held : UseTokenData} {c : Core} (bytes : List ℕ) → HoldEnds E → Came p n now c₀ (AwaitDataResponse address held) c → Made p n now c₀ E (timeoutOf p c now address held bytes n)
   unfolding timeoutOf
-  timeout-made bytes k = notice-made _ _ (use-token-made true bytes (to-use-again k))
+  timeout-made bytes o k = notice-made _ _ (use-token-made true bytes o (to-use-again k))
 
-  pub await-data-made : {address : ℕ} {held : UseTokenData} {c : Core} (bytes : List ℕ) (count : ℕ) → Came p n now c₀ (AwaitDataResponse address held) c → Made p n now c₀ (awaitDataOf p c now address held bytes n count)
+  pub await-data-made : {address : ℕ} {held : UseTokenData} {c : Core} (bytes : List ℕ) (count : ℕ) → HoldEnds E → E (ActiveIdle optionAddress.None optionAddress.None 0) → Came p n now c₀ (AwaitDataResponse address held) c → Made p n now c₀ E (awaitDataOf p c now address held bytes n count)
   unfolding awaitDataOf awaitDataAfter
-  await-data-made {c = c} bytes count k =
-      either (Made p n now c₀) (ltb 0 count) _ _ (received-made _ k)
-      (either (Made p n now c₀) (slotExpiredOf p (c .«last_bus_activity») now .over) _ _ (timeout-made bytes (slotted k)) (done-made _ (slotted k)))
+  await-data-made {c = c} bytes count o i k =
+      either (Made p n now c₀ E) (ltb 0 count) _ _ (received-made _ o i k)
+      (either (Made p n now c₀ E) (slotExpiredOf p (c .«last_bus_activity») now .over) _ _ (timeout-made bytes o (slotted k)) (done-made _ (slotted k) (o .ends-await _ _)))

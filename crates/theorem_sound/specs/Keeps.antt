@@ -33,6 +33,11 @@ pub either : {A : Type 0} (P : A → Type 0) (b : Bool) (x y : A) → P x → P 
 either P true x y px py = px
 either P false x y px py = py
 
+-- the same, where the test is looked at
+pub decided : {A : Type 0} (P : A → Type 0) (b : Bool) (x y : A) → (b ≡ true → P x) → (b ≡ false → P y) → P (cond b x y)
+decided P true x y px py = px refl
+decided P false x y px py = py refl
+
 -- a telegram of a record has low addresses
 pub telegram-low : (bytes : List ℕ) (n j : ℕ) → TelegramFits (telegramAt bytes n j)
 unfolding telegramAt

@@ -1,7 +1,8 @@
 -- What calls can make of a station. To read: Moves (what a call does, move by move, and the Rust's assertions), Lines (what a sound core
--- is), Sound (a sound station, and the theorem), Unchanged (what a refusal leaves), Fits (an answer fits its 64 bits). The proofs:
--- Kept (every move keeps every line), Keeps and Walk (what the steps are put together of), Hold, Listen and Pass (the steps, a file for
--- each group of crates).
+-- is), Follows (from which state a poll leads to which), Sound (a sound station, and the theorem), Unchanged (what a refusal leaves), Fits
+-- (an answer fits its 64 bits), Waits (no send before the pause, no retry before the slot), Never (arms that no call reaches). The
+-- proofs: Kept (every move keeps every line), Keeps and Walk (what the steps are put together of), Hold, Listen and Pass (the steps, a
+-- file for each group of crates), Guarded and WaitsProof (the waits).
 pub mod Moves
 pub mod Lines
 pub mod Kept
@@ -10,6 +11,7 @@ pub mod Walk
 pub mod Hold
 pub mod Listen
 pub mod Pass
+pub mod Follows
 pub mod Sound
 pub mod Unchanged
 pub mod Fits

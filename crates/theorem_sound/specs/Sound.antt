@@ -2,7 +2,7 @@
 -- polls and commands makes of it.
 use Prim.Native.Nat.{ℕ, _<_, _≤_}
 use mathlib.Core.Bool.{Bool, true, false, cond, _&&_}
-use mathlib.Core.Path.{_≡_, refl}
+use mathlib.Core.Path.{_≡_, refl, sym, subst}
 use mathlib.Core.Logic.{inl}
 use mathlib.Core.List.{List, [], _∷_}
 use native.Mathlib.Omega.{arith}
@@ -15,6 +15,7 @@ use Rattle.ring.specs.Laws.{SoundRing}
 use Rattle.codec_records.specs.Records.{headOf, recordRefusal}
 use Rattle.codec_records.specs.Laws.{clock-below}
 use Rattle.codec_answers.specs.declared.Outcome.the-variants as outcome
+use Rattle.station.specs.declared.OptionAddress.the-variants as optionAddress
 use Rattle.station.specs.declared.State.{State}
 use Rattle.station.specs.declared.State.the-variants.{Offline, ListenToken, ActiveIdle, UseToken, ClaimToken, AwaitDataResponse, PassToken, CheckTokenPass, AwaitStatusResponse}
 use Rattle.station.specs.declared.Core.{Core}
@@ -22,15 +23,16 @@ use Rattle.station.specs.declared.Station.{Station}
 use Rattle.station.specs.declared.Started.{Started}
 use Rattle.station.specs.declared.Started.the-variants as started
 use Rattle.station.specs.declared.RingStep.{RingStep}
-use Rattle.station.specs.Parts.{zeroTime, freshCore, freshStation, newStation, stateNumber}
+use Rattle.station.specs.Parts.{zeroTime, withOnline, freshCore, freshStation, newStation, stateNumber}
 use Rattle.station.specs.Steps.{ongoingOf, busActivityOf, doneOf}
 use Rattle.station_answer.specs.declared.Polled.{Polled}
 use Rattle.station_poll.specs.Poll.{connectedOn, connectedOf, dispatchOn, dispatchOf, pollOnline, pollInner, acceptedAfter, acceptedPoll, pollOf}
 use Rattle.station_answer.specs.Answer.{polledOf, refusedPoll}
 use Rattle.station_command.specs.Command.{onlineOf, offlineOf, passiveOf}
-use Rattle.theorem_sound.specs.Moves.{Clock, Moves, none, then, goes-offline, goes-online}
+use Rattle.theorem_sound.specs.Moves.{has, Clock, Moves, none, then, goes-offline, goes-online}
 use Rattle.theorem_sound.specs.Lines.{SoundCore}
-use Rattle.theorem_sound.specs.Kept.{moves-keep}
+use Rattle.theorem_sound.specs.Kept.{never, moves-keep}
+use Rattle.theorem_sound.specs.Follows.{reached, FirstAttempt, SlotCoversPause, Follows, covered}
 use Rattle.theorem_sound.specs.Keeps.{RingGood, either, fresh-good, again-good}
 use Rattle.theorem_sound.specs.Walk.{Came, Made, RingMade, arrived, sound-at, marked, bus, to-listen, done-made}
 use Rattle.theorem_sound.specs.Hold.{use-token-made, await-data-made}
@@ -46,6 +48,8 @@ pub record SoundStation (s : Station) : Type 0 where
   -- there are 1 to 8 applications
   pub some : 1 ≤ s .applications
   pub eight : s .applications ≤ 8
+  -- a token pass stands at its first attempt, where the slot is not shorter than the pause
+  pub first-attempt : SlotCoversPause (s .p) → FirstAttempt (s .core .state)
   -- its core is sound: see SoundCore, in Lines.antt, for the lines
   pub core-sound : SoundCore (s .p) (s .applications) (s .core)
 
@@ -84,20 +88,12 @@ clockOf online = zeroTime
 clockOf offline = zeroTime
 clockOf passive = zeroTime
 
+-- a state that the table has
+goes : {p : Parameters} {x y : State} → has (reached x) (stateNumber y) ≡ true → FirstAttempt y → Follows p x y
+goes i f = record { in-table = λ s. i; at-first = λ s. f }
+
 -- a poll's part of it
 module _ {p : Parameters} {n : ℕ} {now : Micros} {c₀ : Core} where
-  dispatch-on-made : (x : State) {c : Core} (r : Ring) (bytes : List ℕ) (count : ℕ) → Came p n now c₀ x c → RingGood p r → RingMade p n now c₀ (dispatchOn x p c r now bytes n count)
-  unfolding dispatchOn
-  dispatch-on-made Offline r bytes count k g = record { made-step = done-made _ k; made-ring = g }
-  dispatch-on-made (ListenToken q i) r bytes count k g = listen-token-made r bytes count k g
-  dispatch-on-made (ActiveIdle q m i) r bytes count k g = active-idle-made r bytes count k g
-  dispatch-on-made (UseToken d i) r bytes count k g = record { made-step = use-token-made i bytes k; made-ring = g }
-  dispatch-on-made (ClaimToken f) r bytes count k g = claim-token-made r k g
-  dispatch-on-made (AwaitDataResponse a d) r bytes count k g = record { made-step = await-data-made bytes count k; made-ring = g }
-  dispatch-on-made (PassToken x a) r bytes count k g = pass-token-made x r k g
-  dispatch-on-made (CheckTokenPass a) r bytes count k g = check-token-made a r bytes count k g
-  dispatch-on-made (AwaitStatusResponse a) r bytes count k g = await-status-made r bytes count k g
-
   -- an online station leaves Offline before anything else
   connected-came : (x : State) {c : Core} → c .online ≡ true → Came p n now c₀ x c → Came p n now c₀ (connectedOn x c .state) (connectedOn x c)
   unfolding connectedOn
@@ -111,11 +107,71 @@ module _ {p : Parameters} {n : ℕ} {now : Micros} {c₀ : Core} where
   connected-came (CheckTokenPass a) o k = arrived k
   connected-came (AwaitStatusResponse a) o k = arrived k
 
-  poll-online-made : {x : State} {c : Core} (r : Ring) (t : Bool) (pending : ℕ) (bytes : List ℕ) (count : ℕ) → Came p n now c₀ x c → RingGood p r → RingMade p n now c₀ (pollOnline p c r now t pending bytes n count)
+  -- what a poll comes to by what its dispatch does, from the state x
+  poll-online-made : {E : State → Type 0} {x : State} {c : Core} (r : Ring) (t : Bool) (pending : ℕ) (bytes : List ℕ) (count : ℕ) → E x → ((d : Core) → Came p n now c₀ x d → RingMade p n now c₀ E (dispatchOn x p d r now bytes n count)) → Came p n now c₀ x c → RingGood p r → RingMade p n now c₀ E (pollOnline p c r now t pending bytes n count)
   unfolding pollOnline dispatchOf
-  poll-online-made {c = c} r t pending bytes count k g =
-      either (RingMade p n now c₀) (ongoingOf (c .«last_bus_activity») now t) _ _ (record { made-step = done-made _ (marked k); made-ring = g })
-      (dispatch-on-made _ r bytes count (arrived (bus pending k)) g)
+  poll-online-made {E} {x} {c} r t pending bytes count y dispatch k g =
+      let d = busActivityOf c now pending in
+      either (RingMade p n now c₀ E) (ongoingOf (c .«last_bus_activity») now t) _ _ (record { made-step = done-made _ (marked k) y; made-ring = g })
+      (subst (λ (z : State). RingMade p n now c₀ E (dispatchOn z p d r now bytes n count)) (sym (bus pending k .is)) (dispatch d (bus pending k)))
+
+  -- what a poll comes to, by the state before it
+  connected-made : (x : State) {c : Core} (r : Ring) (t : Bool) (pending : ℕ) (bytes : List ℕ) (count : ℕ) → (SlotCoversPause p → FirstAttempt x) → c .online ≡ true → Came p n now c₀ x c → RingGood p r → RingMade p n now c₀ (Follows p x) (pollOnline p (connectedOn x c) r now t pending bytes n count)
+  unfolding connectedOn dispatchOn
+  connected-made Offline r t pending bytes count f o k g =
+      poll-online-made r t pending bytes count (goes refl tt)
+      (λ d m. listen-token-made r bytes count (λ b. goes refl tt) (record { ends-offline = goes refl tt; ends-listen = λ q i. goes refl tt }) m g)
+      (to-listen refl o k) g
+  connected-made (ListenToken optionAddress.None i) r t pending bytes count f o k g =
+      poll-online-made r t pending bytes count (goes refl tt)
+      (λ d m. listen-token-made r bytes count (λ b. goes refl tt) (record { ends-offline = goes refl tt; ends-listen = λ q i. goes refl tt }) m g) k g
+  connected-made (ListenToken (optionAddress.Some a) i) r t pending bytes count f o k g =
+      poll-online-made r t pending bytes count (goes refl tt)
+      (λ d m. listen-token-made r bytes count (λ b. goes refl tt) (goes refl tt, goes refl tt, goes refl tt) m g) k g
+  connected-made (ActiveIdle q m i) r t pending bytes count f o k g =
+      poll-online-made r t pending bytes count (goes refl tt)
+      (λ d m. active-idle-made r bytes count (λ b. goes refl tt)
+      (record { ends-idle = λ q m i. goes refl tt; ends-accepted = λ held. goes refl tt; ends-left = goes refl tt }) m g)
+      k g
+  connected-made (UseToken d i) r t pending bytes count f o k g =
+      poll-online-made r t pending bytes count (goes refl tt)
+      (λ d m. record { made-step = use-token-made i bytes (record { ends-use = λ held cycled. goes refl tt; ends-await = λ a held. goes refl tt; ends-pass = goes refl refl }) m; made-ring = g }) k g
+  connected-made (ClaimToken b) r t pending bytes count f o k g =
+      poll-online-made r t pending bytes count (goes refl tt) (λ d m. claim-token-made r (λ b. goes refl tt) (λ e held. goes refl tt) m g) k g
+  connected-made (AwaitDataResponse a d) r t pending bytes count f o k g =
+      poll-online-made r t pending bytes count (goes refl tt)
+      (λ d m. record { made-step = await-data-made bytes count (record { ends-use = λ held cycled. goes refl tt; ends-await = λ a held. goes refl tt; ends-pass = goes refl refl }) (goes refl tt) m; made-ring = g })
+      k g
+  connected-made (PassToken gap a) r t pending bytes count f o k g =
+      poll-online-made r t pending bytes count (record { in-table = λ s. refl; at-first = f })
+      (λ d m. pass-token-made gap r
+      (record { ends-alone = λ held. goes refl tt; ends-check = λ j. goes refl tt; ends-asking = λ e a. goes refl tt })
+      (λ u. record { in-table = λ s. refl; at-first = f }) m g)
+      k g
+  connected-made (CheckTokenPass a) r t pending bytes count f o k g =
+      poll-online-made r t pending bytes count (goes refl tt)
+      (λ d m. check-token-made a r bytes count
+      (record { ends-alone = λ held. goes refl tt; ends-check = λ j. goes refl tt; ends-asking = λ e a. never e })
+      (record { ends-idle = λ q m i. goes refl tt; ends-accepted = λ held. goes refl tt; ends-left = goes refl tt })
+      (λ e u j. record { in-table = λ s. absurd (covered p _ now s e u); at-first = λ s. absurd (covered p _ now s e u) }) m g)
+      k g
+  connected-made (AwaitStatusResponse a) r t pending bytes count f o k g =
+      poll-online-made r t pending bytes count (goes refl tt)
+      (λ d m. await-status-made r bytes count
+      (record { ends-alone = λ held. goes refl tt; ends-check = λ j. goes refl tt; ends-asking = λ e a. never e }) (goes refl refl) (goes refl tt) (goes refl tt) m g)
+      k g
+
+-- a poll that changes nothing stays in the table
+stays-in-table : (x : State) → has (reached x) (stateNumber x) ≡ true
+stays-in-table Offline = refl
+stays-in-table (ListenToken q i) = refl
+stays-in-table (ActiveIdle q m i) = refl
+stays-in-table (UseToken d i) = refl
+stays-in-table (ClaimToken f) = refl
+stays-in-table (AwaitDataResponse a d) = refl
+stays-in-table (PassToken x a) = refl
+stays-in-table (CheckTokenPass a) = refl
+stays-in-table (AwaitStatusResponse a) = refl
 
 -- where a poll of a sound core begins
 begins : {p : Parameters} {n : ℕ} {now : Micros} {c : Core} → Clock now → SoundCore p n c → Came p n now c (c .state) c
@@ -126,19 +182,20 @@ pub dispatched : (p : Parameters) (n : ℕ) (now : Micros) (c : Core) (pending :
 unfolding connectedOf
 dispatched p n now c pending l o w = sound-at (bus pending (connected-came (c .state) o (begins l w)))
 
-pub poll-inner-made : (p : Parameters) (n : ℕ) (now : Micros) (c : Core) (r : Ring) (t : Bool) (pending : ℕ) (bytes : List ℕ) (count : ℕ) → Clock now → SoundCore p n c → RingGood p r → RingMade p n now c (pollInner p c r now t pending bytes n count)
+poll-inner-made : (p : Parameters) (n : ℕ) (now : Micros) (c : Core) (r : Ring) (t : Bool) (pending : ℕ) (bytes : List ℕ) (count : ℕ) → Clock now → SoundCore p n c → (SlotCoversPause p → FirstAttempt (c .state)) → RingGood p r → RingMade p n now c (Follows p (c .state)) (pollInner p c r now t pending bytes n count)
 unfolding pollInner connectedOf
-poll-inner-made p n now c r t pending bytes count l w g = go (c .online) refl
+poll-inner-made p n now c r t pending bytes count l w f g = go (c .online) refl
   where
-    go : (b : Bool) → c .online ≡ b → RingMade p n now c (cond b (pollOnline p (connectedOn (c .state) c) r now t pending bytes n count) (record { step = doneOf c outcome.Offline; ring = r }))
-    go true o = poll-online-made r t pending bytes count (connected-came (c .state) o (begins l w)) g
-    go false o = record { made-step = done-made _ (begins l w); made-ring = g }
+    go : (b : Bool) → c .online ≡ b → RingMade p n now c (Follows p (c .state)) (cond b (pollOnline p (connectedOn (c .state) c) r now t pending bytes n count) (record { step = doneOf c outcome.Offline; ring = r }))
+    go true o = connected-made (c .state) r t pending bytes count f o (begins l w) g
+    go false o = record { made-step = done-made _ (begins l w) (record { in-table = λ s. stays-in-table (c .state); at-first = f }); made-ring = g }
 
 -- A call's moves: the station after it has come there from a sound one by moves, and its ring is sound. The settings and the number of
 -- applications stay.
 pub record CallMade (s : Station) (now : Micros) (t : Station) : Type 0 where
   pub moves : Moves (s .p) (s .applications) now (s .core) (t .core)
   pub ring : RingGood (s .p) (t .«token_ring»)
+  pub first : SlotCoversPause (s .p) → FirstAttempt (t .core .state)
   pub settings-stay : t .p ≡ s .p
   pub applications-stay : t .applications ≡ s .applications
 
@@ -147,20 +204,26 @@ pub part-ring : (s : Station) → SoundStation s → RingGood (s .p) (s .«token
 part-ring s w = record { sound = w .ring-sound; own = w .own-is }
 
 stays-made : (s : Station) (now : Micros) → SoundStation s → CallMade s now s
-stays-made s now w = record { moves = none; ring = part-ring s w; settings-stay = refl; applications-stay = refl }
+stays-made s now w = record { moves = none; ring = part-ring s w; first = w .first-attempt; settings-stay = refl; applications-stay = refl }
 
-polled-made : (s : Station) (now : Micros) (x : RingStep) → RingMade (s .p) (s .applications) now (s .core) x → CallMade s now (polledOf (s .p) (s .applications) x .station)
+polled-made : (s : Station) (now : Micros) (x : RingStep) → RingMade (s .p) (s .applications) now (s .core) (λ (y : State). SlotCoversPause (s .p) → FirstAttempt y) x → CallMade s now (polledOf (s .p) (s .applications) x .station)
 unfolding polledOf
-polled-made s now x g = record { moves = g .made-step .moves; ring = g .made-ring; settings-stay = refl; applications-stay = refl }
+polled-made s now x g = record { moves = g .made-step .moves; ring = g .made-ring; first = g .made-step .ends; settings-stay = refl; applications-stay = refl }
 
 refused-made : (s : Station) (now : Micros) (k : ℕ) → SoundStation s → CallMade s now (refusedPoll s k .station)
 unfolding refusedPoll
 refused-made s now k w = stays-made s now w
 
+-- the step of a poll whose record is not refused
+pub inner-made : (s : Station) (bytes : List ℕ) (t : Bool) (pending count : ℕ) → SoundStation s → RingMade (s .p) (s .applications) (clockOf (poll bytes)) (s .core) (Follows (s .p) (s .core .state)) (pollInner (s .p) (s .core) (s .«token_ring») (clockOf (poll bytes)) t pending bytes (s .applications) count)
+inner-made s bytes t pending count w =
+    poll-inner-made (s .p) (s .applications) _ (s .core) (s .«token_ring») t pending bytes count (clock-fits bytes) (w .core-sound) (w .first-attempt) (part-ring s w)
+
 accepted-made : (s : Station) (bytes : List ℕ) → SoundStation s → CallMade s (clockOf (poll bytes)) (acceptedPoll s bytes .station)
 unfolding acceptedPoll acceptedAfter
 accepted-made s bytes w =
-    polled-made s _ _ (poll-inner-made (s .p) (s .applications) _ (s .core) (s .«token_ring») _ _ bytes _ (clock-fits bytes) (w .core-sound) (part-ring s w))
+    let m = inner-made s bytes _ _ _ w in
+    polled-made s _ _ (record { made-step = record { moves = m .made-step .moves; ends = m .made-step .ends .at-first }; made-ring = m .made-ring })
 
 poll-made : (s : Station) (bytes : List ℕ) → SoundStation s → CallMade s (clockOf (poll bytes)) (pollOf s bytes .station)
 unfolding pollOf
@@ -168,12 +231,13 @@ poll-made s bytes w =
     either (λ (x : Polled). CallMade s (clockOf (poll bytes)) (x .station)) (eqb (recordRefusal bytes (s .applications)) 0) _ _ (accepted-made s bytes w) (refused-made s _ _ w)
 
 online-made : (s : Station) (now : Micros) → SoundStation s → CallMade s now (onlineOf s .station)
-unfolding onlineOf doneOf
-online-made s now w = polled-made s now _ (record { made-step = record { moves = then none goes-online }; made-ring = part-ring s w })
+unfolding onlineOf withOnline doneOf
+online-made s now w =
+    polled-made s now _ (record { made-step = record { moves = then none goes-online; ends = w .first-attempt }; made-ring = part-ring s w })
 
 offline-made : (s : Station) (now : Micros) → SoundStation s → CallMade s now (offlineOf s .station)
-unfolding offlineOf doneOf
-offline-made s now w = polled-made s now _ (record { made-step = record { moves = then none goes-offline }; made-ring = again-good (s .p) (s .«token_ring») (part-ring s w) })
+unfolding offlineOf freshCore doneOf
+offline-made s now w = polled-made s now _ (record { made-step = record { moves = then none goes-offline; ends = λ z. tt }; made-ring = again-good (s .p) (s .«token_ring») (part-ring s w) })
 
 -- Every call of a sound station is made of moves, so each transition in it starts from a state that its `debug_assert_state!` names.
 pub call-made : (s : Station) (c : Call) → SoundStation s → CallMade s (clockOf c) (after s c)
@@ -198,6 +262,7 @@ made-sound s t now l w m =
       own-is = rw (m .settings-stay) (m .ring .own);
       some = rw (m .applications-stay) (w .some);
       eight = rw (m .applications-stay) (w .eight);
+      first-attempt = rw (m .settings-stay) (m .first);
       core-sound = rw (m .settings-stay, m .applications-stay) (moves-keep l _ _ (m .moves) (w .core-sound));
     }
 
@@ -223,10 +288,10 @@ fresh-core-sound p n l =
     }
 
 fresh-sound : (p : Parameters) (n : ℕ) → p .address < 126 → 1 ≤ n → n ≤ 8 → SoundStation (freshStation p n)
-unfolding freshStation
+unfolding freshStation freshCore
 fresh-sound p n l one eight =
     let g = fresh-good p l in
-    record { ring-sound = g .sound; own-is = g .own; some = one; eight = eight; core-sound = fresh-core-sound p n (omega arith) }
+    record { ring-sound = g .sound; own-is = g .own; some = one; eight = eight; first-attempt = λ z. tt; core-sound = fresh-core-sound p n (omega arith) }
 
 -- `new`: with an address up to 125 it gives a sound station or none
 pub new-sound : (p : Parameters) (n : ℕ) → p .address < 126 → SoundStarted (newStation p n)
@@ -237,6 +302,20 @@ new-sound p n l = go (leb 1 n) refl (leb n 8) refl
     go true e true f = fresh-sound p n l (leb-true 1 n e) (leb-true n 8 f)
     go true e false f = tt
     go false e b f = tt
+
+-- A poll leaves a sound station in a state that the table has.
+accepted-follows : (s : Station) (bytes : List ℕ) → SoundStation s → Follows (s .p) (s .core .state) (acceptedPoll s bytes .station .core .state)
+unfolding acceptedPoll acceptedAfter polledOf
+accepted-follows s bytes w = inner-made s bytes _ _ _ w .made-step .ends
+
+refused-follows : (s : Station) (k : ℕ) → SoundStation s → Follows (s .p) (s .core .state) (refusedPoll s k .station .core .state)
+unfolding refusedPoll
+refused-follows s k w = record { in-table = λ z. stays-in-table (s .core .state); at-first = w .first-attempt }
+
+pub poll-follows : (s : Station) (bytes : List ℕ) → SoundStation s → Follows (s .p) (s .core .state) (pollOf s bytes .station .core .state)
+unfolding pollOf
+poll-follows s bytes w =
+    either (λ (x : Polled). Follows (s .p) (s .core .state) (x .station .core .state)) (eqb (recordRefusal bytes (s .applications)) 0) _ _ (accepted-follows s bytes w) (refused-follows s _ w)
 
 -- The theorem: any list of calls leaves a sound station sound, so every station that calls make of a new one is.
 pub sound : (cs : List Call) (s : Station) → SoundStation s → SoundStation (run s cs)

@@ -37,18 +37,20 @@ pub record Came (p : Parameters) (n : ℕ) (now : Micros) (c₀ : Core) (x : Sta
   pub by : Moves p n now c₀ c
   pub is : c .state ≡ x
 
--- what a step that leaves the ring alone comes to
-pub record Made (p : Parameters) (n : ℕ) (now : Micros) (c₀ : Core) (s : Step) : Type 0 where
+-- what a step that leaves the ring alone comes to: moves, and a state of which E holds
+pub record Made (p : Parameters) (n : ℕ) (now : Micros) (c₀ : Core) (E : State → Type 0) (s : Step) : Type 0 where
   pub moves : Moves p n now c₀ (s .core)
+  pub ends : E (s .core .state)
 
 -- what a step comes to
-pub record RingMade (p : Parameters) (n : ℕ) (now : Micros) (c₀ : Core) (s : RingStep) : Type 0 where
-  pub made-step : Made p n now c₀ (s .step)
+pub record RingMade (p : Parameters) (n : ℕ) (now : Micros) (c₀ : Core) (E : State → Type 0) (s : RingStep) : Type 0 where
+  pub made-step : Made p n now c₀ E (s .step)
   pub made-ring : RingGood p (s .ring)
 
 -- what the telegrams of a poll come to
-pub record HeardMade (p : Parameters) (n : ℕ) (now : Micros) (c₀ : Core) (h : Heard) : Type 0 where
+pub record HeardMade (p : Parameters) (n : ℕ) (now : Micros) (c₀ : Core) (E : State → Type 0) (h : Heard) : Type 0 where
   pub heard-moves : Moves p n now c₀ (h .core)
+  pub heard-ends : E (h .core .state)
   pub heard-ring : RingGood p (h .ring)
 
 -- a new token's data fit
@@ -202,15 +204,15 @@ module _ {p : Parameters} {n : ℕ} {now : Micros} {c₀ : Core} where
   to-fresh k = moved _ k goes-offline refl
 
   -- a step that does not send, and one that does
-  pub done-made : {x : State} {c : Core} (o : Outcome) → Came p n now c₀ x c → Made p n now c₀ (doneOf c o)
+  pub done-made : {E : State → Type 0} {x : State} {c : Core} (o : Outcome) → Came p n now c₀ x c → E x → Made p n now c₀ E (doneOf c o)
   unfolding doneOf
-  done-made o k = record { moves = k .by }
+  done-made o k e = record { moves = k .by; ends = rw (k .is) e }
 
-  pub transmit-made : {x : State} {c : Core} (bytes : ℕ) (s : Sent) → bytes ≤ 255 → Came p n now c₀ x c → Made p n now c₀ (transmitOf p c now bytes s)
-  unfolding transmitOf
-  transmit-made bytes s l k = record { moves = then (k .by) (sends bytes l) }
+  pub transmit-made : {E : State → Type 0} {x : State} {c : Core} (bytes : ℕ) (s : Sent) → bytes ≤ 255 → Came p n now c₀ x c → E x → Made p n now c₀ E (transmitOf p c now bytes s)
+  unfolding transmitOf withActivity
+  transmit-made bytes s l k e = record { moves = then (k .by) (sends bytes l); ends = rw (k .is) e }
 
   -- what a telegram comes to
-  pub heard-made : {x : State} {c : Core} (r : Ring) (o : Outcome) → Came p n now c₀ x c → RingGood p r → HeardMade p n now c₀ (heardOf c r o)
+  pub heard-made : {E : State → Type 0} {x : State} {c : Core} (r : Ring) (o : Outcome) → Came p n now c₀ x c → E x → RingGood p r → HeardMade p n now c₀ E (heardOf c r o)
   unfolding heardOf
-  heard-made r o k g = record { heard-moves = k .by; heard-ring = g }
+  heard-made r o k e g = record { heard-moves = k .by; heard-ends = rw (k .is) e; heard-ring = g }
