@@ -29,7 +29,7 @@ use Rattle.station.specs.declared.Core.{Core}
 use Rattle.station.specs.Parts.{withState, withActivity, withPending, withGap, withTokenTimes, withNextApplication, withOnline, freshCore, stateNumber, zeroTime}
 use Rattle.station.specs.Steps.{toListenToken, toActiveIdle, toUseToken, toClaimToken, toAwaitDataResponse, toPassToken, toCheckTokenPass, toAwaitStatusResponse, knownAt, markedAt, sentAt}
 use Rattle.station_hold.specs.Hold.{holdLess, holdEndOf}
-use Rattle.theorem_sound.specs.Moves.{has, activeIdleFrom, useTokenFrom, claimTokenFrom, awaitDataResponseFrom, passTokenFrom, checkTokenPassFrom, awaitStatusResponseFrom, In, Known, Low, OneOf, Clock, HeldFits, GapAddressed, Move, waits, marks, sends, pends, holds, turns, gaps, listens, idles, cycles, claims, listen-token, active-idle, use-token, claim-token, await-data-response, pass-token, check-token-pass, await-status-response, goes-offline, goes-online, Moves, keeps}
+use Rattle.theorem_sound.specs.Moves.{has, activeIdleFrom, useTokenFrom, claimTokenFrom, awaitDataResponseFrom, passTokenFrom, checkTokenPassFrom, awaitStatusResponseFrom, In, Known, Low, OneOf, Clock, HeldFits, GapAddressed, GapCounted, Move, waits, marks, sends, pends, holds, turns, gaps, listens, idles, cycles, claims, listen-token, active-idle, use-token, claim-token, await-data-response, pass-token, check-token-pass, await-status-response, goes-offline, goes-online, Moves, keeps}
 use Rattle.theorem_sound.specs.Lines.{Addressed, CollidedOnce, KnownIn, HeldIn, LastToken, ActivityFits, HoldMade, SoundCore}
 
 -- no truth is false
@@ -165,7 +165,7 @@ module _ {p : Parameters} {n : ℕ} {now : Micros} where
   state-kept P o' c d (pends pending) b = b
   state-kept P o' c d (holds held cycled e f) b = rw hold-state b
   state-kept P o' c d (turns a l) b = b
-  state-kept P o' c d (gaps g l) b = b
+  state-kept P o' c d (gaps g l h) b = b
   state-kept P o' c d (listens q q' k k' e l o) b = o' .of-listen-token q' k' l o
   state-kept P o' c d (idles q q' m m' k k' e l h o) b = o' .of-active-idle q' m' k' l h o
   state-kept P o' c d (cycles held kept cycled e f t) b = o' .of-use-token kept true f
@@ -235,7 +235,7 @@ module _ {p : Parameters} {n : ℕ} {now : Micros} where
   next-kept c d (pends pending) b = b
   next-kept c d (holds held cycled e f) b = rw hold-next b
   next-kept c d (turns a l) b = l
-  next-kept c d (gaps g l) b = b
+  next-kept c d (gaps g l h) b = b
   next-kept c d (listens q q' k k' e l o) b = b
   next-kept c d (idles q q' m m' k k' e l h o) b = b
   next-kept c d (cycles held kept cycled e f t) b = b
@@ -260,7 +260,7 @@ module _ {p : Parameters} {n : ℕ} {now : Micros} where
   gap-kept c d (pends pending) b = b
   gap-kept c d (holds held cycled e f) b = rw hold-gap b
   gap-kept c d (turns a l) b = b
-  gap-kept c d (gaps g l) b = l
+  gap-kept c d (gaps g l h) b = l
   gap-kept c d (listens q q' k k' e l o) b = b
   gap-kept c d (idles q q' m m' k k' e l h o) b = b
   gap-kept c d (cycles held kept cycled e f t) b = b
@@ -276,6 +276,31 @@ module _ {p : Parameters} {n : ℕ} {now : Micros} where
   gap-kept c d goes-offline b = tt
   gap-kept c d goes-online b = b
 
+  -- the gap state's count
+  count-kept : (c d : Core) → Move p n now c d → GapCounted p (c .«gap_state») → GapCounted p (d .«gap_state»)
+  unfolding withState withActivity withPending withGap withTokenTimes withNextApplication withOnline freshCore toListenToken toActiveIdle toUseToken toClaimToken toAwaitDataResponse toPassToken toCheckTokenPass toAwaitStatusResponse
+  count-kept c d waits b = b
+  count-kept c d marks b = b
+  count-kept c d (sends bytes l) b = b
+  count-kept c d (pends pending) b = b
+  count-kept c d (holds held cycled e f) b = rw hold-gap b
+  count-kept c d (turns a l) b = b
+  count-kept c d (gaps g l h) b = h
+  count-kept c d (listens q q' k k' e l o) b = b
+  count-kept c d (idles q q' m m' k k' e l h o) b = b
+  count-kept c d (cycles held kept cycled e f t) b = b
+  count-kept c d (claims e) b = b
+  count-kept c d (listen-token i o) b = b
+  count-kept c d (active-idle i o) b = b
+  count-kept c d (use-token held i f) b = b
+  count-kept c d (claim-token i o) b = b
+  count-kept c d (await-data-response a held i l f t) b = b
+  count-kept c d (pass-token gap attempt i) b = b
+  count-kept c d (check-token-pass attempt i) b = b
+  count-kept c d (await-status-response a i l) b = b
+  count-kept c d goes-offline b = omega arith
+  count-kept c d goes-online b = b
+
   -- not online means Offline
   offline-kept : (c d : Core) → Move p n now c d → (c .online ≡ false → c .state ≡ Offline) → d .online ≡ false → d .state ≡ Offline
   unfolding withState withActivity withPending withGap withTokenTimes withNextApplication withOnline freshCore toListenToken toActiveIdle toUseToken toClaimToken toAwaitDataResponse toPassToken toCheckTokenPass toAwaitStatusResponse
@@ -285,7 +310,7 @@ module _ {p : Parameters} {n : ℕ} {now : Micros} where
   offline-kept c d (pends pending) b = b
   offline-kept c d (holds held cycled e f) b = rw (hold-online, hold-state) b
   offline-kept c d (turns a l) b = b
-  offline-kept c d (gaps g l) b = b
+  offline-kept c d (gaps g l h) b = b
   offline-kept c d (listens q q' k k' e l o) b = online-at c _ _ e (λ z. no-zero z) b
   offline-kept c d (idles q q' m m' k k' e l h o) b = online-at c _ _ e (λ z. no-zero z) b
   offline-kept c d (cycles held kept cycled e f t) b = online-at c _ _ e (λ z. no-zero z) b
@@ -310,7 +335,7 @@ module _ {p : Parameters} {n : ℕ} {now : Micros} where
   known-kept c d (pends pending) b = b
   known-kept c d (holds held cycled e f) b = rw (hold-activity, hold-state) b
   known-kept c d (turns a l) b = b
-  known-kept c d (gaps g l) b = b
+  known-kept c d (gaps g l h) b = b
   known-kept c d (listens q q' k k' e l o) b = tt
   known-kept c d (idles q q' m m' k k' e l h o) b = known-at c _ e b
   known-kept c d (cycles held kept cycled e f t) b = known-at c _ e b
@@ -335,7 +360,7 @@ module _ {p : Parameters} {n : ℕ} {now : Micros} where
   activity-fits-kept c d (pends pending) l₀ b = b
   activity-fits-kept c d (holds held cycled e f) l₀ b = rw hold-activity b
   activity-fits-kept c d (turns a l) l₀ b = b
-  activity-fits-kept c d (gaps g l) l₀ b = b
+  activity-fits-kept c d (gaps g l h) l₀ b = b
   activity-fits-kept c d (listens q q' k k' e l o) l₀ b = b
   activity-fits-kept c d (idles q q' m m' k k' e l h o) l₀ b = b
   activity-fits-kept c d (cycles held kept cycled e f t) l₀ b = b
@@ -360,7 +385,7 @@ module _ {p : Parameters} {n : ℕ} {now : Micros} where
   last-kept c d (pends pending) b = b
   last-kept c d (holds held cycled e f) b = rw hold-state (last-at _ held cycled e (hold-last p c (held .«token_time»)))
   last-kept c d (turns a l) b = b
-  last-kept c d (gaps g l) b = b
+  last-kept c d (gaps g l h) b = b
   last-kept c d (listens q q' k k' e l o) b = tt
   last-kept c d (idles q q' m m' k k' e l h o) b = tt
   last-kept c d (cycles held kept cycled e f t) b = t
@@ -385,7 +410,7 @@ module _ {p : Parameters} {n : ℕ} {now : Micros} where
   time-kept c d (pends pending) b = b
   time-kept c d (holds held cycled e f) b = rw (← hold-last p c (held .«token_time»)) (f .token-time)
   time-kept c d (turns a l) b = b
-  time-kept c d (gaps g l) b = b
+  time-kept c d (gaps g l h) b = b
   time-kept c d (listens q q' k k' e l o) b = b
   time-kept c d (idles q q' m m' k k' e l h o) b = b
   time-kept c d (cycles held kept cycled e f t) b = b
@@ -410,7 +435,7 @@ module _ {p : Parameters} {n : ℕ} {now : Micros} where
   hold-kept c d (pends pending) t b = b
   hold-kept c d (holds held cycled e f) t b = hold-set p c (held .«token_time») t b
   hold-kept c d (turns a l) t b = b
-  hold-kept c d (gaps g l) t b = b
+  hold-kept c d (gaps g l h) t b = b
   hold-kept c d (listens q q' k k' e l o) t b = b
   hold-kept c d (idles q q' m m' k k' e l h o) t b = b
   hold-kept c d (cycles held kept cycled e f t') t b = b
@@ -433,6 +458,7 @@ module _ {p : Parameters} {n : ℕ} {now : Micros} where
         next-one = next-kept c d m (w .next-one);
         addresses = addresses-kept c d m (w .addresses);
         gap-address = gap-kept c d m (w .gap-address);
+        gap-count = count-kept c d m (w .gap-count);
         offline = offline-kept c d m (w .offline);
         collided-once = collided-kept c d m (w .collided-once);
         activity-known = known-kept c d m (w .activity-known);

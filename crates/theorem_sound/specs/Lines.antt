@@ -17,7 +17,7 @@ use Rattle.station.specs.declared.State.the-variants.{Offline, ListenToken, Act
 use Rattle.station.specs.declared.HoldEnd.{HoldEnd}
 use Rattle.station.specs.declared.Core.{Core}
 use Rattle.station_hold.specs.Hold.{holdLess}
-use Rattle.theorem_sound.specs.Moves.{Known, Low, Clock, HeldFits, GapAddressed}
+use Rattle.theorem_sound.specs.Moves.{Known, Low, Clock, HeldFits, GapAddressed, GapCounted}
 
 -- Each address that a state holds is below 128: who asked for the status, who may be the new previous station, and who is to answer.
 abbrev pub Addressed : State → Type 0
@@ -113,6 +113,8 @@ pub record SoundCore (p : Parameters) (n : ℕ) (c : Core) : Type 0 where
   pub addresses : Addressed (c .state)
   -- the address that the gap state polls is below 126
   pub gap-address : GapAddressed (c .«gap_state»)
+  -- the count of a gap state that waits is at most one above the settings' gap wait
+  pub gap-count : GapCounted p (c .«gap_state»)
   -- a station that is not online is in Offline
   pub offline : c .online ≡ false → c .state ≡ Offline
   -- at most one collision is counted

@@ -3,7 +3,7 @@
 -- A move is one of the places where active.rs writes to the station. Its transitions carry the assertion of the Rust
 -- (`debug_assert_state!`) as a premise. That a call is a list of moves (`Moves`) says that each transition of the call starts from a
 -- state that its assertion allows; and what each move keeps, each call keeps.
-use Prim.Native.Nat.{ℕ, _≤_, _<_, _^_}
+use Prim.Native.Nat.{ℕ, _+_, _≤_, _<_, _^_}
 use mathlib.Core.Bool.{Bool, true, false, cond}
 use mathlib.Core.Path.{_≡_}
 use mathlib.Core.List.{List, [], _∷_}
@@ -92,6 +92,11 @@ abbrev pub GapAddressed : GapState → Type 0
 GapAddressed (Waiting count) = Unit {0}
 GapAddressed (DoPoll a) = a < 126
 
+-- The count of a gap state that waits is at most one above the settings' gap wait.
+abbrev pub GapCounted : Parameters → GapState → Type 0
+GapCounted p (Waiting count) = count ≤ p .«gap_wait_rotations» + 1
+GapCounted p (DoPoll a) = Unit {0}
+
 -- The moves, with settings p, n applications and the clock now: each place of active.rs that writes to the core.
 pub data Move (p : Parameters) (n : ℕ) (now : Micros) : Core → Core → Type 0 where
   -- last_bus_activity.get_or_insert(now): before a pause, a slot and a lost token are looked at
@@ -107,7 +112,7 @@ pub data Move (p : Parameters) (n : ℕ) (now : Micros) : Core → Core → Type
   -- schedule_next_application
   turns : {c : Core} (a : ℕ) → a < n → Move p n now c (withNextApplication c a)
   -- do_pass_token: the gap's turn
-  gaps : {c : Core} (g : GapState) → GapAddressed g → Move p n now c (withGap c g)
+  gaps : {c : Core} (g : GapState) → GapAddressed g → GapCounted p g → Move p n now c (withGap c g)
   -- get_listen_token_status_request, get_listen_token_collision_count: a field of ListenToken
   listens : {c : Core} (q q' : OptionAddress) (k k' : ℕ) → c .state ≡ ListenToken q k → Low q' → k' ≤ 1 → Move p n now c (withState c (ListenToken q' k'))
   -- get_active_idle_status_request, get_active_idle_new_previous_station, get_active_idle_collision_count: a field of ActiveIdle

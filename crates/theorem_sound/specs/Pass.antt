@@ -4,13 +4,14 @@ use mathlib.Core.Bool.{Bool, true, false}
 use mathlib.Core.Path.{_≡_, refl}
 use mathlib.Core.List.{List}
 use native.Mathlib.Omega.{arith}
+use borrow.Author.Tests.{ltb-false}
 use lib.Dec.{ltb, eqb, lit≤}
 use Rattle.bit_times.specs.declared.Micros.{Micros}
 use Rattle.settings.specs.declared.Parameters.{Parameters}
 use Rattle.ring.specs.declared.Ring.{Ring}
 use Rattle.ring.specs.declared.GapState.{GapState}
 use Rattle.ring.specs.declared.GapState.the-variants.{Waiting, DoPoll}
-use Rattle.ring.specs.Ring.{nextOf}
+use Rattle.ring.specs.Ring.{nextOf, candidateOf, polls, gapOf}
 use Rattle.codec_telegrams.specs.declared.ResponseState.{ResponseState}
 use Rattle.codec_telegrams.specs.declared.ResponseState.the-variants.{Slave, MasterNotReady, MasterWithoutToken, MasterInRing}
 use Rattle.codec_telegrams.specs.declared.Telegram.{Telegram}
@@ -27,7 +28,7 @@ use Rattle.station.specs.Steps.{toPassToken, knownAt, pauseOf, slotExpiredOf}
 use Rattle.station_pass.specs.Pass.{gapAdvanced, passSent, passSend, passPollOn, passPoll, passAfter, passTokenOf}
 use Rattle.station_await_status.specs.AwaitStatus.{statusRingOn, statusRing, statusAnswered, statusUnexpected, statusReceived, statusTimeout, awaitStatusAfter, awaitStatusOf}
 use Rattle.station_check_pass.specs.CheckPass.{resendOf, checkReceived, checkAfter, checkTokenPassOf}
-use Rattle.theorem_sound.specs.Moves.{GapAddressed, Known}
+use Rattle.theorem_sound.specs.Moves.{GapAddressed, GapCounted, Known}
 use Rattle.theorem_sound.specs.Keeps.{RingGood, either, decided, gap-low, add-good, remove-good, witness-good}
 use Rattle.theorem_sound.specs.Walk.{Came, RingMade, sound-at, known-here, new-token, paused, slotted, waited-known, rx, rx-known, gap-turned, to-idle, to-use, to-pass, to-check, to-await-status, done-made, transmit-made}
 use Rattle.theorem_sound.specs.Listen.{ActiveEnds, handled-made}
@@ -37,6 +38,16 @@ pub advanced-good : (p : Parameters) (r : Ring) (s : GapState) → RingGood p r 
 unfolding gapAdvanced
 advanced-good p r (Waiting count) g = either GapAddressed (ltb (p .«gap_wait_rotations») count) _ _ (gap-low r _ _ (g .sound)) tt
 advanced-good p r (DoPoll current) g = gap-low r _ _ (g .sound)
+
+gap-counted : (p : Parameters) (r : Ring) (a hsa : ℕ) → GapCounted p (gapOf r a hsa)
+unfolding gapOf
+gap-counted p r a hsa = either (GapCounted p) (polls r (candidateOf a hsa)) _ _ tt (omega arith)
+
+advanced-counted : (p : Parameters) (r : Ring) (s : GapState) → GapCounted p (gapAdvanced p r s)
+unfolding gapAdvanced
+advanced-counted p r (Waiting count) =
+    decided (GapCounted p) (ltb (p .«gap_wait_rotations») count) _ _ (λ e. gap-counted p r _ _) (λ e. omega (arith, ltb-false (p .«gap_wait_rotations») count e))
+advanced-counted p r (DoPoll current) = gap-counted p r _ _
 
 -- do_await_status_response: the ring
 status-on-good : (s : ResponseState) (p : Parameters) (r : Ring) (a : ℕ) → RingGood p r → RingGood p (statusRingOn s r a)
@@ -76,7 +87,7 @@ module _ {p : Parameters} {n : ℕ} {now : Micros} {c₀ : Core} {E : State → 
   pub pass-token-made : {attempt : PassTokenAttempt} {c : Core} (gap : Bool) (r : Ring) → PassEnds E gap → (pauseOf p (c .«last_bus_activity») now .over ≡ false → E (PassToken gap attempt)) → Came p n now c₀ (PassToken gap attempt) c → RingGood p r → RingMade p n now c₀ E (passTokenOf p c r now gap attempt)
   unfolding passTokenOf passAfter passPoll
   pass-token-made {c = c} true r e u k g =
-      let t = gap-turned _ (advanced-good p r (c .«gap_state») g) (paused k) in
+      let t = gap-turned _ (advanced-good p r (c .«gap_state») g) (advanced-counted p r (c .«gap_state»)) (paused k) in
       decided (RingMade p n now c₀ E) (pauseOf p (c .«last_bus_activity») now .over) _ _ (λ o. poll-on-made _ r (sound-at t .gap-address) e t g)
       (λ o. record { made-step = done-made _ (paused k) (u o); made-ring = g })
   pass-token-made {c = c} false r e u k g =

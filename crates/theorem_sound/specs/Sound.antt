@@ -277,6 +277,7 @@ fresh-core-sound p n l =
       next-one = l;
       addresses = tt;
       gap-address = tt;
+      gap-count = omega arith;
       offline = λ e. refl;
       collided-once = tt;
       activity-known = tt;

@@ -25,7 +25,7 @@ use Rattle.station.specs.declared.Heard.{Heard}
 use Rattle.station.specs.Parts.{withState, withActivity, withPending, withGap, withNextApplication, freshCore, stateNumber}
 use Rattle.station.specs.Steps.{withTokenTime, toListenToken, toActiveIdle, toUseToken, toClaimToken, toAwaitDataResponse, toPassToken, toCheckTokenPass, toAwaitStatusResponse, knownAt, markedAt, pauseOf, slotExpiredOf, tokenLostWaitOf, rxOf, busActivityOf, doneOf, transmitOf, heardOf}
 use Rattle.station_hold.specs.Hold.{holdEndOf}
-use Rattle.theorem_sound.specs.Moves.{has, listenTokenFrom, activeIdleFrom, useTokenFrom, claimTokenFrom, awaitDataResponseFrom, passTokenFrom, checkTokenPassFrom, awaitStatusResponseFrom, In, Known, Low, Clock, HeldFits, GapAddressed, Move, waits, marks, sends, pends, holds, turns, gaps, listens, idles, cycles, claims, listen-token, active-idle, use-token, claim-token, await-data-response, pass-token, check-token-pass, await-status-response, goes-offline, Moves, none, then}
+use Rattle.theorem_sound.specs.Moves.{has, listenTokenFrom, activeIdleFrom, useTokenFrom, claimTokenFrom, awaitDataResponseFrom, passTokenFrom, checkTokenPassFrom, awaitStatusResponseFrom, In, Known, Low, Clock, HeldFits, GapAddressed, GapCounted, Move, waits, marks, sends, pends, holds, turns, gaps, listens, idles, cycles, claims, listen-token, active-idle, use-token, claim-token, await-data-response, pass-token, check-token-pass, await-status-response, goes-offline, Moves, none, then}
 use Rattle.theorem_sound.specs.Lines.{Addressed, CollidedOnce, KnownIn, HeldIn, LastToken, SoundCore}
 use Rattle.theorem_sound.specs.Kept.{moves-keep, marked-known, hold-state, hold-last}
 use Rattle.theorem_sound.specs.Keeps.{RingGood, either}
@@ -140,9 +140,9 @@ module _ {p : Parameters} {n : ℕ} {now : Micros} {c₀ : Core} where
   unfolding withNextApplication
   turned a l k = moved _ k (turns a l) (k .is)
 
-  pub gap-turned : {x : State} {c : Core} (g : GapState) → GapAddressed g → Came p n now c₀ x c → Came p n now c₀ x (withGap c g)
+  pub gap-turned : {x : State} {c : Core} (g : GapState) → GapAddressed g → GapCounted p g → Came p n now c₀ x c → Came p n now c₀ x (withGap c g)
   unfolding withGap
-  gap-turned g l k = moved _ k (gaps g l) (k .is)
+  gap-turned g l h k = moved _ k (gaps g l h) (k .is)
 
   -- a field of the state
   pub listen-fields : {q : OptionAddress} {k : ℕ} {c : Core} (q' : OptionAddress) (k' : ℕ) → Low q' → k' ≤ 1 → Came p n now c₀ (ListenToken q k) c → Came p n now c₀ (ListenToken q' k') (withState c (ListenToken q' k'))
