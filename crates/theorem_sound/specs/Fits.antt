@@ -33,7 +33,6 @@ use Rattle.codec_answers.specs.declared.Answer.{Answer}
 use Rattle.codec_answers.specs.declared.Unpacked.the-variants.{Is}
 use Rattle.codec_answers.specs.Answers.{lastState, answerWord, refusalKnown, unpackOf, SentFits, NoticeFits, Fits}
 use Rattle.codec_answers.specs.Laws.{refused-fits, answer-unpacks}
-use Rattle.station.specs.declared.Activity.the-variants as activity
 use Rattle.station.specs.declared.OptionAddress.{OptionAddress}
 use Rattle.station.specs.declared.OptionAddress.the-variants as optionAddress
 use Rattle.station.specs.declared.PassTokenAttempt.{PassTokenAttempt}

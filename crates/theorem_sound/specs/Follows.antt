@@ -1,22 +1,24 @@
 -- Where a poll can leave a station, state by state, as a table; and the attempt at which a token pass stands between two polls. The
 -- theorems are in Sound.antt. Both are said of settings whose slot is not shorter than the pause, as that of accepted settings is.
 use Prim.Native.Nat.{ℕ, _+_, _≤_}
-use mathlib.Core.Bool.{true, false}
+use mathlib.Core.Bool.{Bool, true, false, cond}
 use mathlib.Core.Path.{_≡_, refl}
 use mathlib.Core.List.{List, [], _∷_}
 use native.Mathlib.Omega.{arith}
 use borrow.Author.Tests.{leb-true, leb-false}
+use lib.Dec.{eqb}
+use lib.ListN.{getD}
 use Rattle.bit_times.specs.declared.Micros.{Micros}
 use Rattle.bit_times.specs.Times.{timeOf}
 use Rattle.settings.specs.declared.Parameters.{Parameters}
-use Rattle.settings.specs.Settings.{bitsToTime, slotTimeOf}
+use Rattle.settings.specs.Settings.{slotTimeOf}
 use Rattle.station.specs.declared.Activity.{Activity}
 use Rattle.station.specs.declared.PassTokenAttempt.the-variants.{First}
 use Rattle.station.specs.declared.State.{State}
 use Rattle.station.specs.declared.State.the-variants.{Offline, ListenToken, ActiveIdle, UseToken, ClaimToken, AwaitDataResponse, PassToken, CheckTokenPass, AwaitStatusResponse}
 use Rattle.station.specs.Parts.{stateNumber}
 use Rattle.station.specs.Steps.{knownAt, elapsedOf, pauseOf, slotExpiredOf}
-use Rattle.theorem_sound.specs.Moves.{has}
+use Rattle.theorem_sound.specs.Moves.{has, listenTokenFrom, activeIdleFrom, useTokenFrom, claimTokenFrom, awaitDataResponseFrom, passTokenFrom, checkTokenPassFrom, awaitStatusResponseFrom}
 use Rattle.theorem_sound.specs.Kept.{time-grows}
 
 -- For each state, the numbers of the states in which a poll can leave it.
@@ -67,3 +69,37 @@ pub covered : (p : Parameters) (a : Activity) (now : Micros) → SlotCoversPause
 unfolding slotExpiredOf pauseOf elapsedOf
 covered p a now s e f =
     omega (arith, leb-true (knownAt a now .0 + slotTimeOf p .0) (now .0) e, leb-false (knownAt a now .0 + timeOf (record { 0 = 33 }) (p .baudrate) .0) (now .0) f)
+
+-- The table and the assertions: each state that the table has is joined to the one before by at most two transitions, each from a state
+-- that its `debug_assert_state!` names, or is Offline by set_offline. By the numbers of the states: the ones a transition may start from.
+abbrev pub startsOf : List (List ℕ)
+startsOf =
+    (0 ∷ 1 ∷ []) ∷ listenTokenFrom ∷ activeIdleFrom ∷ useTokenFrom ∷ claimTokenFrom ∷ awaitDataResponseFrom ∷ passTokenFrom ∷ checkTokenPassFrom ∷ awaitStatusResponseFrom ∷ []
+
+-- one transition from the state with number x to that with number y
+abbrev pub oneStep : ℕ → ℕ → Bool
+oneStep x y = has (getD startsOf y []) x
+
+-- some number of a list passes a test, and all do
+abbrev pub someOf : List ℕ → (ℕ → Bool) → Bool
+someOf [] f = false
+someOf (a ∷ more) f = cond (f a) true (someOf more f)
+
+abbrev pub allOf : List ℕ → (ℕ → Bool) → Bool
+allOf [] f = true
+allOf (a ∷ more) f = cond (f a) (allOf more f) false
+
+-- none, one or two transitions
+abbrev pub joined : ℕ → ℕ → Bool
+joined x y = cond (eqb x y) true (cond (oneStep x y) true (someOf (getD startsOf y []) (λ z. oneStep x z)))
+
+pub table-is-joined : (x : State) → allOf (reached x) (joined (stateNumber x)) ≡ true
+table-is-joined Offline = refl
+table-is-joined (ListenToken q k) = refl
+table-is-joined (ActiveIdle q m k) = refl
+table-is-joined (UseToken d k) = refl
+table-is-joined (ClaimToken f) = refl
+table-is-joined (AwaitDataResponse a d) = refl
+table-is-joined (PassToken g k) = refl
+table-is-joined (CheckTokenPass k) = refl
+table-is-joined (AwaitStatusResponse a) = refl

@@ -1,28 +1,18 @@
 -- What guards a send: a step that asks whether a time is over sends only where it is.
-use Prim.Native.Nat.{ℕ, _+_, _*_, _<_, _≤_}
+use Prim.Native.Nat.{ℕ}
 use mathlib.Core.Bool.{Bool, true, false, cond}
 use mathlib.Core.Path.{_≡_, refl, sym, ap, _∙_}
 use mathlib.Core.List.{List}
-use native.Mathlib.Omega.{arith}
-use native.Mathlib.Nat.{le-div-iff-mul-le}
-use borrow.Author.Tests.{leb-true, ltb-false}
-use borrow.Table.Steps.{cases}
-use lib.Dec.{ltb, leb, eqb}
+use lib.Dec.{ltb, eqb}
 use Rattle.bit_times.specs.declared.Micros.{Micros}
-use Rattle.bit_times.specs.declared.Baud.{Baud}
-use Rattle.bit_times.specs.Times.{rateOf, rounded, timeOf}
-use Rattle.bit_times.specs.Laws.{listed}
 use Rattle.settings.specs.declared.Parameters.{Parameters}
-use Rattle.settings.specs.Settings.{slotTimeOf}
 use Rattle.ring.specs.declared.Ring.{Ring}
 use Rattle.codec_telegrams.specs.declared.Telegram.{Telegram}
 use Rattle.codec_telegrams.specs.declared.Telegram.the-variants as telegram
 use Rattle.codec_answers.specs.declared.Outcome.{Outcome}
-use Rattle.codec_answers.specs.declared.Sent.{Sent}
 use Rattle.codec_answers.specs.declared.Sent.the-variants as sent
 use Rattle.codec_answers.specs.declared.Notice.{Notice}
 use Rattle.station.specs.declared.Activity.{Activity}
-use Rattle.station.specs.declared.Activity.the-variants as activity
 use Rattle.station.specs.declared.OptionAddress.{OptionAddress}
 use Rattle.station.specs.declared.OptionAddress.the-variants as optionAddress
 use Rattle.station.specs.declared.PassTokenAttempt.{PassTokenAttempt}
@@ -34,19 +24,19 @@ use Rattle.station.specs.declared.Core.{Core}
 use Rattle.station.specs.declared.Step.{Step}
 use Rattle.station.specs.declared.RingStep.{RingStep}
 use Rattle.station.specs.declared.Heard.{Heard}
-use Rattle.station.specs.Parts.{withState, withActivity, withPending, stateNumber}
-use Rattle.station.specs.Steps.{toListenToken, toPassToken, toClaimToken, knownAt, elapsedOf, markedAt, busyOf, ongoingOf, pauseOf, slotExpiredOf, tokenLostWaitOf, busActivityOf, doneOf}
+use Rattle.station.specs.Parts.{withState, withActivity, stateNumber}
+use Rattle.station.specs.Steps.{toPassToken, toClaimToken, knownAt, elapsedOf, pauseOf, slotExpiredOf, tokenLostWaitOf, doneOf}
 use Rattle.station_claim.specs.Claim.{claimAfter, claimTokenOf}
-use Rattle.station_hold.specs.Hold.{validResponse, holdEndOf, useTokenAfter, useTokenTimed, useTokenOf, receivedOf, withNotice, timeoutOf, awaitDataAfter, awaitDataOf}
+use Rattle.station_hold.specs.Hold.{validResponse, useTokenAfter, useTokenTimed, useTokenOf, receivedOf, withNotice, timeoutOf, awaitDataAfter, awaitDataOf}
 use Rattle.station_listen.specs.Listen.{lostTokenOf, listenResponseAfter, listenResponse, consumedAll, listenTokenOn, listenTokenAfter, listenTokenOf, activeResponseAfter, activeResponse, activeIdleOn, activeIdleAfter, activeIdleOf}
 use Rattle.station_pass.specs.Pass.{passAfter, passTokenOf}
 use Rattle.station_await_status.specs.AwaitStatus.{statusAnswered, statusUnexpected, statusReceived, statusTimeout, awaitStatusAfter, awaitStatusOf}
 use Rattle.station_check_pass.specs.CheckPass.{resendOf, checkReceived, checkAfter, checkTokenPassOf}
-use Rattle.station_poll.specs.Poll.{connectedOn, connectedOf, dispatchOn, dispatchOf, pollOnline, pollInner}
+use Rattle.station_poll.specs.Poll.{dispatchOn}
 use Rattle.theorem_sound.specs.Keeps.{either}
 use Rattle.theorem_sound.specs.Waits.{TellsTimeout, waiting}
 use Rattle.theorem_sound.specs.Moves.{has}
-use Rattle.theorem_sound.specs.Kept.{never, hold-activity}
+use Rattle.theorem_sound.specs.Kept.{not-true, hold-activity}
 
 -- a step sends only where Q holds
 pub record Guarded (Q : Type 0) (s : Step) : Type 0 where
@@ -245,13 +235,13 @@ module _ (p : Parameters) (now : Micros) where
   -- the three states, in the dispatch
   pub slot-guarded : (x : State) (c : Core) (r : Ring) (bytes : List ℕ) (n count : ℕ) → has waiting (stateNumber x) ≡ true → Guarded (Slot (c .«last_bus_activity»)) (dispatchOn x p c r now bytes n count .step)
   unfolding dispatchOn
-  slot-guarded Offline c r bytes n count i = never i
-  slot-guarded (ListenToken q k) c r bytes n count i = never i
-  slot-guarded (ActiveIdle q m k) c r bytes n count i = never i
-  slot-guarded (UseToken d k) c r bytes n count i = never i
-  slot-guarded (ClaimToken f) c r bytes n count i = never i
+  slot-guarded Offline c r bytes n count i = not-true i
+  slot-guarded (ListenToken q k) c r bytes n count i = not-true i
+  slot-guarded (ActiveIdle q m k) c r bytes n count i = not-true i
+  slot-guarded (UseToken d k) c r bytes n count i = not-true i
+  slot-guarded (ClaimToken f) c r bytes n count i = not-true i
   slot-guarded (AwaitDataResponse a d) c r bytes n count i = await-data-slot c a d bytes n count
-  slot-guarded (PassToken g k) c r bytes n count i = never i
+  slot-guarded (PassToken g k) c r bytes n count i = not-true i
   slot-guarded (CheckTokenPass k) c r bytes n count i = check-slot c r k bytes n count
   slot-guarded (AwaitStatusResponse a) c r bytes n count i = await-status-slot c r a bytes n count
 
@@ -277,12 +267,12 @@ module _ (p : Parameters) (now : Micros) where
 
   pub slot-told : (x : State) (c : Core) (r : Ring) (bytes : List ℕ) (n count : ℕ) → has waiting (stateNumber x) ≡ true → Told (Slot (c .«last_bus_activity»)) (dispatchOn x p c r now bytes n count .step)
   unfolding dispatchOn
-  slot-told Offline c r bytes n count i = never i
-  slot-told (ListenToken q k) c r bytes n count i = never i
-  slot-told (ActiveIdle q m k) c r bytes n count i = never i
-  slot-told (UseToken d k) c r bytes n count i = never i
-  slot-told (ClaimToken f) c r bytes n count i = never i
+  slot-told Offline c r bytes n count i = not-true i
+  slot-told (ListenToken q k) c r bytes n count i = not-true i
+  slot-told (ActiveIdle q m k) c r bytes n count i = not-true i
+  slot-told (UseToken d k) c r bytes n count i = not-true i
+  slot-told (ClaimToken f) c r bytes n count i = not-true i
   slot-told (AwaitDataResponse a d) c r bytes n count i = await-data-told c a d bytes n count
-  slot-told (PassToken g k) c r bytes n count i = never i
+  slot-told (PassToken g k) c r bytes n count i = not-true i
   slot-told (CheckTokenPass k) c r bytes n count i = check-told c r k bytes n count
   slot-told (AwaitStatusResponse a) c r bytes n count i = await-status-told c r a bytes n count

@@ -13,7 +13,6 @@ use Rattle.codec_decisions.specs.declared.Decision.{Decision}
 use Rattle.codec_decisions.specs.declared.Decision.the-variants as decision
 use Rattle.codec_telegrams.specs.declared.Telegram.{Telegram}
 use Rattle.codec_answers.specs.declared.Notice.{Notice}
-use Rattle.station.specs.declared.Activity.the-variants as activity
 use Rattle.station.specs.declared.OptionAddress.the-variants as optionAddress
 use Rattle.station.specs.declared.PassTokenAttempt.the-variants.{First}
 use Rattle.station.specs.declared.OptionApplication.{OptionApplication}
@@ -26,8 +25,8 @@ use Rattle.station.specs.declared.Step.{Step}
 use Rattle.station.specs.Parts.{withState, withActivity, withNextApplication}
 use Rattle.station.specs.Steps.{pauseOf, slotExpiredOf}
 use Rattle.station_hold.specs.declared.Asked.{Asked}
-use Rattle.station_hold.specs.Hold.{declinesAt, firstOr, validResponse, holdsOf, turnOf, askedFrom, askedOf, appTransmitOf, usePassOf, holdEndOf, useAppsAfter, useAppsOf, useTokenAfter, useTokenTimed, useTokenOf, receivedOf, withNotice, timeoutOf, awaitDataAfter, awaitDataOf}
-use Rattle.theorem_sound.specs.Moves.{OneOf, HeldFits}
+use Rattle.station_hold.specs.Hold.{declinesAt, firstOr, validResponse, holdsOf, turnOf, askedFrom, askedOf, appTransmitOf, usePassOf, useAppsAfter, useAppsOf, useTokenAfter, useTokenTimed, useTokenOf, receivedOf, withNotice, timeoutOf, awaitDataAfter, awaitDataOf}
+use Rattle.theorem_sound.specs.Moves.{OneOf}
 use Rattle.theorem_sound.specs.Kept.{hold-last}
 use Rattle.theorem_sound.specs.Keeps.{DecisionLow, either, decision-low}
 use Rattle.theorem_sound.specs.Walk.{Came, Made, sound-at, held-at, paused, slotted, rx, rx-known, hold-set-at, turned, cycle-done, to-idle, to-await-data, to-pass, to-use-again, done-made, transmit-made}

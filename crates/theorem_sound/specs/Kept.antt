@@ -1,9 +1,9 @@
 -- Every move keeps every line of a sound core: a law for each line, then all together (`core-kept`, `moves-keep`).
-use Prim.Native.Nat.{ℕ, suc, _+_, _*_, _≤_, _<_, _^_}
-use mathlib.Core.Bool.{Bool, true, false, cond}
+use Prim.Native.Nat.{ℕ, suc, _*_, _≤_, _<_}
+use mathlib.Core.Bool.{Bool, true, false}
 use mathlib.Core.Path.{_≡_, refl, sym, _∙_}
-use mathlib.Core.Logic.{_⊎_, inl, inr}
-use mathlib.Core.List.{List, [], _∷_}
+use mathlib.Core.Logic.{inl, inr}
+use mathlib.Core.List.{List}
 use native.Mathlib.Omega.{arith}
 use native.Mathlib.Nat.{mul-le-mul-right}
 use lib.Ieee.Nearest.{div-mono}
@@ -16,7 +16,6 @@ use Rattle.bit_times.specs.Times.{rateOf, rounded, timeOf}
 use Rattle.bit_times.specs.Laws.{listed}
 use Rattle.settings.specs.declared.Parameters.{Parameters}
 use Rattle.settings.specs.Settings.{rotationTimeOf}
-use Rattle.ring.specs.declared.GapState.{GapState}
 use Rattle.station.specs.declared.Activity.{Activity}
 use Rattle.station.specs.declared.Activity.the-variants as activity
 use Rattle.station.specs.declared.OptionAddress.{OptionAddress}
@@ -24,21 +23,20 @@ use Rattle.station.specs.declared.PassTokenAttempt.{PassTokenAttempt}
 use Rattle.station.specs.declared.UseTokenData.{UseTokenData}
 use Rattle.station.specs.declared.State.{State}
 use Rattle.station.specs.declared.State.the-variants.{Offline, ListenToken, ActiveIdle, UseToken, ClaimToken, AwaitDataResponse, PassToken, CheckTokenPass, AwaitStatusResponse}
-use Rattle.station.specs.declared.HoldEnd.{HoldEnd}
 use Rattle.station.specs.declared.Core.{Core}
-use Rattle.station.specs.Parts.{withState, withActivity, withPending, withGap, withTokenTimes, withNextApplication, withOnline, freshCore, stateNumber, zeroTime}
+use Rattle.station.specs.Parts.{withState, withActivity, withPending, withGap, withTokenTimes, withNextApplication, withOnline, freshCore, stateNumber}
 use Rattle.station.specs.Steps.{toListenToken, toActiveIdle, toUseToken, toClaimToken, toAwaitDataResponse, toPassToken, toCheckTokenPass, toAwaitStatusResponse, knownAt, markedAt, sentAt}
 use Rattle.station_hold.specs.Hold.{holdLess, holdEndOf}
-use Rattle.theorem_sound.specs.Moves.{has, activeIdleFrom, useTokenFrom, claimTokenFrom, awaitDataResponseFrom, passTokenFrom, checkTokenPassFrom, awaitStatusResponseFrom, In, Known, Low, OneOf, Clock, HeldFits, GapAddressed, GapCounted, Move, waits, marks, sends, pends, holds, turns, gaps, listens, idles, cycles, claims, listen-token, active-idle, use-token, claim-token, await-data-response, pass-token, check-token-pass, await-status-response, goes-offline, goes-online, Moves, keeps}
+use Rattle.theorem_sound.specs.Moves.{has, activeIdleFrom, useTokenFrom, claimTokenFrom, awaitDataResponseFrom, passTokenFrom, checkTokenPassFrom, awaitStatusResponseFrom, In, Known, Low, Clock, HeldFits, GapAddressed, GapCounted, Move, waits, marks, sends, pends, holds, turns, gaps, listens, idles, cycles, claims, listen-token, active-idle, use-token, claim-token, await-data-response, pass-token, check-token-pass, await-status-response, goes-offline, goes-online, Moves, keeps}
 use Rattle.theorem_sound.specs.Lines.{Addressed, CollidedOnce, KnownIn, HeldIn, LastToken, ActivityFits, HoldMade, SoundCore}
 
 -- no truth is false
-pub never : {A : Type 0} → false ≡ true → A
-never e = let z : _≡_ {A = ℕ} 0 1 = cc in absurd (omega arith)
+pub not-true : {A : Type 0} → false ≡ true → A
+not-true e = let z : _≡_ {A = ℕ} 0 1 = cc in absurd (omega arith)
 
 -- a transition that may not start in Offline starts in a station that is online: the line on Offline is kept
 online-from : (states : List ℕ) (c : Core) (x : State) → has states 0 ≡ false → In states c → (c .online ≡ false → c .state ≡ Offline) → c .online ≡ false → x ≡ Offline
-online-from states c x z i h f = never (sym z ∙ (rw (h f) at i))
+online-from states c x z i h f = not-true (sym z ∙ (rw (h f) at i))
 
 -- no zero is a state's number that is not Offline's
 no-zero : {A : Type 0} {k : ℕ} → suc k ≡ 0 → A
@@ -50,8 +48,8 @@ online-at c x y e z h f = absurd (z (rw (sym e ∙ h f) refl))
 
 -- a transition that may start neither in Offline nor in ListenToken starts where the activity is known
 pub known-from : (states : List ℕ) (x : State) (a : Activity) → has states 0 ≡ false → has states 1 ≡ false → has states (stateNumber x) ≡ true → KnownIn x a → Known a
-known-from states Offline a z o i b = never (sym z ∙ i)
-known-from states (ListenToken q k) a z o i b = never (sym o ∙ i)
+known-from states Offline a z o i b = not-true (sym z ∙ i)
+known-from states (ListenToken q k) a z o i b = not-true (sym o ∙ i)
 known-from states (ActiveIdle q m k) a z o i b = b
 known-from states (UseToken d k) a z o i b = b
 known-from states (ClaimToken f) a z o i b = b
@@ -315,7 +313,7 @@ module _ {p : Parameters} {n : ℕ} {now : Micros} where
   offline-kept c d (idles q q' m m' k k' e l h o) b = online-at c _ _ e (λ z. no-zero z) b
   offline-kept c d (cycles held kept cycled e f t) b = online-at c _ _ e (λ z. no-zero z) b
   offline-kept c d (claims e) b = online-at c _ _ e (λ z. no-zero z) b
-  offline-kept c d (listen-token i o) b = λ f. never (sym f ∙ o)
+  offline-kept c d (listen-token i o) b = λ f. not-true (sym f ∙ o)
   offline-kept c d (active-idle i o) b = online-from activeIdleFrom c _ refl i b
   offline-kept c d (use-token held i f) b = online-from useTokenFrom c _ refl i b
   offline-kept c d (claim-token i o) b = online-from claimTokenFrom c _ refl i b
@@ -324,7 +322,7 @@ module _ {p : Parameters} {n : ℕ} {now : Micros} where
   offline-kept c d (check-token-pass attempt i) b = online-from checkTokenPassFrom c _ refl i b
   offline-kept c d (await-status-response a i l) b = online-from awaitStatusResponseFrom c _ refl i b
   offline-kept c d goes-offline b = λ f. refl
-  offline-kept c d goes-online b = λ f. never (sym f)
+  offline-kept c d goes-online b = λ f. not-true (sym f)
 
   -- the activity is known
   known-kept : (c d : Core) → Move p n now c d → KnownIn (c .state) (c .«last_bus_activity») → KnownIn (d .state) (d .«last_bus_activity»)

@@ -21,15 +21,14 @@ use Rattle.station.specs.declared.UseTokenData.{UseTokenData}
 use Rattle.station.specs.declared.State.{State}
 use Rattle.station.specs.declared.State.the-variants.{Offline, ListenToken, ActiveIdle, UseToken, ClaimToken, AwaitDataResponse, PassToken, CheckTokenPass, AwaitStatusResponse}
 use Rattle.station.specs.declared.Core.{Core}
-use Rattle.station.specs.declared.Heard.{Heard}
-use Rattle.station.specs.Parts.{withActivity, stateNumber}
-use Rattle.station.specs.Steps.{pauseOf, rxOf, tokenLostWaitOf, transmitOf, heardOf}
+use Rattle.station.specs.Parts.{stateNumber}
+use Rattle.station.specs.Steps.{pauseOf, tokenLostWaitOf, transmitOf, heardOf}
 use Rattle.station_claim.specs.Claim.{claimNext, claimAfter, claimTokenOf}
 use Rattle.station_hear_active.specs.HearActive.{remembers, activeCollided, acceptedOf, tokenToUs, tokenWitnessed, tokenHeard, activeRequested, activeHeard, handleTelegramOn, handleTelegram}
 use Rattle.station_listen.specs.Listen.{lostTokenOf, listenAnswered, listenResponseAfter, listenResponse, heardTelegram, heardAll, receivedAll, consumedAll, listenTokenOn, listenTokenAfter, listenTokenOf, activeResponseAfter, activeResponse, activeIdleOn, activeIdleAfter, activeIdleOf}
 use Rattle.station_hear_listen.specs.HearListen.{collided, listened, listenHeard, listenTelegramOn, listenTelegram}
 use Rattle.theorem_sound.specs.Moves.{has, claimTokenFrom, Known}
-use Rattle.theorem_sound.specs.Kept.{never}
+use Rattle.theorem_sound.specs.Kept.{not-true}
 use Rattle.theorem_sound.specs.Keeps.{RingGood, either, telegram-low, again-good, claim-good, witness-good}
 use Rattle.theorem_sound.specs.Walk.{Came, Made, RingMade, HeardMade, arrived, addressed-at, collided-at, online-here, new-token, paused, lost-asked, waited-known, rx, listen-fields, idle-fields, claim-again, to-listen, to-idle, to-use, to-claim, to-fresh, done-made, transmit-made, heard-made}
 
@@ -75,7 +74,7 @@ module _ {p : Parameters} {n : ℕ} {now : Micros} {c₀ : Core} {E : State → 
   -- handle_lost_token
   lost-made : {x : State} {c : Core} (r : Ring) → ((f : Bool) → E (ClaimToken f)) → has claimTokenFrom (stateNumber x) ≡ true → Known (c .«last_bus_activity») → Came p n now c₀ x c → RingGood p r → RingMade p n now c₀ E (lostTokenOf p c r now)
   unfolding lostTokenOf
-  lost-made r e i o k g = claim-token-made r e (λ z. never (sym z)) (to-claim i o k) g
+  lost-made r e i o k g = claim-token-made r e (λ z. not-true (sym z)) (to-claim i o k) g
 
   -- do_listen_token
   answered-made : {q : OptionAddress} {k : ℕ} {c : Core} (r : Ring) → E (ListenToken optionAddress.None k) → E (ActiveIdle optionAddress.None optionAddress.None 0) → Known (c .«last_bus_activity») → Came p n now c₀ (ListenToken q k) c → (s : Sent) → Made p n now c₀ E (transmitOf p (listenAnswered c r k) now 6 s)

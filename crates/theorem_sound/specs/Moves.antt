@@ -20,7 +20,6 @@ use Rattle.station.specs.declared.OptionApplication.{OptionApplication}
 use Rattle.station.specs.declared.OptionApplication.the-variants as optionApplication
 use Rattle.station.specs.declared.PassTokenAttempt.{PassTokenAttempt}
 use Rattle.station.specs.declared.UseTokenData.{UseTokenData}
-use Rattle.station.specs.declared.State.{State}
 use Rattle.station.specs.declared.State.the-variants.{ListenToken, ActiveIdle, UseToken, ClaimToken}
 use Rattle.station.specs.declared.Core.{Core}
 use Rattle.station.specs.Parts.{withState, withActivity, withPending, withGap, withNextApplication, withOnline, freshCore, stateNumber}

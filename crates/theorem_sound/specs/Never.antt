@@ -1,22 +1,20 @@
 -- What never happens: the arms of the definitions that are there only so that they are total, each with a theorem that no call reaches
 -- it; and tests that are never asked.
 use Prim.Native.Nat.{ℕ, zero, suc, _+_, _-_, _*_, _≤_, _<_}
-use mathlib.Core.Bool.{Bool, true, false, cond}
+use mathlib.Core.Bool.{Bool, true, false}
 use mathlib.Core.Path.{_≡_, refl, sym, ap, _∙_}
 use mathlib.Core.Logic.{_⊎_, inl, inr}
 use mathlib.Core.List.{List}
 use native.Mathlib.Omega.{arith}
 use native.Mathlib.Nat.{add-suc}
-use borrow.Author.Tests.{ltb-true, ltb-false, lt-ltb, le-ltb, ne-eqb, eqb-true, eqb-false, leb-false}
+use borrow.Author.Tests.{ltb-true, ltb-false, lt-ltb, le-ltb, ne-eqb, eqb-false, leb-false}
 use borrow.Table.Steps.{cases}
 use lib.ListN.{length}
-use lib.Dec.{ltb, leb, eqb}
+use lib.Dec.{ltb, eqb}
 use Rattle.codec_fields.specs.Fields.{bitNumber}
 use Rattle.bit_times.specs.declared.Micros.{Micros}
 use Rattle.settings.specs.declared.Parameters.{Parameters}
 use Rattle.ring.specs.declared.Ring.{Ring}
-use Rattle.ring.specs.Ring.{prevOf}
-use Rattle.codec_decisions.specs.declared.Decision.{Decision}
 use Rattle.codec_decisions.specs.declared.Decision.the-variants as decision
 use Rattle.codec_decisions.specs.Decisions.{decisionOf}
 use Rattle.codec_telegrams.specs.declared.Telegram.{Telegram}
@@ -40,22 +38,21 @@ use Rattle.station.specs.Parts.{withState, withActivity, withPending, freshCore
 use Rattle.station.specs.Steps.{toListenToken, knownAt, markedAt, busyOf, ongoingOf, busActivityOf, rxOf, heardOf, lastRequestToUs}
 use Rattle.station_hold.specs.declared.Asked.{Asked}
 use Rattle.station_hold.specs.Hold.{declinesOn, declinesAt, firstOr, turnOf, askedFrom, askedOf}
-use Rattle.station_hear_active.specs.HearActive.{remembers, activeCollided, tokenWitnessed, tokenToUs, tokenHeard, activeRequested, activeHeard, handleTelegramOn, handleTelegram}
+use Rattle.station_hear_active.specs.HearActive.{activeCollided, tokenWitnessed, tokenHeard, activeRequested, activeHeard, handleTelegramOn, handleTelegram}
 use Rattle.station_hear_listen.specs.HearListen.{collided, listened, listenHeard, listenTelegramOn, listenTelegram}
 use Rattle.station_listen.specs.Listen.{heardTelegram, heardAll}
 use Rattle.station_poll.specs.Poll.{connectedOn, connectedOf}
-use Rattle.theorem_sound.specs.Moves.{OneOf}
-use Rattle.theorem_sound.specs.Kept.{never}
+use Rattle.theorem_sound.specs.Moves.{OneOf, Clock}
+use Rattle.theorem_sound.specs.Lines.{KnownIn, SoundCore}
+use Rattle.theorem_sound.specs.Sound.{dispatched}
+use Rattle.theorem_sound.specs.Kept.{not-true}
 use Rattle.theorem_sound.specs.Keeps.{either}
+use Rattle.theorem_sound.specs.Walk.{bus-state}
 use Rattle.theorem_sound.specs.Hold.{turn-good, asked-good, first-or-good}
 
 -- no state but Offline has the number 0
 no-state : (k : ℕ) → suc k ≡ 0 → ⊥
 no-state k e = omega arith
-
-bus-state : (c : Core) (now : Micros) (pending : ℕ) → busActivityOf c now pending .state ≡ c .state
-unfolding busActivityOf withActivity withPending
-bus-state c now pending = cases (ltb (c .«pending_bytes») pending) (λ z. rw z refl) (λ z. rw z refl)
 
 -- 1. Offline inside the dispatch (`unreachable!()` in poll_inner): the core that an online station's dispatch is given is not in
 -- Offline, since connectedOf comes first.
@@ -82,15 +79,15 @@ pub record SenderSends (bytes : List ℕ) (n : ℕ) (high : Bool) (a : Asked) : 
 
 declined : (bytes : List ℕ) (n a : ℕ) (high : Bool) → declinesAt bytes n a high ≡ false → decisionAt bytes n a high ≡ decision.Decline → ⊥
 unfolding declinesAt declinesOn
-declined bytes n a high f e = never (sym (rw e at f))
+declined bytes n a high f e = not-true (sym (rw e at f))
 
 pub sender-never-declines : (k : ℕ) (bytes : List ℕ) (n a : ℕ) (first : OptionApplication) (high : Bool) → SenderSends bytes n high (askedFrom k bytes n a first high)
 unfolding askedFrom
-sender-never-declines zero bytes n a first high = record { no-decline = λ s e. never s }
+sender-never-declines zero bytes n a first high = record { no-decline = λ s e. not-true s }
 sender-never-declines (suc k) bytes n a first high =
     cases (declinesAt bytes n a high)
     (λ d. rw d
-    (either (SenderSends bytes n high) (eqb (turnOf a n) (firstOr first a)) _ _ (record { no-decline = λ s e. never s })
+    (either (SenderSends bytes n high) (eqb (turnOf a n) (firstOr first a)) _ _ (record { no-decline = λ s e. not-true s })
     (sender-never-declines k bytes n (turnOf a n) _ high)))
     (λ d. rw d (record { no-decline = λ s e. declined bytes n a high d e }))
 
@@ -176,7 +173,7 @@ NotAfter (activity.At last) now = last .0 ≤ now .0
 free : (a : Activity) (now : Micros) (t : Bool) → ongoingOf a now t ≡ false → NotAfter a now
 unfolding ongoingOf busyOf
 free activity.Unknown now t e = tt
-free (activity.At last) now true e = never (sym e)
+free (activity.At last) now true e = not-true (sym e)
 free (activity.At last) now false e = omega (arith, leb-false (now .0) (last .0) e)
 
 marked-by : (a : Activity) (now : Micros) → NotAfter a now → NotAfter (markedAt a now) now
@@ -314,3 +311,20 @@ handle-telegram-only-active p c r now m k bytes n count (suc i) e l =
     let before = handle-telegram-only-active p c r now m k bytes n count i e (omega arith) in
     rw (ne-eqb (suc i) count (λ z. omega arith))
     (handle-on-handling _ p (rxOf (heardAll p (heardOf c r outcome.Bus) now false bytes n count i .core) now) _ now _ refl (rw rx-state before))
+
+-- 8. A pause or a slot asked with the activity unknown (`get_or_insert` in wait_synchronization_pause and check_slot_expired): the
+-- dispatch of a sound station is given an unknown activity in ListenToken alone, where the lost-token test comes first and sets it.
+unknown-listening : (x : State) (a : Activity) → (x ≡ Offline → ⊥) → KnownIn x a → a ≡ activity.Unknown → stateNumber x ≡ 1
+unknown-listening Offline a z k e = absurd (z refl)
+unknown-listening (ListenToken q i) a z k e = refl
+unknown-listening (ActiveIdle q m i) a z k e = absurd (rw e at k)
+unknown-listening (UseToken d i) a z k e = absurd (rw e at k)
+unknown-listening (ClaimToken f) a z k e = absurd (rw e at k)
+unknown-listening (AwaitDataResponse s d) a z k e = absurd (rw e at k)
+unknown-listening (PassToken g i) a z k e = absurd (rw e at k)
+unknown-listening (CheckTokenPass i) a z k e = absurd (rw e at k)
+unknown-listening (AwaitStatusResponse s) a z k e = absurd (rw e at k)
+
+pub only-listening-unknown : (p : Parameters) (n : ℕ) (now : Micros) (c : Core) (pending : ℕ) → Clock now → c .online ≡ true → SoundCore p n c → busActivityOf (connectedOf c) now pending .«last_bus_activity» ≡ activity.Unknown → stateNumber (busActivityOf (connectedOf c) now pending .state) ≡ 1
+only-listening-unknown p n now c pending l o w e =
+    unknown-listening _ _ (dispatch-never-offline c now pending) (dispatched p n now c pending l o w .activity-known) e

@@ -28,9 +28,9 @@ use Rattle.station.specs.Steps.{toPassToken, knownAt, pauseOf, slotExpiredOf}
 use Rattle.station_pass.specs.Pass.{gapAdvanced, passSent, passSend, passPollOn, passPoll, passAfter, passTokenOf}
 use Rattle.station_await_status.specs.AwaitStatus.{statusRingOn, statusRing, statusAnswered, statusUnexpected, statusReceived, statusTimeout, awaitStatusAfter, awaitStatusOf}
 use Rattle.station_check_pass.specs.CheckPass.{resendOf, checkReceived, checkAfter, checkTokenPassOf}
-use Rattle.theorem_sound.specs.Moves.{GapAddressed, GapCounted, Known}
+use Rattle.theorem_sound.specs.Moves.{GapAddressed, GapCounted}
 use Rattle.theorem_sound.specs.Keeps.{RingGood, either, decided, gap-low, add-good, remove-good, witness-good}
-use Rattle.theorem_sound.specs.Walk.{Came, RingMade, sound-at, known-here, new-token, paused, slotted, waited-known, rx, rx-known, gap-turned, to-idle, to-use, to-pass, to-check, to-await-status, done-made, transmit-made}
+use Rattle.theorem_sound.specs.Walk.{Came, RingMade, sound-at, known-here, new-token, paused, slotted, waited-known, rx, gap-turned, to-idle, to-use, to-pass, to-check, to-await-status, done-made, transmit-made}
 use Rattle.theorem_sound.specs.Listen.{ActiveEnds, handled-made}
 
 -- do_pass_token: the gap's turn

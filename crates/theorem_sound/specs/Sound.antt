@@ -31,10 +31,10 @@ use Rattle.station_answer.specs.Answer.{polledOf, refusedPoll}
 use Rattle.station_command.specs.Command.{onlineOf, offlineOf, passiveOf}
 use Rattle.theorem_sound.specs.Moves.{has, Clock, Moves, none, then, goes-offline, goes-online}
 use Rattle.theorem_sound.specs.Lines.{SoundCore}
-use Rattle.theorem_sound.specs.Kept.{never, moves-keep}
+use Rattle.theorem_sound.specs.Kept.{not-true, moves-keep}
 use Rattle.theorem_sound.specs.Follows.{reached, FirstAttempt, SlotCoversPause, Follows, covered}
 use Rattle.theorem_sound.specs.Keeps.{RingGood, either, fresh-good, again-good}
-use Rattle.theorem_sound.specs.Walk.{Came, Made, RingMade, arrived, sound-at, marked, bus, to-listen, done-made}
+use Rattle.theorem_sound.specs.Walk.{Came, RingMade, arrived, sound-at, marked, bus, to-listen, done-made}
 use Rattle.theorem_sound.specs.Hold.{use-token-made, await-data-made}
 use Rattle.theorem_sound.specs.Listen.{claim-token-made, listen-token-made, active-idle-made}
 use Rattle.theorem_sound.specs.Pass.{pass-token-made, await-status-made, check-token-made}
@@ -151,14 +151,14 @@ module _ {p : Parameters} {n : ℕ} {now : Micros} {c₀ : Core} where
   connected-made (CheckTokenPass a) r t pending bytes count f o k g =
       poll-online-made r t pending bytes count (goes refl tt)
       (λ d m. check-token-made a r bytes count
-      (record { ends-alone = λ held. goes refl tt; ends-check = λ j. goes refl tt; ends-asking = λ e a. never e })
+      (record { ends-alone = λ held. goes refl tt; ends-check = λ j. goes refl tt; ends-asking = λ e a. not-true e })
       (record { ends-idle = λ q m i. goes refl tt; ends-accepted = λ held. goes refl tt; ends-left = goes refl tt })
       (λ e u j. record { in-table = λ s. absurd (covered p _ now s e u); at-first = λ s. absurd (covered p _ now s e u) }) m g)
       k g
   connected-made (AwaitStatusResponse a) r t pending bytes count f o k g =
       poll-online-made r t pending bytes count (goes refl tt)
       (λ d m. await-status-made r bytes count
-      (record { ends-alone = λ held. goes refl tt; ends-check = λ j. goes refl tt; ends-asking = λ e a. never e }) (goes refl refl) (goes refl tt) (goes refl tt) m g)
+      (record { ends-alone = λ held. goes refl tt; ends-check = λ j. goes refl tt; ends-asking = λ e a. not-true e }) (goes refl refl) (goes refl tt) (goes refl tt) m g)
       k g
 
 -- a poll that changes nothing stays in the table

@@ -16,7 +16,6 @@ use Rattle.bit_times.specs.declared.Micros.{Micros}
 use Rattle.bit_times.specs.Times.{timeOf}
 use Rattle.settings.specs.declared.Parameters.{Parameters}
 use Rattle.settings.specs.Settings.{slotTimeOf}
-use Rattle.codec_records.specs.Records.{headOf}
 use Rattle.codec_answers.specs.declared.Sent.{Sent}
 use Rattle.codec_answers.specs.declared.Sent.the-variants as sent
 use Rattle.codec_answers.specs.declared.Notice.{Notice}
@@ -27,9 +26,9 @@ use Rattle.station.specs.declared.Station.{Station}
 use Rattle.station.specs.declared.Started.{Started}
 use Rattle.station.specs.declared.Started.the-variants as started
 use Rattle.station.specs.Parts.{stateNumber, newStation}
-use Rattle.station_poll.specs.Poll.{pollOf}
 use Rattle.theorem_sound.specs.Moves.{has}
-use Rattle.theorem_sound.specs.Sound.{Call, poll, online, offline, passive, after}
+use Rattle.theorem_sound.specs.Sound.{Call, after, clockOf}
+use Rattle.theorem_sound.specs.Fits.{answerTo}
 
 -- something is sent
 abbrev pub Sends : Sent → Type 0
@@ -47,36 +46,25 @@ pub record Since (a : Activity) (now time : Micros) : Type 0 where
   pub known : a ≡ activity.At last
   pub passed : last .0 + time .0 ≤ now .0
 
--- the clock of a poll
-abbrev pub clockIn : List ℕ → Micros
-clockIn bytes = record { 0 = headOf bytes .clock }
-
 -- the synchronization pause, 33 bits
-abbrev pub pauseTime : Parameters → Micros
-pauseTime p = timeOf (record { 0 = 33 }) (p .baudrate)
+abbrev pub syncPause : Parameters → Micros
+syncPause p = timeOf (record { 0 = 33 }) (p .baudrate)
 
 -- no send before the pause: of a station and a call
 abbrev pub PauseKept : Station → Call → Type 0
-PauseKept s (poll bytes) =
-    Sends (pollOf s bytes .answer .sent) → Since (s .core .«last_bus_activity») (clockIn bytes) (pauseTime (s .p))
-PauseKept s online = Unit {0}
-PauseKept s offline = Unit {0}
-PauseKept s passive = Unit {0}
+PauseKept s c = Sends (answerTo s c .sent) → Since (s .core .«last_bus_activity») (clockOf c) (syncPause (s .p))
 
 -- the states that wait for another station: AwaitDataResponse, CheckTokenPass, AwaitStatusResponse
 abbrev pub waiting : List ℕ
 waiting = 5 ∷ 7 ∷ 8 ∷ []
 
 -- no retry before the slot: of a station and a call
-pub record SlotWaited (s : Station) (bytes : List ℕ) : Type 0 where
-  pub sends-late : Sends (pollOf s bytes .answer .sent) → Since (s .core .«last_bus_activity») (clockIn bytes) (slotTimeOf (s .p))
-  pub tells-late : TellsTimeout (pollOf s bytes .answer .notice) → Since (s .core .«last_bus_activity») (clockIn bytes) (slotTimeOf (s .p))
+pub record SlotWaited (s : Station) (c : Call) : Type 0 where
+  pub sends-late : Sends (answerTo s c .sent) → Since (s .core .«last_bus_activity») (clockOf c) (slotTimeOf (s .p))
+  pub tells-late : TellsTimeout (answerTo s c .notice) → Since (s .core .«last_bus_activity») (clockOf c) (slotTimeOf (s .p))
 
 abbrev pub SlotKept : Station → Call → Type 0
-SlotKept s (poll bytes) = has waiting (stateNumber (s .core .state)) ≡ true → SlotWaited s bytes
-SlotKept s online = Unit {0}
-SlotKept s offline = Unit {0}
-SlotKept s passive = Unit {0}
+SlotKept s c = has waiting (stateNumber (s .core .state)) ≡ true → SlotWaited s c
 
 -- of each call of a run: a fact of the station before it and the call
 abbrev pub Throughout : (Station → Call → Type 0) → Station → List Call → Type 0

@@ -6,9 +6,8 @@ use mathlib.Core.Logic.{_⊎_, inl, inr}
 use mathlib.Core.List.{List, [], _∷_}
 use native.Mathlib.Omega.{arith}
 use native.Mathlib.Nat.{le-div-iff-mul-le}
-use borrow.Author.Tests.{leb-true, leb-false, ltb-false}
-use borrow.Table.Steps.{cases}
-use lib.Dec.{ltb, leb, eqb}
+use borrow.Author.Tests.{leb-true, leb-false}
+use lib.Dec.{ltb, eqb}
 use Rattle.bit_times.specs.declared.Micros.{Micros}
 use Rattle.bit_times.specs.declared.Baud.{Baud}
 use Rattle.bit_times.specs.Times.{rateOf, rounded, timeOf}
@@ -16,9 +15,11 @@ use Rattle.bit_times.specs.Laws.{listed}
 use Rattle.settings.specs.declared.Parameters.{Parameters}
 use Rattle.settings.specs.Settings.{slotTimeOf}
 use Rattle.ring.specs.declared.Ring.{Ring}
-use Rattle.codec_records.specs.Records.{headOf, recordRefusal}
+use Rattle.codec_records.specs.Records.{recordRefusal}
 use Rattle.codec_answers.specs.Answers.{refusedAnswer}
 use Rattle.codec_answers.specs.declared.Outcome.the-variants as outcome
+use Rattle.codec_answers.specs.declared.Sent.the-variants as sent
+use Rattle.codec_answers.specs.declared.Notice.the-variants as notice
 use Rattle.station.specs.declared.Activity.{Activity}
 use Rattle.station.specs.declared.Activity.the-variants as activity
 use Rattle.station.specs.declared.State.{State}
@@ -35,11 +36,13 @@ use Rattle.station_answer.specs.declared.Polled.{Polled}
 use Rattle.station_answer.specs.Answer.{stepAnswer, polledOf, refusedPoll}
 use Rattle.station_poll.specs.Poll.{connectedOn, connectedOf, dispatchOn, dispatchOf, pollOnline, pollInner, acceptedAfter, acceptedPoll, pollOf}
 use Rattle.theorem_sound.specs.Moves.{has, Known}
-use Rattle.theorem_sound.specs.Lines.{KnownIn, SoundCore}
-use Rattle.theorem_sound.specs.Kept.{never, known-from}
+use Rattle.theorem_sound.specs.Kept.{not-true, known-from}
+use Rattle.theorem_sound.specs.Walk.{bus-state}
 use Rattle.theorem_sound.specs.Keeps.{either}
-use Rattle.theorem_sound.specs.Sound.{SoundStation, SoundStarted, Call, poll, online, offline, passive, after, new-sound, call-sound}
-use Rattle.theorem_sound.specs.Waits.{Sends, TellsTimeout, Since, clockIn, pauseTime, PauseKept, waiting, SlotWaited, SlotKept, Throughout, ThroughoutNew, NoSendBeforePause, NoRetryBeforeSlot}
+use Rattle.theorem_sound.specs.Sound.{SoundStation, SoundStarted, Call, poll, online, offline, passive, after, clockOf, new-sound, call-sound}
+use Rattle.station_command.specs.Command.{onlineOf, offlineOf, passiveOf}
+use Rattle.theorem_sound.specs.Fits.{answerTo}
+use Rattle.theorem_sound.specs.Waits.{Sends, TellsTimeout, Since, syncPause, PauseKept, waiting, SlotWaited, SlotKept, Throughout, ThroughoutNew, NoSendBeforePause, NoRetryBeforeSlot}
 use Rattle.theorem_sound.specs.Guarded.{Guarded, Told, weaken, retold, done-guarded, done-told, dispatch-guarded, slot-guarded, slot-told}
 
 -- the pause takes some time at every rate
@@ -51,10 +54,10 @@ pause-some baud =
     le-div-iff-mul-le some .1 whole
 
 -- an activity that a poll does not find going on lies before its clock
-free : (last now : Micros) (t : Bool) → ongoingOf (activity.At last) now t ≡ false → last .0 < now .0
+free-before : (last now : Micros) (t : Bool) → ongoingOf (activity.At last) now t ≡ false → last .0 < now .0
 unfolding ongoingOf busyOf
-free last now true e = never (sym e)
-free last now false e = leb-false (now .0) (last .0) e
+free-before last now true e = not-true (sym e)
+free-before last now false e = leb-false (now .0) (last .0) e
 
 -- a time that is over since the activity as it was marked, is over since the activity before
 module _ (now time : Micros) where
@@ -73,7 +76,7 @@ module _ (now time : Micros) where
   since-either b activity.Unknown t o (inl k) e = absurd k
   since-either true activity.Unknown t o (inr k) e = absurd (omega (arith, passed-at now e))
   since-either false activity.Unknown t o (inr k) e = absurd (omega (arith, passed-at now e))
-  since-either true (activity.At last) t o k e = record { last = last; known = refl; passed = omega (arith, passed-at now e, free last now t o) }
+  since-either true (activity.At last) t o k e = record { last = last; known = refl; passed = omega (arith, passed-at now e, free-before last now t o) }
   since-either false (activity.At last) t o k e = record { last = last; known = refl; passed = passed-at last e }
 
   since-marked : (a : Activity) (t : Bool) → ongoingOf a now t ≡ false → Known a ⊎ (1 ≤ time .0) → elapsedOf now (knownAt (markedAt a now) now) time ≡ true → Since a now time
@@ -91,14 +94,10 @@ module _ (now time : Micros) where
       go true e = since-marked (c .«last_bus_activity») t o k e
       go false e = since-same (c .«last_bus_activity») k e
 
--- what a poll does before the dispatch leaves the state, but for Offline
-bus-state : (c : Core) (now : Micros) (pending : ℕ) → busActivityOf c now pending .state ≡ c .state
-unfolding busActivityOf withActivity withPending
-bus-state c now pending = cases (ltb (c .«pending_bytes») pending) (λ z. rw z refl) (λ z. rw z refl)
-
+-- connecting leaves a station that waits for another as it is
 connected-same : (x : State) (c : Core) → has waiting (stateNumber x) ≡ true → connectedOn x c ≡ c
 unfolding connectedOn
-connected-same Offline c i = never i
+connected-same Offline c i = not-true i
 connected-same (ListenToken q k) c i = refl
 connected-same (ActiveIdle q m k) c i = refl
 connected-same (UseToken d k) c i = refl
@@ -128,8 +127,8 @@ record Late (Q : Type 0) (s : Step) : Type 0 where
 
 -- the same of a poll and the slot
 record SlotLate (s : Station) (bytes : List ℕ) (x : Polled) : Type 0 where
-  pub late-send : Sends (x .answer .sent) → Since (s .core .«last_bus_activity») (clockIn bytes) (slotTimeOf (s .p))
-  pub late-tell : TellsTimeout (x .answer .notice) → Since (s .core .«last_bus_activity») (clockIn bytes) (slotTimeOf (s .p))
+  pub late-send : Sends (x .answer .sent) → Since (s .core .«last_bus_activity») (clockOf (poll bytes)) (slotTimeOf (s .p))
+  pub late-tell : TellsTimeout (x .answer .notice) → Since (s .core .«last_bus_activity») (clockOf (poll bytes)) (slotTimeOf (s .p))
 
 -- the same time since the same activity
 since-at : {a b : Activity} {now time : Micros} → a ≡ b → Since a now time → Since b now time
@@ -137,15 +136,15 @@ since-at e w = record { last = w .last; known = sym e ∙ w .known; passed = w .
 
 -- poll_inner: no send before the pause
 module _ (p : Parameters) (now : Micros) (r : Ring) (t : Bool) (pending : ℕ) (bytes : List ℕ) (n count : ℕ) where
-  pause-since : (c : Core) → ongoingOf (c .«last_bus_activity») now t ≡ false → pauseOf p (busActivityOf c now pending .«last_bus_activity») now .over ≡ true → Since (c .«last_bus_activity») now (pauseTime p)
+  pause-since : (c : Core) → ongoingOf (c .«last_bus_activity») now t ≡ false → pauseOf p (busActivityOf c now pending .«last_bus_activity») now .over ≡ true → Since (c .«last_bus_activity») now (syncPause p)
   unfolding pauseOf
-  pause-since c o e = since-bus now (pauseTime p) c pending t o (inr (pause-some (p .baudrate))) e
+  pause-since c o e = since-bus now (syncPause p) c pending t o (inr (pause-some (p .baudrate))) e
 
   slot-since : (c : Core) → Known (c .«last_bus_activity») → ongoingOf (c .«last_bus_activity») now t ≡ false → slotExpiredOf p (busActivityOf c now pending .«last_bus_activity») now .over ≡ true → Since (c .«last_bus_activity») now (slotTimeOf p)
   unfolding slotExpiredOf
   slot-since c k o e = since-bus now (slotTimeOf p) c pending t o (inl k) e
 
-  online-paused : (c : Core) → Guarded (Since (c .«last_bus_activity») now (pauseTime p)) (pollOnline p c r now t pending bytes n count .step)
+  online-paused : (c : Core) → Guarded (Since (c .«last_bus_activity») now (syncPause p)) (pollOnline p c r now t pending bytes n count .step)
   unfolding pollOnline dispatchOf
   online-paused c = go (ongoingOf (c .«last_bus_activity») now t) refl
     where
@@ -153,7 +152,7 @@ module _ (p : Parameters) (now : Micros) (r : Ring) (t : Bool) (pending : ℕ) (
       d = busActivityOf c now pending
 
       Q : Type 0
-      Q = Since (c .«last_bus_activity») now (pauseTime p)
+      Q = Since (c .«last_bus_activity») now (syncPause p)
 
       after-pause : ongoingOf (c .«last_bus_activity») now t ≡ false → pauseOf p (d .«last_bus_activity») now .over ≡ true → Q
       after-pause o e = pause-since c o e
@@ -184,10 +183,10 @@ module _ (p : Parameters) (now : Micros) (r : Ring) (t : Bool) (pending : ℕ) (
             late-told = retold (slot-since c k o) (slot-told p now (d .state) d r bytes n count j);
           }
 
-  inner-paused : (c : Core) → Guarded (Since (c .«last_bus_activity») now (pauseTime p)) (pollInner p c r now t pending bytes n count .step)
+  inner-paused : (c : Core) → Guarded (Since (c .«last_bus_activity») now (syncPause p)) (pollInner p c r now t pending bytes n count .step)
   unfolding pollInner connectedOf
   inner-paused c =
-      either (λ (x : RingStep). Guarded (Since (c .«last_bus_activity») now (pauseTime p)) (x .step)) (c .online) _ _
+      either (λ (x : RingStep). Guarded (Since (c .«last_bus_activity») now (syncPause p)) (x .step)) (c .online) _ _
       (weaken (λ w. since-at (connected-activity (c .state) c) w) (online-paused (connectedOn (c .state) c))) (done-guarded _ _ _)
 
   inner-late : (c : Core) → Known (c .«last_bus_activity») → has waiting (stateNumber (c .state)) ≡ true → Late (Since (c .«last_bus_activity») now (slotTimeOf p)) (pollInner p c r now t pending bytes n count .step)
@@ -206,22 +205,35 @@ refused-told : (Q : Type 0) (s : Station) (k : ℕ) → TellsTimeout (refusedPol
 unfolding refusedPoll refusedAnswer
 refused-told Q s k x = absurd x
 
-accepted-paused : (s : Station) (bytes : List ℕ) → Sends (acceptedPoll s bytes .answer .sent) → Since (s .core .«last_bus_activity») (clockIn bytes) (pauseTime (s .p))
+accepted-paused : (s : Station) (bytes : List ℕ) → Sends (acceptedPoll s bytes .answer .sent) → Since (s .core .«last_bus_activity») (clockOf (poll bytes)) (syncPause (s .p))
 unfolding acceptedPoll acceptedAfter polledOf stepAnswer
-accepted-paused s bytes x = inner-paused (s .p) (clockIn bytes) (s .«token_ring») _ _ bytes (s .applications) _ (s .core) .guard x
+accepted-paused s bytes x = inner-paused (s .p) (clockOf (poll bytes)) (s .«token_ring») _ _ bytes (s .applications) _ (s .core) .guard x
 
 -- every poll keeps the pause, of a sound station or any other
-pub poll-paused : (s : Station) (bytes : List ℕ) → Sends (pollOf s bytes .answer .sent) → Since (s .core .«last_bus_activity») (clockIn bytes) (pauseTime (s .p))
+pub poll-paused : (s : Station) (bytes : List ℕ) → Sends (pollOf s bytes .answer .sent) → Since (s .core .«last_bus_activity») (clockOf (poll bytes)) (syncPause (s .p))
 unfolding pollOf
 poll-paused s bytes =
-    either (λ (x : Polled). Sends (x .answer .sent) → Since (s .core .«last_bus_activity») (clockIn bytes) (pauseTime (s .p))) (eqb (recordRefusal bytes (s .applications)) 0) _ _
+    either (λ (x : Polled). Sends (x .answer .sent) → Since (s .core .«last_bus_activity») (clockOf (poll bytes)) (syncPause (s .p))) (eqb (recordRefusal bytes (s .applications)) 0) _ _
     (accepted-paused s bytes) (refused-sent _ s _)
 
+-- a command sends and tells nothing
+online-silent : (s : Station) → (onlineOf s .answer .sent ≡ sent.Nothing) × (onlineOf s .answer .notice ≡ notice.NoNotice)
+unfolding onlineOf polledOf stepAnswer doneOf
+online-silent s = (refl, refl)
+
+offline-silent : (s : Station) → (offlineOf s .answer .sent ≡ sent.Nothing) × (offlineOf s .answer .notice ≡ notice.NoNotice)
+unfolding offlineOf polledOf stepAnswer doneOf
+offline-silent s = (refl, refl)
+
+passive-silent : (s : Station) → (passiveOf s .answer .sent ≡ sent.Nothing) × (passiveOf s .answer .notice ≡ notice.NoNotice)
+unfolding passiveOf refusedPoll refusedAnswer
+passive-silent s = (refl, refl)
+
 pub pause-kept : (s : Station) (c : Call) → PauseKept s c
-pause-kept s (poll bytes) = poll-paused s bytes
-pause-kept s online = tt
-pause-kept s offline = tt
-pause-kept s passive = tt
+pause-kept s (poll bytes) x = poll-paused s bytes x
+pause-kept s online x = absurd (x (online-silent s .0))
+pause-kept s offline x = absurd (x (offline-silent s .0))
+pause-kept s passive x = absurd (x (passive-silent s .0))
 
 -- every poll of a sound station that waits for another keeps the slot
 known-waiting : (s : Station) → SoundStation s → has waiting (stateNumber (s .core .state)) ≡ true → Known (s .core .«last_bus_activity»)
@@ -230,22 +242,26 @@ known-waiting s w i = known-from waiting (s .core .state) _ refl refl i (w .core
 accepted-late : (s : Station) (bytes : List ℕ) → SoundStation s → has waiting (stateNumber (s .core .state)) ≡ true → SlotLate s bytes (acceptedPoll s bytes)
 unfolding acceptedPoll acceptedAfter polledOf stepAnswer
 accepted-late s bytes w i =
-    let l = inner-late (s .p) (clockIn bytes) (s .«token_ring») _ _ bytes (s .applications) _ (s .core) (known-waiting s w i) i in
+    let l = inner-late (s .p) (clockOf (poll bytes)) (s .«token_ring») _ _ bytes (s .applications) _ (s .core) (known-waiting s w i) i in
     record { late-send = l .late-sent .guard; late-tell = l .late-told .told }
 
-pub poll-late : (s : Station) (bytes : List ℕ) → SoundStation s → has waiting (stateNumber (s .core .state)) ≡ true → SlotWaited s bytes
+poll-late : (s : Station) (bytes : List ℕ) → SoundStation s → has waiting (stateNumber (s .core .state)) ≡ true → SlotLate s bytes (pollOf s bytes)
 unfolding pollOf
 poll-late s bytes w i =
-    let l =
     either (SlotLate s bytes) (eqb (recordRefusal bytes (s .applications)) 0) _ _ (accepted-late s bytes w i)
-    (record { late-send = refused-sent _ s _; late-tell = refused-told _ s _ }) in
-    record { sends-late = l .late-send; tells-late = l .late-tell }
+    (record { late-send = refused-sent _ s _; late-tell = refused-told _ s _ })
+
+-- what sends and tells nothing waits
+silent-late : (s : Station) (c : Call) → (answerTo s c .sent ≡ sent.Nothing) × (answerTo s c .notice ≡ notice.NoNotice) → SlotWaited s c
+silent-late s c e = record { sends-late = λ x. absurd (x (e .0)); tells-late = λ x. absurd (rw (e .1) at x) }
 
 pub slot-kept : (s : Station) (c : Call) → SoundStation s → SlotKept s c
-slot-kept s (poll bytes) w = poll-late s bytes w
-slot-kept s online w = tt
-slot-kept s offline w = tt
-slot-kept s passive w = tt
+slot-kept s (poll bytes) w i =
+    let l = poll-late s bytes w i in
+    record { sends-late = l .late-send; tells-late = l .late-tell }
+slot-kept s online w i = silent-late s online (online-silent s)
+slot-kept s offline w i = silent-late s offline (offline-silent s)
+slot-kept s passive w i = silent-late s passive (passive-silent s)
 
 -- of each call of a run from a sound station
 pub throughout : (P : Station → Call → Type 0) → ((s : Station) (c : Call) → SoundStation s → P s c) → (cs : List Call) (s : Station) → SoundStation s → Throughout P s cs

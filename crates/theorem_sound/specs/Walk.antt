@@ -1,10 +1,11 @@
 -- What a step comes to: moves from a sound core, which lead to a core whose state is known. One law for each way of active.rs to write
 -- to the station; the steps of each crate (Hold, Listen, Pass) and the calls (Sound) are put together of these.
 use Prim.Native.Nat.{ℕ, _≤_, _<_}
-use mathlib.Core.Bool.{Bool, true, false, cond}
+use mathlib.Core.Bool.{Bool, true, false}
 use mathlib.Core.Path.{_≡_, refl, sym, _∙_}
 use mathlib.Core.List.{List}
-use lib.Dec.{ltb, lit≤}
+use borrow.Table.Steps.{cases}
+use lib.Dec.{ltb}
 use Rattle.bit_times.specs.declared.Micros.{Micros}
 use Rattle.settings.specs.declared.Parameters.{Parameters}
 use Rattle.ring.specs.declared.Ring.{Ring}
@@ -23,11 +24,11 @@ use Rattle.station.specs.declared.Step.{Step}
 use Rattle.station.specs.declared.RingStep.{RingStep}
 use Rattle.station.specs.declared.Heard.{Heard}
 use Rattle.station.specs.Parts.{withState, withActivity, withPending, withGap, withNextApplication, freshCore, stateNumber}
-use Rattle.station.specs.Steps.{withTokenTime, toListenToken, toActiveIdle, toUseToken, toClaimToken, toAwaitDataResponse, toPassToken, toCheckTokenPass, toAwaitStatusResponse, knownAt, markedAt, pauseOf, slotExpiredOf, tokenLostWaitOf, rxOf, busActivityOf, doneOf, transmitOf, heardOf}
+use Rattle.station.specs.Steps.{withTokenTime, toListenToken, toActiveIdle, toUseToken, toClaimToken, toAwaitDataResponse, toPassToken, toCheckTokenPass, toAwaitStatusResponse, markedAt, pauseOf, slotExpiredOf, tokenLostWaitOf, rxOf, busActivityOf, doneOf, transmitOf, heardOf}
 use Rattle.station_hold.specs.Hold.{holdEndOf}
-use Rattle.theorem_sound.specs.Moves.{has, listenTokenFrom, activeIdleFrom, useTokenFrom, claimTokenFrom, awaitDataResponseFrom, passTokenFrom, checkTokenPassFrom, awaitStatusResponseFrom, In, Known, Low, Clock, HeldFits, GapAddressed, GapCounted, Move, waits, marks, sends, pends, holds, turns, gaps, listens, idles, cycles, claims, listen-token, active-idle, use-token, claim-token, await-data-response, pass-token, check-token-pass, await-status-response, goes-offline, Moves, none, then}
+use Rattle.theorem_sound.specs.Moves.{has, listenTokenFrom, activeIdleFrom, useTokenFrom, claimTokenFrom, awaitDataResponseFrom, passTokenFrom, checkTokenPassFrom, awaitStatusResponseFrom, In, Known, Low, Clock, HeldFits, GapAddressed, GapCounted, Move, waits, marks, sends, pends, holds, turns, gaps, listens, idles, cycles, claims, listen-token, active-idle, use-token, claim-token, await-data-response, pass-token, check-token-pass, await-status-response, goes-offline, Moves, then}
 use Rattle.theorem_sound.specs.Lines.{Addressed, CollidedOnce, KnownIn, HeldIn, LastToken, SoundCore}
-use Rattle.theorem_sound.specs.Kept.{moves-keep, marked-known, hold-state, hold-last}
+use Rattle.theorem_sound.specs.Kept.{moves-keep, marked-known, hold-state}
 use Rattle.theorem_sound.specs.Keeps.{RingGood, either}
 
 -- from a sound core c₀, at a time of a clock, moves have led to the core c, whose state is x
@@ -57,6 +58,11 @@ pub record HeardMade (p : Parameters) (n : ℕ) (now : Micros) (c₀ : Core) (E 
 pub new-token : (n : ℕ) (now : Micros) → Clock now → HeldFits n (withTokenTime now)
 unfolding withTokenTime
 new-token n now l = record { token-time = l; first-one = tt }
+
+-- check_for_bus_activity leaves the state
+pub bus-state : (c : Core) (now : Micros) (pending : ℕ) → busActivityOf c now pending .state ≡ c .state
+unfolding busActivityOf withActivity withPending
+bus-state c now pending = cases (ltb (c .«pending_bytes») pending) (λ z. rw z refl) (λ z. rw z refl)
 
 -- after a wait or a reception the activity is known
 pub waited-known : (c : Core) (t : Micros) → Known (withActivity c (activity.At t) .«last_bus_activity»)
