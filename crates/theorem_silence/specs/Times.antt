@@ -3,14 +3,13 @@ use Prim.Native.Nat.{ℕ, _+_, _*_, _<_, _≤_}
 use mathlib.Core.Bool.{true, false}
 use mathlib.Core.Path.{_≡_, refl, sym}
 use native.Mathlib.Omega.{arith}
-use native.Mathlib.Nat.{le-div-iff-mul-le, mul-le-mul-right}
-use lib.Ieee.Nearest.{div-mono}
+use native.Mathlib.Nat.{le-div-iff-mul-le}
 use borrow.Author.Tests.{le-leb, lt-leb, leb-true}
 use lib.Dec.{leb}
 use Rattle.bit_times.specs.declared.Baud.{Baud}
 use Rattle.bit_times.specs.declared.Micros.{Micros}
 use Rattle.bit_times.specs.Times.{leastSlotBits, rateOf, rounded, timeOf}
-use Rattle.bit_times.specs.Laws.{listed}
+use Rattle.bit_times.specs.Laws.{listed, time-grows}
 use Rattle.settings.specs.declared.Parameters.{Parameters}
 use Rattle.ring_addresses.specs.SetLaws.{true≢false}
 use Rattle.station.specs.declared.Activity.{Activity}
@@ -31,13 +30,6 @@ slot-bits-least p e = below-in _ _ 2 (omega arith) (rw (listed (p .baudrate) .ba
 -- the time of the pause
 abbrev pub pauseTime : Parameters → ℕ
 pauseTime p = timeOf (record { 0 = 33 }) (p .baudrate) .0
-
--- more bits take no less time
-time-grows : (a b : ℕ) (baud : Baud) → a ≤ b → timeOf (record { 0 = a }) baud .0 ≤ timeOf (record { 0 = b }) baud .0
-unfolding timeOf rounded
-time-grows a b baud l =
-    let some : 0 < rateOf baud = omega (arith, listed baud .slowest) in
-    div-mono (a * 1000000) (rateOf baud) (b * 1000000) (rateOf baud) some some (mul-le-mul-right (rateOf baud) (omega arith))
 
 -- a hundred bits take some time
 time-some : (a : ℕ) (baud : Baud) → 100 ≤ a → 1 ≤ timeOf (record { 0 = a }) baud .0

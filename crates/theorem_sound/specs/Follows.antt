@@ -18,7 +18,7 @@ use Rattle.station.specs.declared.State.{State}
 use Rattle.station.specs.declared.State.the-variants.{Offline, ListenToken, ActiveIdle, UseToken, ClaimToken, AwaitDataResponse, PassToken, CheckTokenPass, AwaitStatusResponse}
 use Rattle.station.specs.Parts.{stateNumber}
 use Rattle.station.specs.Steps.{knownAt, elapsedOf, pauseOf, slotExpiredOf}
-use Rattle.theorem_sound.specs.Moves.{has, listenTokenFrom, activeIdleFrom, useTokenFrom, claimTokenFrom, awaitDataResponseFrom, passTokenFrom, checkTokenPassFrom, awaitStatusResponseFrom}
+use Rattle.theorem_sound.specs.Moves.{lists, listenTokenFrom, activeIdleFrom, useTokenFrom, claimTokenFrom, awaitDataResponseFrom, passTokenFrom, checkTokenPassFrom, awaitStatusResponseFrom}
 use Rattle.theorem_sound.specs.Kept.{time-grows}
 
 -- For each state, the numbers of the states in which a poll can leave it.
@@ -61,7 +61,7 @@ slot-covers-pause p l = time-grows 33 (p .«slot_bits») (p .baudrate) l
 
 -- a poll of a station in the state x leaves it in the state y
 pub record Follows (p : Parameters) (x y : State) : Type 0 where
-  pub in-table : SlotCoversPause p → has (reached x) (stateNumber y) ≡ true
+  pub in-table : SlotCoversPause p → lists (reached x) (stateNumber y) ≡ true
   pub at-first : SlotCoversPause p → FirstAttempt y
 
 -- where the slot has expired the pause is over
@@ -78,7 +78,7 @@ startsOf =
 
 -- one transition from the state with number x to that with number y
 abbrev pub oneStep : ℕ → ℕ → Bool
-oneStep x y = has (getD startsOf y []) x
+oneStep x y = lists (getD startsOf y []) x
 
 -- some number of a list passes a test, and all do
 abbrev pub someOf : List ℕ → (ℕ → Bool) → Bool

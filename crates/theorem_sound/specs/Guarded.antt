@@ -35,7 +35,7 @@ use Rattle.station_check_pass.specs.CheckPass.{resendOf, checkReceived, checkAf
 use Rattle.station_poll.specs.Poll.{dispatchOn}
 use Rattle.theorem_sound.specs.Keeps.{either}
 use Rattle.theorem_sound.specs.Waits.{TellsTimeout, waiting}
-use Rattle.theorem_sound.specs.Moves.{has}
+use Rattle.theorem_sound.specs.Moves.{lists}
 use Rattle.theorem_sound.specs.Kept.{not-true, hold-activity}
 
 -- a step sends only where Q holds
@@ -233,7 +233,7 @@ module _ (p : Parameters) (now : Micros) where
       tested-ring _ _ _ (either (λ (x : RingStep). Guarded (Slot (c .«last_bus_activity»)) (x .step)) (ltb 0 count) _ _ (consumed-guarded _ _ count) (done-guarded _ _ _))
 
   -- the three states, in the dispatch
-  pub slot-guarded : (x : State) (c : Core) (r : Ring) (bytes : List ℕ) (n count : ℕ) → has waiting (stateNumber x) ≡ true → Guarded (Slot (c .«last_bus_activity»)) (dispatchOn x p c r now bytes n count .step)
+  pub slot-guarded : (x : State) (c : Core) (r : Ring) (bytes : List ℕ) (n count : ℕ) → lists waiting (stateNumber x) ≡ true → Guarded (Slot (c .«last_bus_activity»)) (dispatchOn x p c r now bytes n count .step)
   unfolding dispatchOn
   slot-guarded Offline c r bytes n count i = not-true i
   slot-guarded (ListenToken q k) c r bytes n count i = not-true i
@@ -265,7 +265,7 @@ module _ (p : Parameters) (now : Micros) where
   check-told c r k bytes n count =
       tested-ring-told _ _ _ (either (λ (x : RingStep). Told (Slot (c .«last_bus_activity»)) (x .step)) (ltb 0 count) _ _ (consumed-told _ _ count) (done-told _ _ _))
 
-  pub slot-told : (x : State) (c : Core) (r : Ring) (bytes : List ℕ) (n count : ℕ) → has waiting (stateNumber x) ≡ true → Told (Slot (c .«last_bus_activity»)) (dispatchOn x p c r now bytes n count .step)
+  pub slot-told : (x : State) (c : Core) (r : Ring) (bytes : List ℕ) (n count : ℕ) → lists waiting (stateNumber x) ≡ true → Told (Slot (c .«last_bus_activity»)) (dispatchOn x p c r now bytes n count .step)
   unfolding dispatchOn
   slot-told Offline c r bytes n count i = not-true i
   slot-told (ListenToken q k) c r bytes n count i = not-true i

@@ -6,14 +6,13 @@ use mathlib.Core.Logic.{inl, inr}
 use mathlib.Core.List.{List}
 use native.Mathlib.Omega.{arith}
 use native.Mathlib.Nat.{mul-le-mul-right}
-use lib.Ieee.Nearest.{div-mono}
 use borrow.Author.Tests.{eqb-true, eqb-false}
 use borrow.Table.Steps.{cases}
 use lib.Dec.{eqb, ltb, lit<, lit≤}
 use Rattle.bit_times.specs.declared.Micros.{Micros}
 use Rattle.bit_times.specs.declared.Baud.{Baud}
 use Rattle.bit_times.specs.Times.{rateOf, rounded, timeOf}
-use Rattle.bit_times.specs.Laws.{listed}
+use Rattle.bit_times.specs.Laws.{time-grows}
 use Rattle.settings.specs.declared.Parameters.{Parameters}
 use Rattle.settings.specs.Settings.{rotationTimeOf}
 use Rattle.station.specs.declared.Activity.{Activity}
@@ -27,7 +26,7 @@ use Rattle.station.specs.declared.Core.{Core}
 use Rattle.station.specs.Parts.{withState, withActivity, withPending, withGap, withTokenTimes, withNextApplication, withOnline, freshCore, stateNumber}
 use Rattle.station.specs.Steps.{toListenToken, toActiveIdle, toUseToken, toClaimToken, toAwaitDataResponse, toPassToken, toCheckTokenPass, toAwaitStatusResponse, knownAt, markedAt, sentAt}
 use Rattle.station_hold.specs.Hold.{holdLess, holdEndOf}
-use Rattle.theorem_sound.specs.Moves.{has, activeIdleFrom, useTokenFrom, claimTokenFrom, awaitDataResponseFrom, passTokenFrom, checkTokenPassFrom, awaitStatusResponseFrom, In, Known, Low, Clock, HeldFits, GapAddressed, GapCounted, Move, waits, marks, sends, pends, holds, turns, gaps, listens, idles, cycles, claims, listen-token, active-idle, use-token, claim-token, await-data-response, pass-token, check-token-pass, await-status-response, goes-offline, goes-online, Moves, keeps}
+use Rattle.theorem_sound.specs.Moves.{lists, activeIdleFrom, useTokenFrom, claimTokenFrom, awaitDataResponseFrom, passTokenFrom, checkTokenPassFrom, awaitStatusResponseFrom, In, Known, Low, Clock, HeldFits, GapAddressed, GapCounted, Move, waits, marks, sends, pends, holds, turns, gaps, listens, idles, cycles, claims, listen-token, active-idle, use-token, claim-token, await-data-response, pass-token, check-token-pass, await-status-response, goes-offline, goes-online, Moves, keeps}
 use Rattle.theorem_sound.specs.Lines.{Addressed, CollidedOnce, KnownIn, HeldIn, LastToken, ActivityFits, HoldMade, SoundCore}
 
 -- no truth is false
@@ -35,7 +34,7 @@ pub not-true : {A : Type 0} → false ≡ true → A
 not-true e = let z : _≡_ {A = ℕ} 0 1 = cc in absurd (omega arith)
 
 -- a transition that may not start in Offline starts in a station that is online: the line on Offline is kept
-online-from : (states : List ℕ) (c : Core) (x : State) → has states 0 ≡ false → In states c → (c .online ≡ false → c .state ≡ Offline) → c .online ≡ false → x ≡ Offline
+online-from : (states : List ℕ) (c : Core) (x : State) → lists states 0 ≡ false → In states c → (c .online ≡ false → c .state ≡ Offline) → c .online ≡ false → x ≡ Offline
 online-from states c x z i h f = not-true (sym z ∙ (rw (h f) at i))
 
 -- no zero is a state's number that is not Offline's
@@ -47,7 +46,7 @@ online-at : (c : Core) (x y : State) → c .state ≡ x → (stateNumber x ≡ 0
 online-at c x y e z h f = absurd (z (rw (sym e ∙ h f) refl))
 
 -- a transition that may start neither in Offline nor in ListenToken starts where the activity is known
-pub known-from : (states : List ℕ) (x : State) (a : Activity) → has states 0 ≡ false → has states 1 ≡ false → has states (stateNumber x) ≡ true → KnownIn x a → Known a
+pub known-from : (states : List ℕ) (x : State) (a : Activity) → lists states 0 ≡ false → lists states 1 ≡ false → lists states (stateNumber x) ≡ true → KnownIn x a → Known a
 known-from states Offline a z o i b = not-true (sym z ∙ i)
 known-from states (ListenToken q k) a z o i b = not-true (sym o ∙ i)
 known-from states (ActiveIdle q m k) a z o i b = b
@@ -87,13 +86,6 @@ marked-fits : (baud : Baud) (a : Activity) (now : Micros) → Clock now → Acti
 unfolding markedAt
 marked-fits baud a now l b =
     cases (ltb (knownAt a now .0) (now .0)) (λ z. rw z (omega arith)) (λ z. rw z (known-fits baud a now l b))
-
--- more bits take no less time
-pub time-grows : (a b : ℕ) (baud : Baud) → a ≤ b → timeOf (record { 0 = a }) baud .0 ≤ timeOf (record { 0 = b }) baud .0
-unfolding timeOf rounded
-time-grows a b baud l =
-    let some : 0 < rateOf baud = omega (arith, listed baud .slowest) in
-    div-mono (a * 1000000) (rateOf baud) (b * 1000000) (rateOf baud) some some (mul-le-mul-right (rateOf baud) (omega arith))
 
 sent-fits : (p : Parameters) (now : Micros) (bytes : ℕ) → bytes ≤ 255 → Clock now → ActivityFits (p .baudrate) (sentAt p now bytes)
 unfolding sentAt

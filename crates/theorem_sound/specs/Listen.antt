@@ -27,7 +27,7 @@ use Rattle.station_claim.specs.Claim.{claimNext, claimAfter, claimTokenOf}
 use Rattle.station_hear_active.specs.HearActive.{remembers, activeCollided, acceptedOf, tokenToUs, tokenWitnessed, tokenHeard, activeRequested, activeHeard, handleTelegramOn, handleTelegram}
 use Rattle.station_listen.specs.Listen.{lostTokenOf, listenAnswered, listenResponseAfter, listenResponse, heardTelegram, heardAll, receivedAll, consumedAll, listenTokenOn, listenTokenAfter, listenTokenOf, activeResponseAfter, activeResponse, activeIdleOn, activeIdleAfter, activeIdleOf}
 use Rattle.station_hear_listen.specs.HearListen.{collided, listened, listenHeard, listenTelegramOn, listenTelegram}
-use Rattle.theorem_sound.specs.Moves.{has, claimTokenFrom, Known}
+use Rattle.theorem_sound.specs.Moves.{lists, claimTokenFrom, Known}
 use Rattle.theorem_sound.specs.Kept.{not-true}
 use Rattle.theorem_sound.specs.Keeps.{RingGood, either, telegram-low, again-good, claim-good, witness-good}
 use Rattle.theorem_sound.specs.Walk.{Came, Made, RingMade, HeardMade, arrived, addressed-at, collided-at, online-here, new-token, paused, lost-asked, waited-known, rx, listen-fields, idle-fields, claim-again, to-listen, to-idle, to-use, to-claim, to-fresh, done-made, transmit-made, heard-made}
@@ -72,7 +72,7 @@ module _ {p : Parameters} {n : ℕ} {now : Micros} {c₀ : Core} {E : State → 
       (record { made-step = done-made _ (paused k) (e first); made-ring = g })
 
   -- handle_lost_token
-  lost-made : {x : State} {c : Core} (r : Ring) → ((f : Bool) → E (ClaimToken f)) → has claimTokenFrom (stateNumber x) ≡ true → Known (c .«last_bus_activity») → Came p n now c₀ x c → RingGood p r → RingMade p n now c₀ E (lostTokenOf p c r now)
+  lost-made : {x : State} {c : Core} (r : Ring) → ((f : Bool) → E (ClaimToken f)) → lists claimTokenFrom (stateNumber x) ≡ true → Known (c .«last_bus_activity») → Came p n now c₀ x c → RingGood p r → RingMade p n now c₀ E (lostTokenOf p c r now)
   unfolding lostTokenOf
   lost-made r e i o k g = claim-token-made r e (λ z. not-true (sym z)) (to-claim i o k) g
 

@@ -27,9 +27,9 @@ use Rattle.station.specs.Steps.{toListenToken, toActiveIdle, toUseToken, toClai
 use Rattle.station_hold.specs.Hold.{holdEndOf}
 
 -- a list has a number
-abbrev pub has : List ℕ → ℕ → Bool
-has [] k = false
-has (a ∷ more) k = cond (eqb a k) true (has more k)
+abbrev pub lists : List ℕ → ℕ → Bool
+lists [] k = false
+lists (a ∷ more) k = cond (eqb a k) true (lists more k)
 
 -- The states that each transition of active.rs may start from, by its `debug_assert_state!` (PassiveIdle, which is not taken, left
 -- out), in the Rust's order and by document 01's numbers: 0 Offline, 1 ListenToken, 2 ActiveIdle, 3 UseToken, 4 ClaimToken,
@@ -60,7 +60,7 @@ awaitStatusResponseFrom = 8 ∷ 6 ∷ []
 
 -- a core is in one of these states: the assertion of a transition that starts there
 abbrev pub In : List ℕ → Core → Type 0
-In states c = has states (stateNumber (c .state)) ≡ true
+In states c = lists states (stateNumber (c .state)) ≡ true
 
 -- the last bus activity is known
 abbrev pub Known : Activity → Type 0

@@ -31,7 +31,7 @@ use Rattle.station_answer.specs.declared.Polled.{Polled}
 use Rattle.station_poll.specs.Poll.{connectedOn, connectedOf, dispatchOn, dispatchOf, pollOnline, pollInner, acceptedAfter, acceptedPoll, pollOf}
 use Rattle.station_answer.specs.Answer.{polledOf, refusedPoll}
 use Rattle.station_command.specs.Command.{onlineOf, offlineOf, passiveOf}
-use Rattle.theorem_sound.specs.Moves.{has, Clock, Moves, none, then, goes-offline, goes-online}
+use Rattle.theorem_sound.specs.Moves.{lists, Clock, Moves, none, then, goes-offline, goes-online}
 use Rattle.theorem_sound.specs.Lines.{SoundCore}
 use Rattle.theorem_sound.specs.Kept.{not-true, moves-keep}
 use Rattle.theorem_sound.specs.Follows.{reached, FirstAttempt, SlotCoversPause, Follows, covered}
@@ -91,7 +91,7 @@ clockOf offline = zeroTime
 clockOf passive = zeroTime
 
 -- a state that the table has
-goes : {p : Parameters} {x y : State} → has (reached x) (stateNumber y) ≡ true → FirstAttempt y → Follows p x y
+goes : {p : Parameters} {x y : State} → lists (reached x) (stateNumber y) ≡ true → FirstAttempt y → Follows p x y
 goes i f = record { in-table = λ s. i; at-first = λ s. f }
 
 -- a poll's part of it
@@ -164,7 +164,7 @@ module _ {p : Parameters} {n : ℕ} {now : Micros} {c₀ : Core} where
       k g
 
 -- a poll that changes nothing stays in the table
-stays-in-table : (x : State) → has (reached x) (stateNumber x) ≡ true
+stays-in-table : (x : State) → lists (reached x) (stateNumber x) ≡ true
 stays-in-table Offline = refl
 stays-in-table (ListenToken q i) = refl
 stays-in-table (ActiveIdle q m i) = refl

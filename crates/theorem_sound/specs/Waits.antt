@@ -26,7 +26,7 @@ use Rattle.station.specs.declared.Station.{Station}
 use Rattle.station.specs.declared.Started.{Started}
 use Rattle.station.specs.declared.Started.the-variants as started
 use Rattle.station.specs.Parts.{stateNumber, newStation}
-use Rattle.theorem_sound.specs.Moves.{has}
+use Rattle.theorem_sound.specs.Moves.{lists}
 use Rattle.theorem_sound.specs.Sound.{Call, after, clockOf}
 use Rattle.theorem_sound.specs.Fits.{answerTo}
 
@@ -64,7 +64,7 @@ pub record SlotWaited (s : Station) (c : Call) : Type 0 where
   pub tells-late : TellsTimeout (answerTo s c .notice) → Since (s .core .«last_bus_activity») (clockOf c) (slotTimeOf (s .p))
 
 abbrev pub SlotKept : Station → Call → Type 0
-SlotKept s c = has waiting (stateNumber (s .core .state)) ≡ true → SlotWaited s c
+SlotKept s c = lists waiting (stateNumber (s .core .state)) ≡ true → SlotWaited s c
 
 -- of each call of a run: a fact of the station before it and the call
 abbrev pub Throughout : (Station → Call → Type 0) → Station → List Call → Type 0

@@ -35,7 +35,7 @@ use Rattle.station.specs.Steps.{toListenToken, knownAt, elapsedOf, markedAt, bu
 use Rattle.station_answer.specs.declared.Polled.{Polled}
 use Rattle.station_answer.specs.Answer.{stepAnswer, polledOf, refusedPoll}
 use Rattle.station_poll.specs.Poll.{connectedOn, connectedOf, dispatchOn, dispatchOf, pollOnline, pollInner, acceptedAfter, acceptedPoll, pollOf}
-use Rattle.theorem_sound.specs.Moves.{has, Known}
+use Rattle.theorem_sound.specs.Moves.{lists, Known}
 use Rattle.theorem_sound.specs.Kept.{not-true, known-from}
 use Rattle.theorem_sound.specs.Walk.{bus-state}
 use Rattle.theorem_sound.specs.Keeps.{either}
@@ -95,7 +95,7 @@ module _ (now time : Micros) where
       go false e = since-same (c .«last_bus_activity») k e
 
 -- connecting leaves a station that waits for another as it is
-connected-same : (x : State) (c : Core) → has waiting (stateNumber x) ≡ true → connectedOn x c ≡ c
+connected-same : (x : State) (c : Core) → lists waiting (stateNumber x) ≡ true → connectedOn x c ≡ c
 unfolding connectedOn
 connected-same Offline c i = not-true i
 connected-same (ListenToken q k) c i = refl
@@ -162,7 +162,7 @@ module _ (p : Parameters) (now : Micros) (r : Ring) (t : Bool) (pending : ℕ) (
       go false o = weaken (after-pause o) (dispatch-guarded p now (d .state) d r bytes n count)
 
   -- no retry before the slot
-  waiting-late : (c : Core) → Known (c .«last_bus_activity») → has waiting (stateNumber (c .state)) ≡ true → Late (Since (c .«last_bus_activity») now (slotTimeOf p)) (pollOnline p c r now t pending bytes n count .step)
+  waiting-late : (c : Core) → Known (c .«last_bus_activity») → lists waiting (stateNumber (c .state)) ≡ true → Late (Since (c .«last_bus_activity») now (slotTimeOf p)) (pollOnline p c r now t pending bytes n count .step)
   unfolding pollOnline dispatchOf
   waiting-late c k i = go (ongoingOf (c .«last_bus_activity») now t) refl
     where
@@ -172,7 +172,7 @@ module _ (p : Parameters) (now : Micros) (r : Ring) (t : Bool) (pending : ℕ) (
       Q : Type 0
       Q = Since (c .«last_bus_activity») now (slotTimeOf p)
 
-      j : has waiting (stateNumber (d .state)) ≡ true
+      j : lists waiting (stateNumber (d .state)) ≡ true
       j = rw (bus-state c now pending) i
 
       go : (b : Bool) → ongoingOf (c .«last_bus_activity») now t ≡ b → Late Q (cond b (record { step = doneOf (withActivity c (markedAt (c .«last_bus_activity») now)) outcome.Transmission; ring = r }) (dispatchOn (d .state) p d r now bytes n count) .step)
@@ -189,7 +189,7 @@ module _ (p : Parameters) (now : Micros) (r : Ring) (t : Bool) (pending : ℕ) (
       either (λ (x : RingStep). Guarded (Since (c .«last_bus_activity») now (syncPause p)) (x .step)) (c .online) _ _
       (weaken (λ w. since-at (connected-activity (c .state) c) w) (online-paused (connectedOn (c .state) c))) (done-guarded _ _ _)
 
-  inner-late : (c : Core) → Known (c .«last_bus_activity») → has waiting (stateNumber (c .state)) ≡ true → Late (Since (c .«last_bus_activity») now (slotTimeOf p)) (pollInner p c r now t pending bytes n count .step)
+  inner-late : (c : Core) → Known (c .«last_bus_activity») → lists waiting (stateNumber (c .state)) ≡ true → Late (Since (c .«last_bus_activity») now (slotTimeOf p)) (pollInner p c r now t pending bytes n count .step)
   unfolding pollInner connectedOf
   inner-late c k i =
       let L : RingStep → Type 0 = λ (x : RingStep). Late (Since (c .«last_bus_activity») now (slotTimeOf p)) (x .step) in
@@ -236,16 +236,16 @@ pause-kept s offline x = absurd (x (offline-silent s .0))
 pause-kept s passive x = absurd (x (passive-silent s .0))
 
 -- every poll of a sound station that waits for another keeps the slot
-known-waiting : (s : Station) → SoundStation s → has waiting (stateNumber (s .core .state)) ≡ true → Known (s .core .«last_bus_activity»)
+known-waiting : (s : Station) → SoundStation s → lists waiting (stateNumber (s .core .state)) ≡ true → Known (s .core .«last_bus_activity»)
 known-waiting s w i = known-from waiting (s .core .state) _ refl refl i (w .core-sound .activity-known)
 
-accepted-late : (s : Station) (bytes : List ℕ) → SoundStation s → has waiting (stateNumber (s .core .state)) ≡ true → SlotLate s bytes (acceptedPoll s bytes)
+accepted-late : (s : Station) (bytes : List ℕ) → SoundStation s → lists waiting (stateNumber (s .core .state)) ≡ true → SlotLate s bytes (acceptedPoll s bytes)
 unfolding acceptedPoll acceptedAfter polledOf stepAnswer
 accepted-late s bytes w i =
     let l = inner-late (s .p) (clockOf (poll bytes)) (s .«token_ring») _ _ bytes (s .applications) _ (s .core) (known-waiting s w i) i in
     record { late-send = l .late-sent .guard; late-tell = l .late-told .told }
 
-poll-late : (s : Station) (bytes : List ℕ) → SoundStation s → has waiting (stateNumber (s .core .state)) ≡ true → SlotLate s bytes (pollOf s bytes)
+poll-late : (s : Station) (bytes : List ℕ) → SoundStation s → lists waiting (stateNumber (s .core .state)) ≡ true → SlotLate s bytes (pollOf s bytes)
 unfolding pollOf
 poll-late s bytes w i =
     either (SlotLate s bytes) (eqb (recordRefusal bytes (s .applications)) 0) _ _ (accepted-late s bytes w i)

@@ -27,7 +27,7 @@ use Rattle.station.specs.declared.Heard.{Heard}
 use Rattle.station.specs.Parts.{withState, withActivity, withPending, withGap, withNextApplication, freshCore, stateNumber}
 use Rattle.station.specs.Steps.{withTokenTime, toListenToken, toActiveIdle, toUseToken, toClaimToken, toAwaitDataResponse, toPassToken, toCheckTokenPass, toAwaitStatusResponse, markedAt, pauseOf, slotExpiredOf, tokenLostWaitOf, rxOf, busActivityOf, doneOf, transmitOf, heardOf}
 use Rattle.station_hold.specs.Hold.{holdEndOf}
-use Rattle.theorem_sound.specs.Moves.{has, listenTokenFrom, activeIdleFrom, useTokenFrom, claimTokenFrom, awaitDataResponseFrom, passTokenFrom, checkTokenPassFrom, awaitStatusResponseFrom, In, Known, Low, Clock, HeldFits, GapAddressed, GapCounted, Move, waits, marks, sends, pends, holds, turns, gaps, listens, idles, cycles, claims, listen-token, active-idle, use-token, claim-token, await-data-response, pass-token, check-token-pass, await-status-response, goes-offline, Moves, then}
+use Rattle.theorem_sound.specs.Moves.{lists, listenTokenFrom, activeIdleFrom, useTokenFrom, claimTokenFrom, awaitDataResponseFrom, passTokenFrom, checkTokenPassFrom, awaitStatusResponseFrom, In, Known, Low, Clock, HeldFits, GapAddressed, GapCounted, Move, waits, marks, sends, pends, holds, turns, gaps, listens, idles, cycles, claims, listen-token, active-idle, use-token, claim-token, await-data-response, pass-token, check-token-pass, await-status-response, goes-offline, Moves, then}
 use Rattle.theorem_sound.specs.Lines.{Addressed, CollidedOnce, KnownIn, HeldIn, LastToken, SoundCore}
 use Rattle.theorem_sound.specs.Kept.{moves-keep, marked-known, hold-state}
 use Rattle.theorem_sound.specs.Keeps.{RingGood, either}
@@ -110,7 +110,7 @@ module _ {p : Parameters} {n : ℕ} {now : Micros} {c₀ : Core} where
   moved : {x : State} {c : Core} (y : State) {d : Core} → Came p n now c₀ x c → Move p n now c d → d .state ≡ y → Came p n now c₀ y d
   moved y k m e = record { clock = k .clock; start = k .start; by = then (k .by) m; is = e }
 
-  from : {x : State} {c : Core} (states : List ℕ) → Came p n now c₀ x c → has states (stateNumber x) ≡ true → In states c
+  from : {x : State} {c : Core} (states : List ℕ) → Came p n now c₀ x c → lists states (stateNumber x) ≡ true → In states c
   from states k i = rw (k .is) i
 
   -- the activity
@@ -169,35 +169,35 @@ module _ {p : Parameters} {n : ℕ} {now : Micros} {c₀ : Core} where
   claim-again k = moved _ k (claims (k .is)) refl
 
   -- transitions
-  pub to-listen : {x : State} {c : Core} → has listenTokenFrom (stateNumber x) ≡ true → c .online ≡ true → Came p n now c₀ x c → Came p n now c₀ (ListenToken optionAddress.None 0) (toListenToken c)
+  pub to-listen : {x : State} {c : Core} → lists listenTokenFrom (stateNumber x) ≡ true → c .online ≡ true → Came p n now c₀ x c → Came p n now c₀ (ListenToken optionAddress.None 0) (toListenToken c)
   unfolding toListenToken withState
   to-listen i o k = moved _ k (listen-token (from listenTokenFrom k i) o) refl
 
-  pub to-idle : {x : State} {c : Core} → has activeIdleFrom (stateNumber x) ≡ true → Known (c .«last_bus_activity») → Came p n now c₀ x c → Came p n now c₀ (ActiveIdle optionAddress.None optionAddress.None 0) (toActiveIdle c)
+  pub to-idle : {x : State} {c : Core} → lists activeIdleFrom (stateNumber x) ≡ true → Known (c .«last_bus_activity») → Came p n now c₀ x c → Came p n now c₀ (ActiveIdle optionAddress.None optionAddress.None 0) (toActiveIdle c)
   unfolding toActiveIdle withState
   to-idle i o k = moved _ k (active-idle (from activeIdleFrom k i) o) refl
 
-  pub to-use : {x : State} {c : Core} (held : UseTokenData) → has useTokenFrom (stateNumber x) ≡ true → HeldFits n held → Came p n now c₀ x c → Came p n now c₀ (UseToken held false) (toUseToken c held)
+  pub to-use : {x : State} {c : Core} (held : UseTokenData) → lists useTokenFrom (stateNumber x) ≡ true → HeldFits n held → Came p n now c₀ x c → Came p n now c₀ (UseToken held false) (toUseToken c held)
   unfolding toUseToken withState
   to-use held i f k = moved _ k (use-token held (from useTokenFrom k i) f) refl
 
-  pub to-claim : {x : State} {c : Core} → has claimTokenFrom (stateNumber x) ≡ true → Known (c .«last_bus_activity») → Came p n now c₀ x c → Came p n now c₀ (ClaimToken true) (toClaimToken c)
+  pub to-claim : {x : State} {c : Core} → lists claimTokenFrom (stateNumber x) ≡ true → Known (c .«last_bus_activity») → Came p n now c₀ x c → Came p n now c₀ (ClaimToken true) (toClaimToken c)
   unfolding toClaimToken withState
   to-claim i o k = moved _ k (claim-token (from claimTokenFrom k i) o) refl
 
-  pub to-await-data : {x : State} {c : Core} (a : ℕ) (held : UseTokenData) → has awaitDataResponseFrom (stateNumber x) ≡ true → a < 128 → HeldFits n held → held .«token_time» .0 ≡ c .«last_token_time» .0 → Came p n now c₀ x c → Came p n now c₀ (AwaitDataResponse a held) (toAwaitDataResponse c a held)
+  pub to-await-data : {x : State} {c : Core} (a : ℕ) (held : UseTokenData) → lists awaitDataResponseFrom (stateNumber x) ≡ true → a < 128 → HeldFits n held → held .«token_time» .0 ≡ c .«last_token_time» .0 → Came p n now c₀ x c → Came p n now c₀ (AwaitDataResponse a held) (toAwaitDataResponse c a held)
   unfolding toAwaitDataResponse withState
   to-await-data a held i l f t k = moved _ k (await-data-response a held (from awaitDataResponseFrom k i) l f t) refl
 
-  pub to-pass : {x : State} {c : Core} (gap : Bool) (attempt : PassTokenAttempt) → has passTokenFrom (stateNumber x) ≡ true → Came p n now c₀ x c → Came p n now c₀ (PassToken gap attempt) (toPassToken c gap attempt)
+  pub to-pass : {x : State} {c : Core} (gap : Bool) (attempt : PassTokenAttempt) → lists passTokenFrom (stateNumber x) ≡ true → Came p n now c₀ x c → Came p n now c₀ (PassToken gap attempt) (toPassToken c gap attempt)
   unfolding toPassToken withState
   to-pass gap attempt i k = moved _ k (pass-token gap attempt (from passTokenFrom k i)) refl
 
-  pub to-check : {x : State} {c : Core} (attempt : PassTokenAttempt) → has checkTokenPassFrom (stateNumber x) ≡ true → Came p n now c₀ x c → Came p n now c₀ (CheckTokenPass attempt) (toCheckTokenPass c attempt)
+  pub to-check : {x : State} {c : Core} (attempt : PassTokenAttempt) → lists checkTokenPassFrom (stateNumber x) ≡ true → Came p n now c₀ x c → Came p n now c₀ (CheckTokenPass attempt) (toCheckTokenPass c attempt)
   unfolding toCheckTokenPass withState
   to-check attempt i k = moved _ k (check-token-pass attempt (from checkTokenPassFrom k i)) refl
 
-  pub to-await-status : {x : State} {c : Core} (a : ℕ) → has awaitStatusResponseFrom (stateNumber x) ≡ true → a < 128 → Came p n now c₀ x c → Came p n now c₀ (AwaitStatusResponse a) (toAwaitStatusResponse c a)
+  pub to-await-status : {x : State} {c : Core} (a : ℕ) → lists awaitStatusResponseFrom (stateNumber x) ≡ true → a < 128 → Came p n now c₀ x c → Came p n now c₀ (AwaitStatusResponse a) (toAwaitStatusResponse c a)
   unfolding toAwaitStatusResponse withState
   to-await-status a i l k = moved _ k (await-status-response a (from awaitStatusResponseFrom k i) l) refl
 
