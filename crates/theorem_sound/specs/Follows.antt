@@ -19,7 +19,7 @@ use Rattle.station.specs.declared.State.the-variants.{Offline, ListenToken, Act
 use Rattle.station.specs.Parts.{stateNumber}
 use Rattle.station.specs.Steps.{knownAt, elapsedOf, pauseOf, slotExpiredOf}
 use Rattle.theorem_sound.specs.Moves.{lists, listenTokenFrom, activeIdleFrom, useTokenFrom, claimTokenFrom, awaitDataResponseFrom, passTokenFrom, checkTokenPassFrom, awaitStatusResponseFrom}
-use Rattle.theorem_sound.specs.Kept.{time-grows}
+use Rattle.bit_times.specs.Laws.{time-grows}
 
 -- For each state, the numbers of the states in which a poll can leave it.
 -- Offline: an online station goes to ListenToken and on from there, but has no request to answer yet. ListenToken: a second collision,
