@@ -150,7 +150,13 @@ pub fn store_head(bytes: &mut [u8], head: Head)
 
 // Writes the decision of an application, normal or high priority, into its 3 bytes; every other byte stays. For an application past
 // the last, and where the slice ends before, all of it stays. Of an address that does not fit its field the lowest bits are taken.
-pub fn store_decision(bytes: &mut [u8], applications: u8, application: u8, high: bool, decided: Decision)
+pub fn store_decision(
+    bytes: &mut [u8],
+    applications: u8,
+    application: u8,
+    high: bool,
+    decided: Decision,
+)
     ensures { λ _. ⌜ now (bytes .exit) ≡ decisionStored (now (bytes .entry)) applications application high decided ⌝ }
 {
     if applications <= application {

@@ -5,7 +5,7 @@ use mathlib.Core.Path.{_≡_, refl, ap}
 use mathlib.Core.List.{List, [], _∷_, _++_}
 use lib.ListN.{length}
 use native.Mathlib.Omega.{arith}
-use Rattle.codec_fields.specs.Fields.{fieldOf, beFrom, loadOf}
+use Rattle.codec_fields.specs.Fields.{fieldOf, zerosOr14, beFrom, loadOf}
 use Rattle.bit_times.specs.declared.Baud.the-variants.{B500000}
 use Rattle.bit_times.specs.Times.{baudOf, rounded, timeOf}
 use Rattle.settings.specs.declared.Parameters.{Parameters}
@@ -126,7 +126,7 @@ pub record LetterRun : Type 0 where
 
 -- worked out from the definitions
 worked : Shape 0 6766 (made none-heard) × Shape 1 6866 (made one-heard) × Shape 2 6866 (made two-heard) × Shape 125 7566 (made all-heard) × LetterRun
-unfolding fieldOf beFrom loadOf rounded timeOf slotTimeOf tokenLostOf rotationTimeOf walk nearest betweenOf keeps sameSet roundOf lapsOf bitOf wordOf hasIn has make others freshOf passed witnessOf claimOf nextOf prevOf freshStation freshCore withState withActivity withGap withPending withTokenTimes withNextApplication withOnline after run words.zeroOr14 decisions.lengthRefusal words.responseStateOf decisions.decisionRefusal words.telegramRefusal words.telegramOf decisions.decisionOf records.headOf records.telegramAt records.decisionAt records.entryRefusal records.wordsRefusal records.recordRefusal steps.toListenToken steps.knownAt steps.elapsedOf steps.markedAt steps.busyOf steps.ongoingOf steps.pauseOf steps.sentAt steps.busActivityOf steps.rxOf steps.slotExpiredOf steps.tokenLostWaitOf steps.doneOf steps.transmitOf steps.heardOf hear.listenHeard hear.listenTelegramOn hear.listenTelegram listening.heardTelegram listening.heardAll listening.receivedAll listening.consumedAll listening.listenTokenOn listening.listenTokenAfter listening.listenTokenOf polling.connectedOn polling.connectedOf polling.dispatchOn polling.dispatchOf polling.pollOnline polling.pollInner answering.polledOf polling.acceptedAfter polling.acceptedPoll polling.pollOf commands.onlineOf steps.toClaimToken claiming.claimNext claiming.claimAfter claiming.claimTokenOf steps.toUseToken steps.withTokenTime steps.toPassToken listening.lostTokenOf holding.declinesOn holding.declinesAt holding.usePassOf holding.appTransmitOf holding.firstOr holding.turnOf holding.askedFrom holding.askedOf holding.holdLess holding.holdEndOf holding.holdsOf holding.useAppsAfter holding.useAppsOf holding.useTokenAfter holding.useTokenTimed holding.useTokenOf passing.gapAdvanced gapDue passing.passSent passing.passSend passing.passPollOn passing.passPoll passing.passAfter passing.passTokenOf checking.resendOf checking.checkReceived checking.checkAfter checking.checkTokenPassOf removeOf takeOut steps.toCheckTokenPass counted countedIn slotAfter sentIn answering.stepAnswer
+unfolding fieldOf beFrom loadOf rounded timeOf slotTimeOf tokenLostOf rotationTimeOf walk nearest betweenOf keeps sameSet roundOf lapsOf bitOf wordOf hasIn has make others freshOf passed witnessOf claimOf nextOf prevOf freshStation freshCore withState withActivity withGap withPending withTokenTimes withNextApplication withOnline after run zerosOr14 decisions.lengthRefusal words.responseStateOf decisions.decisionRefusal words.telegramRefusal words.telegramOf decisions.decisionOf records.headOf records.telegramAt records.decisionAt records.entryRefusal records.wordsRefusal records.recordRefusal steps.toListenToken steps.knownAt steps.elapsedOf steps.markedAt steps.busyOf steps.ongoingOf steps.pauseOf steps.sentAt steps.busActivityOf steps.rxOf steps.slotExpiredOf steps.tokenLostWaitOf steps.doneOf steps.transmitOf steps.heardOf hear.listenHeard hear.listenTelegramOn hear.listenTelegram listening.heardTelegram listening.heardAll listening.receivedAll listening.consumedAll listening.listenTokenOn listening.listenTokenAfter listening.listenTokenOf polling.connectedOn polling.connectedOf polling.dispatchOn polling.dispatchOf polling.pollOnline polling.pollInner answering.polledOf polling.acceptedAfter polling.acceptedPoll polling.pollOf commands.onlineOf steps.toClaimToken claiming.claimNext claiming.claimAfter claiming.claimTokenOf steps.toUseToken steps.withTokenTime steps.toPassToken listening.lostTokenOf holding.declinesOn holding.declinesAt holding.usePassOf holding.appTransmitOf holding.firstOr holding.turnOf holding.askedFrom holding.askedOf holding.holdLess holding.holdEndOf holding.holdsOf holding.useAppsAfter holding.useAppsOf holding.useTokenAfter holding.useTokenTimed holding.useTokenOf passing.gapAdvanced gapDue passing.passSent passing.passSend passing.passPollOn passing.passPoll passing.passAfter passing.passTokenOf checking.resendOf checking.checkReceived checking.checkAfter checking.checkTokenPassOf removeOf takeOut steps.toCheckTokenPass counted countedIn slotAfter sentIn answering.stepAnswer
 worked = (
   record { size = refl; on = refl; state = refl; due = refl; last-active = refl },
   record { size = refl; on = refl; state = refl; due = refl; last-active = refl },

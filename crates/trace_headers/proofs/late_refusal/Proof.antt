@@ -12,5 +12,6 @@ late-refusal-spec =
     (λ c κs. search needs)
     (λ c. simp (← c .before .applications-refusal .ensures, ne-eqb _ _ (c .if1 .taken)))
     (λ c. simp (← c .before .before .applications-refusal .ensures, eq-eqb _ _ (c .before .if1 .left), ne-eqb _ _ (c .if2 .taken)))
+    (λ c. search needs)
     (λ c κs. search needs)
-    (λ c. simp (← c .before .before .before .applications-refusal .ensures, eq-eqb _ _ (c .before .before .if1 .left), eq-eqb _ _ (c .before .if2 .left), ← c .zero-or-14 .ensures)))
+    (λ c. simp (← c .before .before .before .before .applications-refusal .ensures, eq-eqb _ _ (c .before .before .before .if1 .left), eq-eqb _ _ (c .before .before .if2 .left), ← c .zero-or-14 .ensures)))
