@@ -4,7 +4,7 @@ use mathlib.Core.List.{List, [], _∷_}
 use Prim.Native.Nat.{ℕ}
 use Rattle.bit_times.specs.Times.{baudOf}
 use Rattle.settings.specs.Rules.{addressRefusal, baudRefusal, leastOf, slotBitsRefusal, hsaRefusal, rotationRefusal, gapWaitRefusal, retryRefusal, minTsdrRefusal, factorsRefusal}
-use Rattle.settings.specs.RuleLaws.{none-first}
+use Rattle.settings.specs.RuleLaws.{none-refuses}
 use Rattle.settings_build.specs.declared.PlainSettings.{PlainSettings}
 use Rattle.settings_build.specs.Build.{earlyRefusal, firstRefusal}
 
@@ -32,14 +32,14 @@ passes f e =
     let three : List ℕ = hsaRefusal (f .address) (f .«highest_station_address») ∷ four in
     let two : List ℕ = slotBitsRefusal (leastOf (baudOf (f .«baud_code»))) (f .«slot_bits») ∷ three in
     let ten : List ℕ = baudRefusal (baudOf (f .«baud_code»)) ∷ two in
-    let whole = none-first (earlyRefusal f) late e in
-    let from-1 = none-first (addressRefusal (f .address)) ten (whole .0) in
-    let from-10 = none-first (baudRefusal (baudOf (f .«baud_code»))) two (from-1 .1) in
-    let from-2 = none-first (slotBitsRefusal (leastOf (baudOf (f .«baud_code»))) (f .«slot_bits»)) three (from-10 .1) in
-    let from-3 = none-first (hsaRefusal (f .address) (f .«highest_station_address»)) four (from-2 .1) in
-    let from-4 = none-first (rotationRefusal (f .«token_rotation_bits»)) five (from-3 .1) in
-    let from-5 = none-first (gapWaitRefusal (f .«gap_wait_rotations»)) six (from-4 .1) in
-    let from-6 = none-first (retryRefusal (f .«max_retry_limit»)) seven (from-5 .1) in
+    let whole = none-refuses (earlyRefusal f) late e in
+    let from-1 = none-refuses (addressRefusal (f .address)) ten (whole .0) in
+    let from-10 = none-refuses (baudRefusal (baudOf (f .«baud_code»))) two (from-1 .1) in
+    let from-2 = none-refuses (slotBitsRefusal (leastOf (baudOf (f .«baud_code»))) (f .«slot_bits»)) three (from-10 .1) in
+    let from-3 = none-refuses (hsaRefusal (f .address) (f .«highest_station_address»)) four (from-2 .1) in
+    let from-4 = none-refuses (rotationRefusal (f .«token_rotation_bits»)) five (from-3 .1) in
+    let from-5 = none-refuses (gapWaitRefusal (f .«gap_wait_rotations»)) six (from-4 .1) in
+    let from-6 = none-refuses (retryRefusal (f .«max_retry_limit»)) seven (from-5 .1) in
     record {
       address = from-1 .0;
       baud = from-10 .0;
@@ -48,6 +48,6 @@ passes f e =
       rotation = from-4 .0;
       gap-wait = from-5 .0;
       retry = from-6 .0;
-      min-tsdr = none-first (minTsdrRefusal (f .«min_tsdr_bits»)) [] (from-6 .1) .0;
-      factors = none-first (factorsRefusal (f .«factor_1») (f .«factor_2»)) [] (whole .1) .0;
+      min-tsdr = none-refuses (minTsdrRefusal (f .«min_tsdr_bits»)) [] (from-6 .1) .0;
+      factors = none-refuses (factorsRefusal (f .«factor_1») (f .«factor_2»)) [] (whole .1) .0;
     }

@@ -7,6 +7,7 @@ use lib.Dec.{leb, eqb, lit≤}
 use Rattle.bit_times.specs.declared.Coded.{Coded}
 use Rattle.bit_times.specs.declared.Coded.the-variants.{Rate, Unknown}
 use Rattle.bit_times.specs.Times.{baudOf}
+use Rattle.codec_fields.specs.Fields.{zeroOr14}
 use Rattle.settings.specs.declared.Parameters.{Parameters}
 use Rattle.settings.specs.declared.Created.{Created}
 use Rattle.settings.specs.declared.Created.the-variants as created
@@ -19,7 +20,7 @@ use Rattle.station.specs.declared.Started.the-variants as started
 use Rattle.station.specs.Parts.{newStation}
 use Rattle.theorem_sound.specs.Keeps.{either}
 use Rattle.trace_headers.specs.declared.Header.{Header}
-use Rattle.trace_headers.specs.Headers.{headerOf, zeroRefusal, headerRefusal}
+use Rattle.trace_headers.specs.Headers.{headerOf, headerRefusal}
 use Rattle.trace.specs.Trace.{startedAfter, startedOf, startOf}
 
 -- a number of document 01's table that a trace may end with before its first entry
@@ -47,8 +48,8 @@ applications-small : (n : ℕ) → applicationsRefusal n ≤ 17
 unfolding applicationsRefusal
 applications-small n = outside-small 1 n 8 11 (lit≤ tt)
 
-zero-small : (n : ℕ) → zeroRefusal n ≤ 17
-unfolding zeroRefusal
+zero-small : (n : ℕ) → zeroOr14 n ≤ 17
+unfolding zeroOr14
 zero-small n = either Number (eqb n 0) 0 14 (lit≤ tt) (lit≤ tt)
 
 -- so are the settings' refusals

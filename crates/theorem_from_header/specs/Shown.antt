@@ -7,7 +7,7 @@ use mathlib.Core.List.{List, [], _∷_, _++_, append-nil}
 use lib.ListN.{length, replicate}
 use lib.Dec.{lit<}
 use native.Mathlib.Omega.{arith}
-use Rattle.codec_fields.specs.Fields.{fieldOf, beFrom, loadOf}
+use Rattle.codec_fields.specs.Fields.{fieldOf, zeroOr14, zerosOr14, beFrom, loadOf}
 use Rattle.bit_times.specs.declared.Baud.the-variants.{B500000}
 use Rattle.bit_times.specs.Times.{baudOf, rounded, timeOf}
 use Rattle.settings_watchdog.specs.declared.WatchdogFactors.the-variants as wf
@@ -88,7 +88,7 @@ settings =
     }
 
 starts : startOf trace ≡ started.Accepted (freshStation settings 1)
-unfolding fieldOf beFrom loadOf headers.headerAt headers.headerOf headers.zeroRefusal headers.headerRefusal rules.refuseBelow rules.refuseOutside rules.addressRefusal rules.baudRefusal rules.slotBitsRefusal rules.hsaRefusal rules.rotationRefusal rules.gapWaitRefusal rules.retryRefusal rules.minTsdrRefusal rules.factorsRefusal rules.applicationsRefusal earlyRefusal firstRefusal pairOf builtAt buildOf baudOf startedAfter startedOf startOf newStation
+unfolding fieldOf beFrom loadOf headers.headerAt headers.headerOf zeroOr14 headers.headerRefusal rules.refuseBelow rules.refuseOutside rules.addressRefusal rules.baudRefusal rules.slotBitsRefusal rules.hsaRefusal rules.rotationRefusal rules.gapWaitRefusal rules.retryRefusal rules.minTsdrRefusal rules.factorsRefusal rules.applicationsRefusal earlyRefusal firstRefusal pairOf builtAt buildOf baudOf startedAfter startedOf startOf newStation
 starts = refl
 
 one-application : headers.headerOf trace .applications ≡ 1
@@ -113,7 +113,7 @@ record Reached : Type 0 where
 
 -- worked out from the definitions
 worked : Reached
-unfolding entries.recordLength entries.entryOf fieldOf beFrom loadOf rounded timeOf slotTimeOf tokenLostOf rotationTimeOf walk nearest betweenOf keeps sameSet roundOf lapsOf bitOf wordOf hasIn has make others freshOf passed witnessOf claimOf nextOf prevOf freshStation freshCore withState withActivity withGap withPending withTokenTimes withNextApplication withOnline words.zeroOr14 decisions.lengthRefusal words.responseStateOf decisions.decisionRefusal words.telegramRefusal words.telegramOf decisions.decisionOf records.headOf records.telegramAt records.decisionAt records.entryRefusal records.wordsRefusal records.recordRefusal steps.toListenToken steps.knownAt steps.elapsedOf steps.markedAt steps.busyOf steps.ongoingOf steps.pauseOf steps.sentAt steps.busActivityOf steps.rxOf steps.slotExpiredOf steps.tokenLostWaitOf steps.doneOf steps.transmitOf steps.heardOf hear.listenHeard hear.listenTelegramOn hear.listenTelegram listening.heardTelegram listening.heardAll listening.receivedAll listening.consumedAll listening.listenTokenOn listening.listenTokenAfter listening.listenTokenOf polling.connectedOn polling.connectedOf polling.dispatchOn polling.dispatchOf polling.pollOnline polling.pollInner answering.polledOf polling.acceptedAfter polling.acceptedPoll polling.pollOf commands.onlineOf steps.toClaimToken claiming.claimNext claiming.claimAfter claiming.claimTokenOf steps.toUseToken steps.withTokenTime steps.toPassToken listening.lostTokenOf holding.declinesOn holding.declinesAt holding.usePassOf holding.appTransmitOf holding.firstOr holding.turnOf holding.askedFrom holding.askedOf holding.holdLess holding.holdEndOf holding.holdsOf holding.useAppsAfter holding.useAppsOf holding.useTokenAfter holding.useTokenTimed holding.useTokenOf passing.gapAdvanced gapDue passing.passSent passing.passSend passing.passPollOn passing.passPoll passing.passAfter passing.passTokenOf checking.resendOf checking.checkReceived checking.checkAfter checking.checkTokenPassOf removeOf takeOut steps.toCheckTokenPass counted countedIn slotAfter answering.stepAnswer
+unfolding entries.recordLength entries.entryOf fieldOf beFrom loadOf rounded timeOf slotTimeOf tokenLostOf rotationTimeOf walk nearest betweenOf keeps sameSet roundOf lapsOf bitOf wordOf hasIn has make others freshOf passed witnessOf claimOf nextOf prevOf freshStation freshCore withState withActivity withGap withPending withTokenTimes withNextApplication withOnline zerosOr14 decisions.lengthRefusal words.responseStateOf decisions.decisionRefusal words.telegramRefusal words.telegramOf decisions.decisionOf records.headOf records.telegramAt records.decisionAt records.entryRefusal records.wordsRefusal records.recordRefusal steps.toListenToken steps.knownAt steps.elapsedOf steps.markedAt steps.busyOf steps.ongoingOf steps.pauseOf steps.sentAt steps.busActivityOf steps.rxOf steps.slotExpiredOf steps.tokenLostWaitOf steps.doneOf steps.transmitOf steps.heardOf hear.listenHeard hear.listenTelegramOn hear.listenTelegram listening.heardTelegram listening.heardAll listening.receivedAll listening.consumedAll listening.listenTokenOn listening.listenTokenAfter listening.listenTokenOf polling.connectedOn polling.connectedOf polling.dispatchOn polling.dispatchOf polling.pollOnline polling.pollInner answering.polledOf polling.acceptedAfter polling.acceptedPoll polling.pollOf commands.onlineOf steps.toClaimToken claiming.claimNext claiming.claimAfter claiming.claimTokenOf steps.toUseToken steps.withTokenTime steps.toPassToken listening.lostTokenOf holding.declinesOn holding.declinesAt holding.usePassOf holding.appTransmitOf holding.firstOr holding.turnOf holding.askedFrom holding.askedOf holding.holdLess holding.holdEndOf holding.holdsOf holding.useAppsAfter holding.useAppsOf holding.useTokenAfter holding.useTokenTimed holding.useTokenOf passing.gapAdvanced gapDue passing.passSent passing.passSend passing.passPollOn passing.passPoll passing.passAfter passing.passTokenOf checking.resendOf checking.checkReceived checking.checkAfter checking.checkTokenPassOf removeOf takeOut steps.toCheckTokenPass counted countedIn slotAfter answering.stepAnswer
 worked =
     record {
       whole = (refl, (refl, (refl, (refl, (refl, (refl, tt))))));

@@ -8,7 +8,7 @@ use lib.Dec.{eqb, leb}
 use native.Mathlib.Omega.{arith}
 use borrow.Author.Tests.{eq-eqb, ne-eqb, lt-leb, leb-true, leb-false}
 use borrow.Table.Steps.{cases}
-use Rattle.codec_fields.specs.Fields.{fieldOf, beFrom, loadOf}
+use Rattle.codec_fields.specs.Fields.{fieldOf, zerosOr14, beFrom, loadOf}
 use Rattle.bit_times.specs.declared.Baud.the-variants.{B500000}
 use Rattle.bit_times.specs.Times.{baudOf, rounded, timeOf}
 use Rattle.settings.specs.declared.Parameters.{Parameters}
@@ -268,7 +268,7 @@ here-accepted = refl
 
 -- worked out from the definitions
 pub letter-run : LetterRun
-unfolding fieldOf beFrom loadOf rounded timeOf slotTimeOf tokenLostOf rotationTimeOf walk nearest betweenOf keeps sameSet roundOf lapsOf bitOf wordOf hasIn has make others freshOf passed witnessOf claimOf nextOf prevOf freshStation freshCore withState withActivity withGap withPending withTokenTimes withNextApplication withOnline after run words.zeroOr14 decisions.lengthRefusal words.responseStateOf decisions.decisionRefusal words.telegramRefusal words.telegramOf decisions.decisionOf records.headOf records.telegramAt records.decisionAt records.entryRefusal records.wordsRefusal records.recordRefusal steps.toListenToken steps.knownAt steps.elapsedOf steps.markedAt steps.busyOf steps.ongoingOf steps.pauseOf steps.sentAt steps.busActivityOf steps.rxOf steps.slotExpiredOf steps.tokenLostWaitOf steps.doneOf steps.transmitOf steps.heardOf hear.listenHeard hear.listenTelegramOn hear.listenTelegram listening.heardTelegram listening.heardAll listening.receivedAll listening.consumedAll listening.listenTokenOn listening.listenTokenAfter listening.listenTokenOf polling.connectedOn polling.connectedOf polling.dispatchOn polling.dispatchOf polling.pollOnline polling.pollInner answering.polledOf polling.acceptedAfter polling.acceptedPoll polling.pollOf commands.onlineOf steps.toClaimToken claiming.claimNext claiming.claimAfter claiming.claimTokenOf steps.toUseToken steps.withTokenTime steps.toPassToken listening.lostTokenOf holding.declinesOn holding.declinesAt holding.usePassOf holding.appTransmitOf holding.firstOr holding.turnOf holding.askedFrom holding.askedOf holding.holdLess holding.holdEndOf holding.holdsOf holding.useAppsAfter holding.useAppsOf holding.useTokenAfter holding.useTokenTimed holding.useTokenOf passing.gapAdvanced passing.passSent passing.passSend passing.passPollOn passing.passPoll passing.passAfter passing.passTokenOf checking.resendOf checking.checkReceived checking.checkAfter checking.checkTokenPassOf removeOf takeOut steps.toCheckTokenPass counted countedIn slotAfter sentIn answering.stepAnswer gapDue
+unfolding fieldOf beFrom loadOf rounded timeOf slotTimeOf tokenLostOf rotationTimeOf walk nearest betweenOf keeps sameSet roundOf lapsOf bitOf wordOf hasIn has make others freshOf passed witnessOf claimOf nextOf prevOf freshStation freshCore withState withActivity withGap withPending withTokenTimes withNextApplication withOnline after run zerosOr14 decisions.lengthRefusal words.responseStateOf decisions.decisionRefusal words.telegramRefusal words.telegramOf decisions.decisionOf records.headOf records.telegramAt records.decisionAt records.entryRefusal records.wordsRefusal records.recordRefusal steps.toListenToken steps.knownAt steps.elapsedOf steps.markedAt steps.busyOf steps.ongoingOf steps.pauseOf steps.sentAt steps.busActivityOf steps.rxOf steps.slotExpiredOf steps.tokenLostWaitOf steps.doneOf steps.transmitOf steps.heardOf hear.listenHeard hear.listenTelegramOn hear.listenTelegram listening.heardTelegram listening.heardAll listening.receivedAll listening.consumedAll listening.listenTokenOn listening.listenTokenAfter listening.listenTokenOf polling.connectedOn polling.connectedOf polling.dispatchOn polling.dispatchOf polling.pollOnline polling.pollInner answering.polledOf polling.acceptedAfter polling.acceptedPoll polling.pollOf commands.onlineOf steps.toClaimToken claiming.claimNext claiming.claimAfter claiming.claimTokenOf steps.toUseToken steps.withTokenTime steps.toPassToken listening.lostTokenOf holding.declinesOn holding.declinesAt holding.usePassOf holding.appTransmitOf holding.firstOr holding.turnOf holding.askedFrom holding.askedOf holding.holdLess holding.holdEndOf holding.holdsOf holding.useAppsAfter holding.useAppsOf holding.useTokenAfter holding.useTokenTimed holding.useTokenOf passing.gapAdvanced passing.passSent passing.passSend passing.passPollOn passing.passPoll passing.passAfter passing.passTokenOf checking.resendOf checking.checkReceived checking.checkAfter checking.checkTokenPassOf removeOf takeOut steps.toCheckTokenPass counted countedIn slotAfter sentIn answering.stepAnswer gapDue
 letter-run =
     record {
       starts = start-of-calls letterStation (made-by here letterCalls letterStation here-accepted refl) refl true refl refl;

@@ -2,14 +2,14 @@
 -- what `unpack` reads from the answer's word is the answer.
 use Prim.Native.Nat.{ℕ, zero, suc, _^_, _*_, _<_, _≤_}
 use mathlib.Core.Bool.{Bool, true, false, cond}
-use mathlib.Core.List.{List}
+use mathlib.Core.List.{List, [], _∷_}
 use mathlib.Core.Path.{_≡_, refl}
 use native.Mathlib.Omega.{arith}
 use borrow.Author.Tests.{eqb-true}
 use borrow.Table.Steps.{cases}
 use lib.ListN.{length}
 use lib.Dec.{ltb, leb, eqb, lit<, lit≤}
-use Rattle.codec_fields.specs.Fields.{fieldOf, bitAt}
+use Rattle.codec_fields.specs.Fields.{fieldOf, bitAt, zerosOr14}
 use Rattle.bit_times.specs.declared.Micros.{Micros}
 use Rattle.settings.specs.declared.Parameters.{Parameters}
 use Rattle.ring.specs.declared.Ring.{Ring}
@@ -22,7 +22,7 @@ use Rattle.codec_decisions.specs.declared.Decision.the-variants as decision
 use Rattle.codec_telegrams.specs.declared.Telegram.{Telegram}
 use Rattle.codec_telegrams.specs.declared.Telegram.the-variants as telegram
 use Rattle.codec_decisions.specs.Decisions.{DecisionFits, lengthRefusal, decisionRefusal}
-use Rattle.codec_telegrams.specs.Words.{zeroOr14, telegramRefusal}
+use Rattle.codec_telegrams.specs.Words.{telegramRefusal}
 use Rattle.codec_records.specs.Records.{headOf, countOf, decisionAt, entryRefusal, wordsRefusal, recordRefusal}
 use Rattle.codec_records.specs.Laws.{good, good-decision}
 use Rattle.codec_answers.specs.declared.Outcome.{Outcome}
@@ -344,9 +344,10 @@ known-15 : Known 15
 unfolding refusalKnown
 known-15 = refl
 
-zero-known : (bits : ℕ) → Known (zeroOr14 bits)
-unfolding zeroOr14
-zero-known bits = either Known (eqb bits 0) _ _ none-known known-14
+zeros-known : (vs : List ℕ) → Known (zerosOr14 vs)
+unfolding zerosOr14
+zeros-known [] = none-known
+zeros-known (v ∷ vs) = either Known (eqb v 0) _ _ (zeros-known vs) known-14
 
 length-known : (l : ℕ) → Known (lengthRefusal l)
 unfolding lengthRefusal
@@ -356,10 +357,10 @@ telegram-known : (w : ℕ) → Known (telegramRefusal w)
 unfolding telegramRefusal
 telegram-known w =
     either Known (leb (2 ^ 32) w) _ _ known-14
-    (either Known (eqb (fieldOf w 30 2) 0) _ _ (zero-known _)
-    (either Known (eqb (fieldOf w 30 2) 1) _ _ (zero-known _)
-    (either Known (eqb (fieldOf w 30 2) 2) _ _ (zero-known _)
-    (either Known (bitAt w 15) _ _ known-14 (zero-known _)))))
+    (either Known (eqb (fieldOf w 30 2) 0) _ _ (zeros-known (fieldOf w 15 1 ∷ fieldOf w 13 2 ∷ fieldOf w 9 4 ∷ fieldOf w 0 9 ∷ []))
+    (either Known (eqb (fieldOf w 30 2) 1) _ _ (zeros-known (fieldOf w 23 7 ∷ fieldOf w 16 7 ∷ fieldOf w 15 1 ∷ fieldOf w 13 2 ∷ fieldOf w 9 4 ∷ fieldOf w 0 9 ∷ []))
+    (either Known (eqb (fieldOf w 30 2) 2) _ _ (zeros-known (fieldOf w 13 2 ∷ fieldOf w 9 4 ∷ fieldOf w 0 9 ∷ []))
+    (zeros-known (fieldOf w 15 1 ∷ fieldOf w 0 9 ∷ [])))))
 
 decision-known : (w : ℕ) → Known (decisionRefusal w)
 unfolding decisionRefusal
@@ -369,7 +370,7 @@ decision-known w =
     (either Known (eqb (fieldOf w 0 7) 0) _ _
     (either Known (bitAt w 22) _ _ (length-known _) (either Known (eqb (fieldOf w 15 7) 0) _ _ (length-known _) known-14))
     known-14)
-    (zero-known _))
+    (zeros-known (fieldOf w 22 1 ∷ fieldOf w 15 7 ∷ fieldOf w 7 8 ∷ fieldOf w 0 7 ∷ [])))
 
 entry-known : (bytes : List ℕ) (n i : ℕ) → Known (entryRefusal bytes n i)
 unfolding entryRefusal
