@@ -7,7 +7,7 @@ use mathlib.Core.List.{List, [], _∷_, _++_}
 use lib.Dec.{eqb}
 use native.Mathlib.Omega.{arith}
 use borrow.Author.Tests.{lt-leb, lt-ltb, eq-eqb, ne-eqb}
-use Rattle.codec_fields.specs.Fields.{fieldOf, beFrom, loadOf}
+use Rattle.codec_fields.specs.Fields.{fieldOf, beFrom, loadOf, zerosOr14}
 use Rattle.bit_times.specs.Times.{rounded, timeOf}
 use Rattle.settings.specs.Settings.{slotTimeOf, tokenLostOf, rotationTimeOf}
 use Rattle.ring_addresses.specs.Set.{walk, nearest, betweenOf, keeps, sameSet}
@@ -121,7 +121,7 @@ pub record FirstRuns : Type 0 where
   pub heard-but-one : run begun-question (hears-all 4200 2 6) ≡ lowestWith (listens-question 4900) ring-but-one
 
 pub first-runs : FirstRuns
-unfolding walk nearest betweenOf keeps sameSet roundOf lapsOf bitOf wordOf hasIn has make freshOf passed witnessOf claimOf nextOf rounded timeOf slotTimeOf tokenLostOf rotationTimeOf withState withActivity withGap withPending withTokenTimes withNextApplication withOnline after run fieldOf beFrom loadOf words.zeroOr14 words.responseStateOf words.telegramRefusal words.telegramOf decisions.lengthRefusal decisions.decisionRefusal decisions.decisionOf records.headOf records.telegramAt records.decisionAt records.entryRefusal records.wordsRefusal records.recordRefusal steps.knownAt steps.elapsedOf steps.markedAt steps.busyOf steps.ongoingOf steps.busActivityOf steps.doneOf polling.connectedOn polling.connectedOf polling.dispatchOn polling.dispatchOf polling.pollOnline polling.pollInner polling.acceptedAfter polling.acceptedPoll polling.pollOf answering.polledOf steps.rxOf steps.tokenLostWaitOf steps.heardOf hear.listenHeard hear.listenTelegramOn hear.listenTelegram listening.heardTelegram listening.heardAll listening.receivedAll listening.consumedAll listening.listenTokenOn listening.listenTokenAfter listening.listenTokenOf steps.pauseOf steps.sentAt steps.transmitOf steps.toClaimToken steps.toUseToken steps.withTokenTime claiming.claimNext claiming.claimAfter claiming.claimTokenOf listening.lostTokenOf steps.toPassToken holding.declinesOn holding.declinesAt holding.usePassOf holding.appTransmitOf holding.firstOr holding.turnOf holding.askedFrom holding.askedOf holding.holdLess holding.holdEndOf holding.holdsOf holding.useAppsAfter holding.useAppsOf holding.useTokenAfter holding.useTokenTimed holding.useTokenOf passing.gapAdvanced passing.passSent passing.passSend passing.passPollOn passing.passPoll passing.passAfter passing.passTokenOf freshStation freshCore commands.onlineOf steps.toListenToken steps.toAwaitDataResponse steps.toActiveIdle holding.validResponse holding.receivedOf holding.awaitDataOf listening.activeIdleOn listening.activeIdleAfter listening.activeIdleOf active.activeCollided active.tokenHeard active.activeHeard active.handleTelegramOn active.handleTelegram
+unfolding walk nearest betweenOf keeps sameSet roundOf lapsOf bitOf wordOf hasIn has make freshOf passed witnessOf claimOf nextOf rounded timeOf slotTimeOf tokenLostOf rotationTimeOf withState withActivity withGap withPending withTokenTimes withNextApplication withOnline after run fieldOf beFrom loadOf zerosOr14 words.responseStateOf words.telegramRefusal words.telegramOf decisions.lengthRefusal decisions.decisionRefusal decisions.decisionOf records.headOf records.telegramAt records.decisionAt records.entryRefusal records.wordsRefusal records.recordRefusal steps.knownAt steps.elapsedOf steps.markedAt steps.busyOf steps.ongoingOf steps.busActivityOf steps.doneOf polling.connectedOn polling.connectedOf polling.dispatchOn polling.dispatchOf polling.pollOnline polling.pollInner polling.acceptedAfter polling.acceptedPoll polling.pollOf answering.polledOf steps.rxOf steps.tokenLostWaitOf steps.heardOf hear.listenHeard hear.listenTelegramOn hear.listenTelegram listening.heardTelegram listening.heardAll listening.receivedAll listening.consumedAll listening.listenTokenOn listening.listenTokenAfter listening.listenTokenOf steps.pauseOf steps.sentAt steps.transmitOf steps.toClaimToken steps.toUseToken steps.withTokenTime claiming.claimNext claiming.claimAfter claiming.claimTokenOf listening.lostTokenOf steps.toPassToken holding.declinesOn holding.declinesAt holding.usePassOf holding.appTransmitOf holding.firstOr holding.turnOf holding.askedFrom holding.askedOf holding.holdLess holding.holdEndOf holding.holdsOf holding.useAppsAfter holding.useAppsOf holding.useTokenAfter holding.useTokenTimed holding.useTokenOf passing.gapAdvanced passing.passSent passing.passSend passing.passPollOn passing.passPoll passing.passAfter passing.passTokenOf freshStation freshCore commands.onlineOf steps.toListenToken steps.toAwaitDataResponse steps.toActiveIdle holding.validResponse holding.receivedOf holding.awaitDataOf listening.activeIdleOn listening.activeIdleAfter listening.activeIdleOf active.activeCollided active.tokenHeard active.activeHeard active.handleTelegramOn active.handleTelegram
 first-runs =
     record {
       look = refl;
@@ -140,7 +140,7 @@ record Tested : Type 0 where
   pub own-but-one : ring-but-one .own ≡ 0
 
 tested : Tested
-unfolding walk nearest betweenOf keeps sameSet roundOf lapsOf bitOf wordOf hasIn has make freshOf passed witnessOf claimOf nextOf rounded timeOf slotTimeOf tokenLostOf rotationTimeOf withState withActivity withGap withPending withTokenTimes withNextApplication withOnline after run fieldOf beFrom loadOf words.zeroOr14 words.responseStateOf words.telegramRefusal words.telegramOf decisions.lengthRefusal decisions.decisionRefusal decisions.decisionOf records.headOf records.telegramAt records.decisionAt records.entryRefusal records.wordsRefusal records.recordRefusal steps.knownAt steps.elapsedOf steps.markedAt steps.busyOf steps.ongoingOf steps.busActivityOf steps.doneOf polling.connectedOn polling.connectedOf polling.dispatchOn polling.dispatchOf polling.pollOnline polling.pollInner polling.acceptedAfter polling.acceptedPoll polling.pollOf answering.polledOf steps.rxOf steps.tokenLostWaitOf steps.heardOf hear.listenHeard hear.listenTelegramOn hear.listenTelegram listening.heardTelegram listening.heardAll listening.receivedAll listening.consumedAll listening.listenTokenOn listening.listenTokenAfter listening.listenTokenOf steps.pauseOf steps.sentAt steps.transmitOf steps.toClaimToken steps.toUseToken steps.withTokenTime claiming.claimNext claiming.claimAfter claiming.claimTokenOf listening.lostTokenOf steps.toPassToken holding.declinesOn holding.declinesAt holding.usePassOf holding.appTransmitOf holding.firstOr holding.turnOf holding.askedFrom holding.askedOf holding.holdLess holding.holdEndOf holding.holdsOf holding.useAppsAfter holding.useAppsOf holding.useTokenAfter holding.useTokenTimed holding.useTokenOf passing.gapAdvanced passing.passSent passing.passSend passing.passPollOn passing.passPoll passing.passAfter passing.passTokenOf freshStation freshCore commands.onlineOf steps.toListenToken steps.toAwaitDataResponse steps.toActiveIdle holding.validResponse holding.receivedOf holding.awaitDataOf listening.activeIdleOn listening.activeIdleAfter listening.activeIdleOf active.activeCollided active.tokenHeard active.activeHeard active.handleTelegramOn active.handleTelegram
+unfolding walk nearest betweenOf keeps sameSet roundOf lapsOf bitOf wordOf hasIn has make freshOf passed witnessOf claimOf nextOf rounded timeOf slotTimeOf tokenLostOf rotationTimeOf withState withActivity withGap withPending withTokenTimes withNextApplication withOnline after run fieldOf beFrom loadOf zerosOr14 words.responseStateOf words.telegramRefusal words.telegramOf decisions.lengthRefusal decisions.decisionRefusal decisions.decisionOf records.headOf records.telegramAt records.decisionAt records.entryRefusal records.wordsRefusal records.recordRefusal steps.knownAt steps.elapsedOf steps.markedAt steps.busyOf steps.ongoingOf steps.busActivityOf steps.doneOf polling.connectedOn polling.connectedOf polling.dispatchOn polling.dispatchOf polling.pollOnline polling.pollInner polling.acceptedAfter polling.acceptedPoll polling.pollOf answering.polledOf steps.rxOf steps.tokenLostWaitOf steps.heardOf hear.listenHeard hear.listenTelegramOn hear.listenTelegram listening.heardTelegram listening.heardAll listening.receivedAll listening.consumedAll listening.listenTokenOn listening.listenTokenAfter listening.listenTokenOf steps.pauseOf steps.sentAt steps.transmitOf steps.toClaimToken steps.toUseToken steps.withTokenTime claiming.claimNext claiming.claimAfter claiming.claimTokenOf listening.lostTokenOf steps.toPassToken holding.declinesOn holding.declinesAt holding.usePassOf holding.appTransmitOf holding.firstOr holding.turnOf holding.askedFrom holding.askedOf holding.holdLess holding.holdEndOf holding.holdsOf holding.useAppsAfter holding.useAppsOf holding.useTokenAfter holding.useTokenTimed holding.useTokenOf passing.gapAdvanced passing.passSent passing.passSend passing.passPollOn passing.passPoll passing.passAfter passing.passTokenOf freshStation freshCore commands.onlineOf steps.toListenToken steps.toAwaitDataResponse steps.toActiveIdle holding.validResponse holding.receivedOf holding.awaitDataOf listening.activeIdleOn listening.activeIdleAfter listening.activeIdleOf active.activeCollided active.tokenHeard active.activeHeard active.handleTelegramOn active.handleTelegram
 tested = record { all = refl; alone = refl; but-one = refl; own-all = refl; own-alone = refl; own-but-one = refl }
 
 pub record Members : Type 0 where
@@ -175,7 +175,7 @@ tokens-same d s k a b = cc
 
 -- the word of such a token
 token-word : (k : ℕ) → k < 128 → (words.telegramRefusal (k * 65536) ≡ 0) × (words.telegramOf (k * 65536) ≡ telegram.Token 0 k)
-unfolding words.telegramRefusal words.telegramOf words.zeroOr14 fieldOf
+unfolding words.telegramRefusal words.telegramOf zerosOr14 fieldOf
 token-word k l = (
   rw (lt-leb (2 ^ 32) (k * 65536) (omega arith), eq-eqb (k * 65536 / 2 ^ 30 % 2 ^ 2) 0 (omega arith), eq-eqb (k * 65536 / 2 ^ 0 % 2 ^ 16) 0 (omega arith)),
   rw (eq-eqb (k * 65536 / 2 ^ 30 % 2 ^ 2) 0 (omega arith)) (tokens-same (k * 65536 / 2 ^ 23 % 2 ^ 7) (k * 65536 / 2 ^ 16 % 2 ^ 7) k (omega arith) (omega arith)),
@@ -185,7 +185,7 @@ word-of : (k : ℕ) → ((0 + (0 + k)) * 256 + 0) * 256 + 0 ≡ k * 65536
 word-of k = omega arith
 
 pub says-token : (k : ℕ) → k < 128 → SaysToken (recordOf 900 declines (token k 0 ∷ [])) 900 k × SaysToken (recordOf 5000 declines (token k 0 ∷ [])) 5000 k
-unfolding fieldOf beFrom loadOf words.zeroOr14 decisions.lengthRefusal decisions.decisionRefusal records.headOf records.telegramAt records.entryRefusal records.wordsRefusal records.recordRefusal
+unfolding fieldOf beFrom loadOf zerosOr14 decisions.lengthRefusal decisions.decisionRefusal records.headOf records.telegramAt records.entryRefusal records.wordsRefusal records.recordRefusal
 says-token k l =
     let refused = ap words.telegramRefusal (word-of k) ∙ token-word k l .0 in
     let told = ap words.telegramOf (word-of k) ∙ token-word k l .1 in
@@ -214,12 +214,12 @@ pub record Claimed (r : Ring) : Type 0 where
   pub question-heard : run (lowestWith (listens-question 5000) r) (claims 7400) ≡ lowestWith pass-question (claimOf (claimOf r))
 
 pub claimed : (r : Ring) → Claimed r
-unfolding rounded timeOf slotTimeOf tokenLostOf rotationTimeOf withState withActivity withGap withPending withTokenTimes withNextApplication withOnline after run fieldOf beFrom loadOf words.zeroOr14 words.responseStateOf words.telegramRefusal words.telegramOf decisions.lengthRefusal decisions.decisionRefusal decisions.decisionOf records.headOf records.telegramAt records.decisionAt records.entryRefusal records.wordsRefusal records.recordRefusal steps.knownAt steps.elapsedOf steps.markedAt steps.busyOf steps.ongoingOf steps.busActivityOf steps.doneOf polling.connectedOn polling.connectedOf polling.dispatchOn polling.dispatchOf polling.pollOnline polling.pollInner polling.acceptedAfter polling.acceptedPoll polling.pollOf answering.polledOf steps.rxOf steps.tokenLostWaitOf steps.heardOf hear.listenHeard hear.listenTelegramOn hear.listenTelegram listening.heardTelegram listening.heardAll listening.receivedAll listening.consumedAll listening.listenTokenOn listening.listenTokenAfter listening.listenTokenOf steps.pauseOf steps.sentAt steps.transmitOf steps.toClaimToken steps.toUseToken steps.withTokenTime claiming.claimNext claiming.claimAfter claiming.claimTokenOf listening.lostTokenOf steps.toPassToken holding.declinesOn holding.declinesAt holding.usePassOf holding.appTransmitOf holding.firstOr holding.turnOf holding.askedFrom holding.askedOf holding.holdLess holding.holdEndOf holding.holdsOf holding.useAppsAfter holding.useAppsOf holding.useTokenAfter holding.useTokenTimed holding.useTokenOf
+unfolding rounded timeOf slotTimeOf tokenLostOf rotationTimeOf withState withActivity withGap withPending withTokenTimes withNextApplication withOnline after run fieldOf beFrom loadOf zerosOr14 words.responseStateOf words.telegramRefusal words.telegramOf decisions.lengthRefusal decisions.decisionRefusal decisions.decisionOf records.headOf records.telegramAt records.decisionAt records.entryRefusal records.wordsRefusal records.recordRefusal steps.knownAt steps.elapsedOf steps.markedAt steps.busyOf steps.ongoingOf steps.busActivityOf steps.doneOf polling.connectedOn polling.connectedOf polling.dispatchOn polling.dispatchOf polling.pollOnline polling.pollInner polling.acceptedAfter polling.acceptedPoll polling.pollOf answering.polledOf steps.rxOf steps.tokenLostWaitOf steps.heardOf hear.listenHeard hear.listenTelegramOn hear.listenTelegram listening.heardTelegram listening.heardAll listening.receivedAll listening.consumedAll listening.listenTokenOn listening.listenTokenAfter listening.listenTokenOf steps.pauseOf steps.sentAt steps.transmitOf steps.toClaimToken steps.toUseToken steps.withTokenTime claiming.claimNext claiming.claimAfter claiming.claimTokenOf listening.lostTokenOf steps.toPassToken holding.declinesOn holding.declinesAt holding.usePassOf holding.appTransmitOf holding.firstOr holding.turnOf holding.askedFrom holding.askedOf holding.holdLess holding.holdEndOf holding.holdsOf holding.useAppsAfter holding.useAppsOf holding.useTokenAfter holding.useTokenTimed holding.useTokenOf
 claimed r = record { look-none = refl; look-heard = refl; question-none = refl; question-heard = refl }
 
 -- 1 is asked, where the ring has it polled; and it answers: in the ring, or not ready
 pub one-gets-asked : (r : Ring) → polls r 1 ≡ true → run (lowestWith pass-question r) (pollSilent 8000 ∷ []) ≡ lowestWith awaits-one r
-unfolding rounded timeOf slotTimeOf tokenLostOf rotationTimeOf withState withActivity withGap withPending withTokenTimes withNextApplication withOnline after run fieldOf beFrom loadOf words.zeroOr14 words.responseStateOf words.telegramRefusal words.telegramOf decisions.lengthRefusal decisions.decisionRefusal decisions.decisionOf records.headOf records.telegramAt records.decisionAt records.entryRefusal records.wordsRefusal records.recordRefusal steps.knownAt steps.elapsedOf steps.markedAt steps.busyOf steps.ongoingOf steps.busActivityOf steps.doneOf polling.connectedOn polling.connectedOf polling.dispatchOn polling.dispatchOf polling.pollOnline polling.pollInner polling.acceptedAfter polling.acceptedPoll polling.pollOf answering.polledOf steps.pauseOf steps.sentAt steps.transmitOf steps.toClaimToken steps.toUseToken steps.withTokenTime claiming.claimNext claiming.claimAfter claiming.claimTokenOf listening.lostTokenOf passing.gapAdvanced passing.passSent passing.passSend passing.passPollOn passing.passPoll passing.passAfter passing.passTokenOf gapOf candidateOf steps.toAwaitStatusResponse status.statusRingOn status.statusRing status.statusAnswered status.statusReceived status.awaitStatusOf
+unfolding rounded timeOf slotTimeOf tokenLostOf rotationTimeOf withState withActivity withGap withPending withTokenTimes withNextApplication withOnline after run fieldOf beFrom loadOf zerosOr14 words.responseStateOf words.telegramRefusal words.telegramOf decisions.lengthRefusal decisions.decisionRefusal decisions.decisionOf records.headOf records.telegramAt records.decisionAt records.entryRefusal records.wordsRefusal records.recordRefusal steps.knownAt steps.elapsedOf steps.markedAt steps.busyOf steps.ongoingOf steps.busActivityOf steps.doneOf polling.connectedOn polling.connectedOf polling.dispatchOn polling.dispatchOf polling.pollOnline polling.pollInner polling.acceptedAfter polling.acceptedPoll polling.pollOf answering.polledOf steps.pauseOf steps.sentAt steps.transmitOf steps.toClaimToken steps.toUseToken steps.withTokenTime claiming.claimNext claiming.claimAfter claiming.claimTokenOf listening.lostTokenOf passing.gapAdvanced passing.passSent passing.passSend passing.passPollOn passing.passPoll passing.passAfter passing.passTokenOf gapOf candidateOf steps.toAwaitStatusResponse status.statusRingOn status.statusRing status.statusAnswered status.statusReceived status.awaitStatusOf
 one-gets-asked r e = rw e
 
 pub record OneAnswers (r : Ring) : Type 0 where
@@ -227,5 +227,5 @@ pub record OneAnswers (r : Ring) : Type 0 where
   pub not-ready : run (lowestWith awaits-one r) (pollHearing 8300 (responseOf1 1 ∷ []) ∷ []) ≡ lowestWith pass-answered r
 
 pub one-answers : (r : Ring) → OneAnswers r
-unfolding rounded timeOf slotTimeOf tokenLostOf rotationTimeOf withState withActivity withGap withPending withTokenTimes withNextApplication withOnline after run fieldOf beFrom loadOf words.zeroOr14 words.responseStateOf words.telegramRefusal words.telegramOf decisions.lengthRefusal decisions.decisionRefusal decisions.decisionOf records.headOf records.telegramAt records.decisionAt records.entryRefusal records.wordsRefusal records.recordRefusal steps.knownAt steps.elapsedOf steps.markedAt steps.busyOf steps.ongoingOf steps.busActivityOf steps.doneOf polling.connectedOn polling.connectedOf polling.dispatchOn polling.dispatchOf polling.pollOnline polling.pollInner polling.acceptedAfter polling.acceptedPoll polling.pollOf answering.polledOf steps.rxOf steps.toPassToken gapOf candidateOf steps.toAwaitStatusResponse status.statusRingOn status.statusRing status.statusAnswered status.statusReceived status.awaitStatusOf
+unfolding rounded timeOf slotTimeOf tokenLostOf rotationTimeOf withState withActivity withGap withPending withTokenTimes withNextApplication withOnline after run fieldOf beFrom loadOf zerosOr14 words.responseStateOf words.telegramRefusal words.telegramOf decisions.lengthRefusal decisions.decisionRefusal decisions.decisionOf records.headOf records.telegramAt records.decisionAt records.entryRefusal records.wordsRefusal records.recordRefusal steps.knownAt steps.elapsedOf steps.markedAt steps.busyOf steps.ongoingOf steps.busActivityOf steps.doneOf polling.connectedOn polling.connectedOf polling.dispatchOn polling.dispatchOf polling.pollOnline polling.pollInner polling.acceptedAfter polling.acceptedPoll polling.pollOf answering.polledOf steps.rxOf steps.toPassToken gapOf candidateOf steps.toAwaitStatusResponse status.statusRingOn status.statusRing status.statusAnswered status.statusReceived status.awaitStatusOf
 one-answers r = record { in-ring = refl; not-ready = refl }
