@@ -5,15 +5,11 @@ use mathlib.Core.Path.{_≡_, refl, sym, _∙_}
 use mathlib.Core.Logic.{inl, inr}
 use mathlib.Core.List.{List}
 use native.Mathlib.Omega.{arith}
-use native.Mathlib.Nat.{mul-le-mul-right}
-use lib.Ieee.Nearest.{div-mono}
 use borrow.Author.Tests.{eqb-true, eqb-false}
 use borrow.Table.Steps.{cases}
 use lib.Dec.{eqb, ltb, lit<, lit≤}
 use Rattle.bit_times.specs.declared.Micros.{Micros}
 use Rattle.bit_times.specs.declared.Baud.{Baud}
-use Rattle.bit_times.specs.Times.{rateOf, rounded, timeOf}
-use Rattle.bit_times.specs.Laws.{listed}
 use Rattle.settings.specs.declared.Parameters.{Parameters}
 use Rattle.settings.specs.Settings.{rotationTimeOf}
 use Rattle.station.specs.declared.Activity.{Activity}
@@ -28,6 +24,7 @@ use Rattle.station.specs.Parts.{withState, withActivity, withPending, withGap, 
 use Rattle.station.specs.Steps.{toListenToken, toActiveIdle, toUseToken, toClaimToken, toAwaitDataResponse, toPassToken, toCheckTokenPass, toAwaitStatusResponse, knownAt, markedAt, sentAt}
 use Rattle.station_hold.specs.Hold.{holdLess, holdEndOf}
 use Rattle.theorem_sound.specs.Moves.{has, activeIdleFrom, useTokenFrom, claimTokenFrom, awaitDataResponseFrom, passTokenFrom, checkTokenPassFrom, awaitStatusResponseFrom, In, Known, Low, Clock, HeldFits, GapAddressed, GapCounted, Move, waits, marks, sends, pends, holds, turns, gaps, listens, idles, cycles, claims, listen-token, active-idle, use-token, claim-token, await-data-response, pass-token, check-token-pass, await-status-response, goes-offline, goes-online, Moves, keeps}
+use Rattle.theorem_sound.specs.Keeps.{time-grows}
 use Rattle.theorem_sound.specs.Lines.{Addressed, CollidedOnce, KnownIn, HeldIn, LastToken, ActivityFits, HoldMade, SoundCore}
 
 -- no truth is false
@@ -87,13 +84,6 @@ marked-fits : (baud : Baud) (a : Activity) (now : Micros) → Clock now → Acti
 unfolding markedAt
 marked-fits baud a now l b =
     cases (ltb (knownAt a now .0) (now .0)) (λ z. rw z (omega arith)) (λ z. rw z (known-fits baud a now l b))
-
--- more bits take no less time
-pub time-grows : (a b : ℕ) (baud : Baud) → a ≤ b → timeOf (record { 0 = a }) baud .0 ≤ timeOf (record { 0 = b }) baud .0
-unfolding timeOf rounded
-time-grows a b baud l =
-    let some : 0 < rateOf baud = omega (arith, listed baud .slowest) in
-    div-mono (a * 1000000) (rateOf baud) (b * 1000000) (rateOf baud) some some (mul-le-mul-right (rateOf baud) (omega arith))
 
 sent-fits : (p : Parameters) (now : Micros) (bytes : ℕ) → bytes ≤ 255 → Clock now → ActivityFits (p .baudrate) (sentAt p now bytes)
 unfolding sentAt
