@@ -8,7 +8,7 @@ use Rattle.bit_times.specs.declared.Baud.{Baud}
 use Rattle.bit_times.specs.declared.Coded.{Coded}
 use Rattle.bit_times.specs.declared.Coded.the-variants.{Rate, Unknown}
 use Rattle.bit_times.specs.Times.{baudOf, leastSlotBits}
-use Rattle.codec_fields.specs.Fields.{zeroOr14}
+use Rattle.codec_fields.specs.Fields.{zerosOr14}
 use Rattle.settings.specs.declared.Parameters.{Parameters}
 use Rattle.settings.specs.declared.Created.{Created}
 use Rattle.settings.specs.declared.Created.the-variants as created
@@ -65,7 +65,7 @@ settings-small f = either Number (leb (f .address) 125) _ 1 (coded-small f (baud
 
 -- and a header's
 late-small : (h : Header) (n : ℕ) → n ≤ 17 → lateRefusal h n ≤ 17
-unfolding lateRefusal applicationsRefusal zeroOr14
+unfolding lateRefusal applicationsRefusal zerosOr14
 late-small h n l =
     first-small _ _ (either Number (leb 1 (h .applications) && leb (h .applications) 8) 0 11 (lit≤ tt) (lit≤ tt))
     (first-small n _ l (either Number (eqb (h .«zero_bits») 0) 0 14 (lit≤ tt) (lit≤ tt)))
