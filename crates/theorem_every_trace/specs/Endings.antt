@@ -7,7 +7,7 @@ use lib.Dec.{leb, eqb, lit≤}
 use Rattle.bit_times.specs.declared.Coded.{Coded}
 use Rattle.bit_times.specs.declared.Coded.the-variants.{Rate, Unknown}
 use Rattle.bit_times.specs.Times.{baudOf}
-use Rattle.codec_fields.specs.Fields.{zeroOr14}
+use Rattle.codec_fields.specs.Fields.{zeroOr14, zerosOr14}
 use Rattle.settings.specs.declared.Parameters.{Parameters}
 use Rattle.settings.specs.declared.Created.{Created}
 use Rattle.settings.specs.declared.Created.the-variants as created
@@ -49,7 +49,7 @@ unfolding applicationsRefusal
 applications-small n = outside-small 1 n 8 11 (lit≤ tt)
 
 zero-small : (n : ℕ) → zeroOr14 n ≤ 17
-unfolding zeroOr14
+unfolding zerosOr14
 zero-small n = either Number (eqb n 0) 0 14 (lit≤ tt) (lit≤ tt)
 
 -- so are the settings' refusals
