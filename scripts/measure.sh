@@ -1,5 +1,6 @@
 #!/usr/bin/env bash
-# Prints what a poll costs: the instructions of a poll in each of some cases, counted by valgrind on the program run_polls.
+# Prints what a poll costs: the instructions of a poll in each of some cases, counted on the program run_polls by valgrind or, on
+# a machine that is not x86-64, by the toolchain's emulator, one instruction at a time.
 # A case is a start and a round of polls that is repeated; the counts of two runs are subtracted, so that what comes
 # before the rounds and after them falls away. PROGRAM in the environment measures another build of the program.
 set -euo pipefail
@@ -8,9 +9,9 @@ me="measure"
 . scripts/common.sh
 
 program=${PROGRAM:-target/bin/run_polls}
-[ "$(uname -m)" = x86_64 ] || fail "the program is for x86-64, and valgrind counts it on no other processor"
 [ -x "$program" ] || fail "$program is not there: run 'rt check run_polls' first"
-need valgrind valgrind
+find_runner
+[ "$machine" != x86_64 ] || need valgrind valgrind
 need cargo cargo
 # The cases are a program over the Rust host, so that records are written in one way.
 host_cargo build --package rounds || fail "hosts/rust/rounds does not build"
@@ -20,9 +21,15 @@ trap 'rm -rf "$folder"' EXIT
 # instructions CASE ROUNDS: the instructions of a run.
 instructions() {
     target/hosts/release/rounds "$1" "$2" >"$folder/input" || fail "the polls of $1 were not written"
-    valgrind --tool=callgrind --callgrind-out-file=/dev/null "$program" <"$folder/input" >/dev/null 2>"$folder/said" ||
-        fail "$program did not run"
-    sed -n 's/.*Collected : //p' "$folder/said"
+    if [ "$machine" = x86_64 ]; then
+        valgrind --tool=callgrind --callgrind-out-file=/dev/null "$program" <"$folder/input" >/dev/null 2>"$folder/said" ||
+            fail "$program did not run"
+        sed -n 's/.*Collected : //p' "$folder/said"
+    else
+        "${runner[0]}" -one-insn-per-tb -d exec,nochain -D "$folder/said" "${runner[@]:1}" "$program" <"$folder/input" >/dev/null ||
+            fail "$program did not run"
+        grep -c '^Trace' "$folder/said"
+    fi
 }
 
 echo "| Case | Polls a round | Instructions a poll |"
