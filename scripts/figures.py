@@ -30,13 +30,33 @@ def lines(paths):
     return [line for path in paths for line in read(path)]
 
 
+# The files of crates of theorems that say what is claimed; the others are the reasons.
+CLAIMS = {
+    name + ".antt"
+    for name in (
+        "AnswersRead Claim EveryTrace Follows FromHeader HostCall Letter Lines Met Moves Question Silence SilentTrace Sizes"
+        " Statement Table Waits"
+    ).split()
+}
+
+
 def is_law(path, has_code):
     """Is this file of specs/ read by the checker alone? The others are what a reader holds beside the Rust or document 01, or,
     in a crate of theorems, what is claimed."""
     name = os.path.basename(path)
     if not has_code:
-        return name not in ("Claim.antt", "Table.antt", "Silence.antt", "Letter.antt")
-    return name.endswith("Laws.antt") or name in ("Made.antt", "Examples.antt", "Widths.antt")
+        return name not in CLAIMS
+    return name.endswith("Laws.antt") or name in (
+        "Built.antt",
+        "Examples.antt",
+        "Made.antt",
+        "Neighbours.antt",
+        "Numbers.antt",
+        "Passes.antt",
+        "Stores.antt",
+        "Widths.antt",
+        "Written.antt",
+    )
 
 
 def sizes(crate):

@@ -113,7 +113,7 @@ answerWord a = putAll 0 answerWidths (answerValues a)
 unfoldable pub fullOf : ℕ → Answer
 fullOf w =
     reads answerWidths
-    (λ refusal outcome state kind destination type application high bytes consumed notice its-application its-address next-application next-station zero.
+    (λ refusal outcome state kind destination type application high bytes consumed notice its-application its-address next-application next-station spare.
     record {
       refusal = 0;
       outcome = outcomeOf outcome;
@@ -130,7 +130,7 @@ fullOf w =
 unfoldable pub answerOf : ℕ → Answer
 answerOf w =
     reads answerWidths
-    (λ refusal outcome state kind destination type application high bytes consumed notice its-application its-address next-application next-station zero.
+    (λ refusal outcome state kind destination type application high bytes consumed notice its-application its-address next-application next-station spare.
     cond (eqb refusal 0) (fullOf w) (refusedAnswer refusal state next-application next-station))
     w
 

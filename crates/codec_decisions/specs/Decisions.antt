@@ -16,7 +16,7 @@ decisionWidths = 1 ∷ 1 ∷ 7 ∷ 8 ∷ 7 ∷ []
 unfoldable pub decisionOf : ℕ → Decision
 decisionOf w =
     reads decisionWidths
-    (λ sends expects address length zero. cond (isOne sends) (cond (isOne expects) (SendExpectReply address length) (Send length)) Decline)
+    (λ sends expects address length spare. cond (isOne sends) (cond (isOne expects) (SendExpectReply address length) (Send length)) Decline)
     w
 
 -- 15 for a send of 0 bytes
@@ -29,10 +29,10 @@ unfoldable pub decisionRefusal : ℕ → ℕ
 decisionRefusal w =
     cond (leb (2 ^ 24) w) 14
     (reads decisionWidths
-    (λ sends expects address length zero.
+    (λ sends expects address length spare.
     cond (isOne sends)
-    (cond (eqb zero 0) (cond (isOne expects) (lengthRefusal length) (cond (eqb address 0) (lengthRefusal length) 14)) 14)
-    (zerosOr14 (expects ∷ address ∷ length ∷ zero ∷ [])))
+    (cond (eqb spare 0) (cond (isOne expects) (lengthRefusal length) (cond (eqb address 0) (lengthRefusal length) 14)) 14)
+    (zerosOr14 (expects ∷ address ∷ length ∷ spare ∷ [])))
     w)
 
 -- the values of a decision's fields, in that order

@@ -36,7 +36,7 @@ decisionWordAt s i = loadOf s (8 + 3 * i) 3
 abbrev pub telegramWordAt : List ℕ → ℕ → ℕ → ℕ
 telegramWordAt s n j = loadOf s (8 + 6 * n + 4 * j) 4
 
--- the decision of application a of n; none past the last
+-- the decision of application a of n; past the last it declines
 unfoldable pub decisionAt : List ℕ → ℕ → ℕ → Bool → Decision
 decisionAt s n a high = cond (ltb a n) (decisionOf (decisionWordAt s (2 * a + bitNumber high))) Decline
 
@@ -53,11 +53,15 @@ unfoldable pub wordsRefusal : (ℕ → ℕ) → ℕ → ℕ
 wordsRefusal refusal zero = 0
 wordsRefusal refusal (suc k) = cond (eqb (wordsRefusal refusal k) 0) (refusal k) (wordsRefusal refusal k)
 
+-- the most telegrams that a record lists
+abbrev pub mostTelegrams : ℕ
+mostTelegrams = 8
+
 -- under 8 bytes 12; a count above 8 is 13; a length other than 8 + 6 n + 4 times the count 12; then left to right
 unfoldable pub recordRefusal : List ℕ → ℕ → ℕ
 recordRefusal s n =
     cond (ltb (length s) 8) 12
-    (cond (ltb 8 (countOf s)) 13
+    (cond (ltb mostTelegrams (countOf s)) 13
     (cond (eqb (length s) (8 + 6 * n + 4 * countOf s)) (wordsRefusal (entryRefusal s n) (2 * n + countOf s)) 12))
 
 -- the values of a head's fields, in the order of headWidths
@@ -70,7 +74,7 @@ headWord h = putAll 0 headWidths (headValues h)
 
 -- a head whose numbers fit their widths, with at most 8 telegrams
 abbrev pub HeadFits : Head → Type 0
-HeadFits h = (h .clock < 2 ^ 48) × (h .telegrams ≤ 8) × (h .pending < 2 ^ 11)
+HeadFits h = (h .clock < 2 ^ 48) × (h .telegrams ≤ mostTelegrams) × (h .pending < 2 ^ 11)
 
 -- s with a head written into its first 8 bytes
 unfoldable pub headStored : List ℕ → Head → List ℕ

@@ -1,4 +1,4 @@
--- What a poll record is, byte by byte, and what the calls write (document 01, "Station": poll record). Assumes nothing.
+-- What a poll record is, byte by byte, and what the calls write (document 01, "Station": poll record).
 use Prim.Native.Nat.{ℕ, zero, suc, _+_, _*_, _<_}
 use mathlib.Core.Path.{_≡_}
 use mathlib.Core.List.{List, [], _++_}

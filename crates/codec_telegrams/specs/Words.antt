@@ -29,7 +29,7 @@ telegramWidths = 2 ∷ 7 ∷ 7 ∷ 1 ∷ 2 ∷ 4 ∷ 9 ∷ []
 unfoldable pub telegramOf : ℕ → Telegram
 telegramOf w =
     reads telegramWidths
-    (λ kind destination source request type status zero.
+    (λ kind destination source request type status spare.
     cond (eqb kind 0) (Token destination source)
     (cond (eqb kind 1) ShortConfirmation
     (cond (eqb kind 2) (Request destination source (isOne request)) (Response destination source (responseStateOf type) status))))
@@ -41,10 +41,10 @@ unfoldable pub telegramRefusal : ℕ → ℕ
 telegramRefusal w =
     cond (leb (2 ^ 32) w) 14
     (reads telegramWidths
-    (λ kind destination source request type status zero.
-    cond (eqb kind 0) (zerosOr14 (request ∷ type ∷ status ∷ zero ∷ []))
-    (cond (eqb kind 1) (zerosOr14 (destination ∷ source ∷ request ∷ type ∷ status ∷ zero ∷ []))
-    (cond (eqb kind 2) (zerosOr14 (type ∷ status ∷ zero ∷ [])) (zerosOr14 (request ∷ zero ∷ [])))))
+    (λ kind destination source request type status spare.
+    cond (eqb kind 0) (zerosOr14 (request ∷ type ∷ status ∷ spare ∷ []))
+    (cond (eqb kind 1) (zerosOr14 (destination ∷ source ∷ request ∷ type ∷ status ∷ spare ∷ []))
+    (cond (eqb kind 2) (zerosOr14 (type ∷ status ∷ spare ∷ [])) (zerosOr14 (request ∷ spare ∷ [])))))
     w)
 
 -- the values of a telegram's fields, in that order; fields that its kind does not have are zero
@@ -62,5 +62,5 @@ telegramWord t = putAll 0 telegramWidths (telegramValues t)
 abbrev pub TelegramFits : Telegram → Type 0
 TelegramFits (Token destination source) = (destination < 2 ^ 7) × (source < 2 ^ 7)
 TelegramFits ShortConfirmation = Unit {0}
-TelegramFits (Request destination source status) = (destination < 2 ^ 7) × (source < 2 ^ 7)
+TelegramFits (Request destination source request) = (destination < 2 ^ 7) × (source < 2 ^ 7)
 TelegramFits (Response destination source state status) = (destination < 2 ^ 7) × (source < 2 ^ 7) × (status < 2 ^ 4)

@@ -1,5 +1,6 @@
--- Document 01, "Settings": one rule for each limit. A rule gives its refusal's number, or 0 where the value is taken. Each is used
--- by its setter and by the check of a whole record (settings_build). From the asserts of profirust's ParametersBuilder.
+-- Document 01, "Settings": one rule for each limit. A rule gives its refusal's number, or 0 where the value is taken. Setters, new
+-- settings, the check of a whole record (settings_build), a header and a new station use the same rules. 1 to 7 and the watchdog's 8
+-- are asserts of profirust's ParametersBuilder; 10, 11 and the factors' 8 are document 01's.
 use Prim.Native.Nat.{ℕ, _+_}
 use mathlib.Core.Bool.{cond, _&&_}
 use mathlib.Core.List.{List, [], _∷_}

@@ -19,7 +19,7 @@ use Rattle.station.specs.declared.Station.{Station}
 use Rattle.station.specs.declared.Started.{Started}
 use Rattle.station.specs.declared.Started.the-variants as started
 
--- one part changed
+-- the same core but for one part; withTokenTimes: but for two
 unfoldable pub withState : Core → State → Core
 withState c x = record { «last_token_time» = c .«last_token_time»; «end_token_hold_time» = c .«end_token_hold_time»; «last_bus_activity» = c .«last_bus_activity»; state = x; «gap_state» = c .«gap_state»; «pending_bytes» = c .«pending_bytes»; «next_application» = c .«next_application»; online = c .online }
 
@@ -46,14 +46,14 @@ abbrev pub stateNumber : State → ℕ
 stateNumber Offline = 0
 stateNumber (ListenToken request collisions) = 1
 stateNumber (ActiveIdle request newPreviousStation collisions) = 2
-stateNumber (UseToken held cycle) = 3
+stateNumber (UseToken held cycled) = 3
 stateNumber (ClaimToken first) = 4
 stateNumber (AwaitDataResponse address held) = 5
 stateNumber (PassToken gap attempt) = 6
 stateNumber (CheckTokenPass attempt) = 7
 stateNumber (AwaitStatusResponse address) = 8
 
--- no time
+-- the time 0
 abbrev pub zeroTime : Micros
 zeroTime = record { 0 = 0 }
 

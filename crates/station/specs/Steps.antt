@@ -4,7 +4,7 @@ use Prim.Native.Nat.{ℕ, _+_, _*_}
 use mathlib.Core.Bool.{Bool, true, false, cond}
 use lib.Dec.{ltb, leb, eqb}
 use Rattle.bit_times.specs.declared.Micros.{Micros}
-use Rattle.bit_times.specs.Times.{timeOf}
+use Rattle.bit_times.specs.Times.{pauseBits, byteBits, timeOf}
 use Rattle.settings.specs.declared.Parameters.{Parameters}
 use Rattle.settings.specs.Settings.{slotTimeOf, tokenLostOf}
 use Rattle.ring.specs.declared.Ring.{Ring}
@@ -37,7 +37,7 @@ withTokenTime now = record { «token_time» = now; «first_app» = optionApplica
 unfoldable pub toListenToken : Core → Core
 toListenToken c = withState c (ListenToken optionAddress.None 0)
 
--- State::transition_active_idle: it clears request, predecessor and collisions. A remembered predecessor is cleared only here
+-- State::transition_active_idle: it clears request, predecessor and collisions. While in ActiveIdle nothing else clears a remembered predecessor
 unfoldable pub toActiveIdle : Core → Core
 toActiveIdle c = withState c (ActiveIdle optionAddress.None optionAddress.None 0)
 
@@ -93,13 +93,13 @@ waitedOf a now time = record { last = knownAt a now; over = elapsedOf now (known
 
 -- wait_synchronization_pause: 33 bits
 unfoldable pub pauseOf : Parameters → Activity → Micros → Waited
-pauseOf p a now = waitedOf a now (timeOf (record { 0 = 33 }) (p .baudrate))
+pauseOf p a now = waitedOf a now (timeOf (record { 0 = pauseBits }) (p .baudrate))
 
 -- mark_tx: sending n bytes sets last activity to now + time of 11n bits
 unfoldable pub sentAt : Parameters → Micros → ℕ → Activity
-sentAt p now bytes = activity.At (record { 0 = now .0 + timeOf (record { 0 = 11 * bytes }) (p .baudrate) .0 })
+sentAt p now bytes = activity.At (record { 0 = now .0 + timeOf (record { 0 = byteBits * bytes }) (p .baudrate) .0 })
 
--- check_for_bus_activity: fewer pending bytes than were known change nothing
+-- check_for_bus_activity: more pending bytes than were known mark the bus active and are kept; as many or fewer change nothing
 unfoldable pub busActivityOf : Core → Micros → ℕ → Core
 busActivityOf c now pending =
     cond (ltb (c .«pending_bytes») pending) (withPending (withActivity c (markedAt (c .«last_bus_activity») now)) pending) c

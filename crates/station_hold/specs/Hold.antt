@@ -81,13 +81,17 @@ askedFrom (suc k) bytes n a first high =
 unfoldable pub askedOf : List ℕ → ℕ → ℕ → OptionApplication → Bool → Asked
 askedOf bytes n a first high = askedFrom n bytes n a first high
 
+-- what a gap poll may take besides its slot, in bits
+abbrev pub gapAllowance : ℕ
+gapAllowance = 100
+
 -- do_use_token: the time of a gap poll, slot bits + 100, is taken off while the gap is polled
 unfoldable pub holdLess : Parameters → GapState → Micros
 holdLess p (Waiting count) = zeroTime
-holdLess p (DoPoll address) = timeOf (record { 0 = p .«slot_bits» + 100 }) (p .baudrate)
+holdLess p (DoPoll address) = timeOf (record { 0 = p .«slot_bits» + gapAllowance }) (p .baudrate)
 
 -- do_use_token: a new token time sets the end of hold to the last token time + rotation time, less the gap poll's
--- (the same time as the last one's is found only in later polls of one hold)
+-- (a token time equal to the last one does not renew it)
 unfoldable pub holdEndOf : Parameters → Core → Micros → Core
 holdEndOf p c token =
     cond (eqb (c .«last_token_time» .0) (token .0)) c

@@ -61,7 +61,7 @@ token-heard = 0 ∷ 0 ∷ 0 ∷ 0 ∷ 0 ∷ 100 ∷ 8 ∷ 0 ∷ 0 ∷ 0 ∷ 0 �
 abbrev pub earlier : List Entry
 earlier = record { kind = 0; bytes = [] } ∷ pollEntries (silentAt 1 0 ∷ token-heard ∷ silentAt 1 6600 ∷ silentAt 1 6800 ∷ silentAt 1 7000 ∷ [])
 
--- four silent pollEntries, each a token and a slot after the one before
+-- four silent polls, each a token and a slot after the one before
 abbrev pub silent-records : List (List ℕ)
 silent-records = silentAt 1 7266 ∷ silentAt 1 7732 ∷ silentAt 1 8198 ∷ silentAt 1 8664 ∷ []
 

@@ -103,7 +103,7 @@ pub record SilentTrace (trace before : List ℕ) : Type 0 where
 abbrev pub passingStation : {trace before : List ℕ} → SilentTrace trace before → Station
 passingStation t = along (t .fresh) (t .earlier) .station
 
--- the answers to the silent pollEntries, read from a buffer
+-- the answers to the silent polls, read from a buffer
 abbrev pub silentAnswers : {trace before : List ℕ} → SilentTrace trace before → List ℕ → List Unpacked
 silentAnswers t left = answersFrom left (length (t .earlier)) (length (t .records))
 

@@ -6,7 +6,7 @@ use native.Mathlib.Omega.{arith}
 use borrow.Author.Tests.{le-leb, lt-leb, leb-true}
 use lib.Dec.{leb}
 use Rattle.bit_times.specs.declared.Micros.{Micros}
-use Rattle.bit_times.specs.Times.{leastSlotBits, timeOf}
+use Rattle.bit_times.specs.Times.{pauseBits, leastSlotBits, timeOf}
 use Rattle.bit_times.specs.Laws.{listed, time-grows}
 use Rattle.settings.specs.declared.Parameters.{Parameters}
 use Rattle.ring_addresses.specs.SetLaws.{true≢false}
@@ -28,7 +28,7 @@ slot-bits-least p e = below-in _ _ 2 (omega arith) (rw (listed (p .baudrate) .ba
 
 -- the time of the pause
 abbrev pub pauseTime : Parameters → ℕ
-pauseTime p = timeOf (record { 0 = 33 }) (p .baudrate) .0
+pauseTime p = timeOf (record { 0 = pauseBits }) (p .baudrate) .0
 
 -- accepted settings: the slot time is not zero, and the pause is not longer
 pub record Slotted (p : Parameters) : Type 0 where
@@ -58,7 +58,7 @@ module _ (p : Parameters) (w : Slotted p) (a : Activity) (now : Micros) where
   unfolding slotAfter pauseOf elapsedOf knownAt
   counted-paused = go a
     where
-      go : (a : Activity) → slotAfter a (now .0) (slotTimeOf p .0) ≡ true → elapsedOf now (knownAt a now) (timeOf (record { 0 = 33 }) (p .baudrate)) ≡ true
+      go : (a : Activity) → slotAfter a (now .0) (slotTimeOf p .0) ≡ true → elapsedOf now (knownAt a now) (timeOf (record { 0 = pauseBits }) (p .baudrate)) ≡ true
       go activity.Unknown e = absurd (true≢false (sym e))
       go (activity.At last) e = le-leb (last .0 + pauseTime p) (now .0) (omega (arith, leb-true (last .0 + slotTimeOf p .0) (now .0) e, w .pause))
 

@@ -9,7 +9,7 @@ use borrow.Author.Tests.{leb-true, leb-false}
 use lib.Dec.{eqb}
 use lib.ListN.{getD}
 use Rattle.bit_times.specs.declared.Micros.{Micros}
-use Rattle.bit_times.specs.Times.{timeOf}
+use Rattle.bit_times.specs.Times.{pauseBits, timeOf}
 use Rattle.settings.specs.declared.Parameters.{Parameters}
 use Rattle.settings.specs.Settings.{slotTimeOf}
 use Rattle.station.specs.declared.Activity.{Activity}
@@ -52,7 +52,7 @@ FirstAttempt (AwaitStatusResponse address) = Unit {0}
 
 -- the slot is not shorter than the pause
 abbrev pub SlotCoversPause : Parameters → Type 0
-SlotCoversPause p = timeOf (record { 0 = 33 }) (p .baudrate) .0 ≤ slotTimeOf p .0
+SlotCoversPause p = timeOf (record { 0 = pauseBits }) (p .baudrate) .0 ≤ slotTimeOf p .0
 
 -- so it is where the slot has at least 33 bits; accepted settings have at least 100
 pub slot-covers-pause : (p : Parameters) → 33 ≤ p .«slot_bits» → SlotCoversPause p
@@ -68,7 +68,7 @@ pub record Follows (p : Parameters) (x y : State) : Type 0 where
 pub covered : (p : Parameters) (a : Activity) (now : Micros) → SlotCoversPause p → slotExpiredOf p a now .over ≡ true → pauseOf p a now .over ≡ false → ⊥
 unfolding slotExpiredOf pauseOf elapsedOf
 covered p a now s e f =
-    omega (arith, leb-true (knownAt a now .0 + slotTimeOf p .0) (now .0) e, leb-false (knownAt a now .0 + timeOf (record { 0 = 33 }) (p .baudrate) .0) (now .0) f)
+    omega (arith, leb-true (knownAt a now .0 + slotTimeOf p .0) (now .0) e, leb-false (knownAt a now .0 + timeOf (record { 0 = pauseBits }) (p .baudrate) .0) (now .0) f)
 
 -- The table and the assertions: each state that the table has is joined to the one before by at most two transitions, each from a state
 -- that its `debug_assert_state!` names, or is Offline by set_offline. By the numbers of the states: the ones a transition may start from.

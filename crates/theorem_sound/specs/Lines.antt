@@ -6,7 +6,7 @@ use mathlib.Core.Path.{_≡_}
 use mathlib.Core.Logic.{_⊎_}
 use Rattle.bit_times.specs.declared.Micros.{Micros}
 use Rattle.bit_times.specs.declared.Baud.{Baud}
-use Rattle.bit_times.specs.Times.{timeOf}
+use Rattle.bit_times.specs.Times.{byteBits, clockEnd, timeOf}
 use Rattle.settings.specs.declared.Parameters.{Parameters}
 use Rattle.settings.specs.Settings.{rotationTimeOf}
 use Rattle.ring.specs.declared.GapState.{GapState}
@@ -83,7 +83,7 @@ LastToken (AwaitStatusResponse address) last = Unit {0}
 -- The last bus activity is at most the time of 255 bytes after a time that a clock can show.
 abbrev pub ActivityFits : Baud → Activity → Type 0
 ActivityFits baud activity.Unknown = Unit {0}
-ActivityFits baud (activity.At last) = last .0 < 2 ^ 48 + timeOf (record { 0 = 11 * 255 }) baud .0
+ActivityFits baud (activity.At last) = last .0 < clockEnd + timeOf (record { 0 = byteBits * 255 }) baud .0
 
 -- no token was used yet but one that came at the clock 0: last token time and end of hold are a fresh station's
 pub record NoToken (last : Micros) (end : HoldEnd) : Type 0 where

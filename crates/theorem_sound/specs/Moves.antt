@@ -10,6 +10,7 @@ use mathlib.Core.Bool.{Bool, true, false, cond}
 use mathlib.Core.Path.{_≡_}
 use mathlib.Core.List.{List, [], _∷_}
 use lib.Dec.{eqb}
+use Rattle.bit_times.specs.Times.{clockEnd}
 use Rattle.bit_times.specs.declared.Micros.{Micros}
 use Rattle.settings.specs.declared.Parameters.{Parameters}
 use Rattle.ring.specs.declared.GapState.{GapState}
@@ -81,7 +82,7 @@ OneOf n (optionApplication.Some a) = a < n
 
 -- A time that a clock can show: 48 bits.
 abbrev pub Clock : Micros → Type 0
-Clock t = t .0 < 2 ^ 48
+Clock t = t .0 < clockEnd
 
 -- a token's data: its time is a clock's, its first application one of n
 pub record HeldFits (n : ℕ) (held : UseTokenData) : Type 0 where

@@ -1,4 +1,5 @@
--- Two waits, of every poll of every run of calls, as statements; the proofs are in Guarded.antt.
+-- Two waits, of every poll of every run of calls, as statements; the proofs are in WaitsProof.antt, over
+-- Guarded.antt.
 --
 --   No send before the pause. A poll that sends anything comes at least the time of 33 bits after the last bus activity, which was
 --   known before the poll. This is so of every send: both tokens of a claim, a token passed on or sent again, a status request, a status
@@ -13,7 +14,7 @@ use mathlib.Core.Bool.{true}
 use mathlib.Core.Path.{_≡_}
 use mathlib.Core.List.{List, [], _∷_}
 use Rattle.bit_times.specs.declared.Micros.{Micros}
-use Rattle.bit_times.specs.Times.{timeOf}
+use Rattle.bit_times.specs.Times.{pauseBits, timeOf}
 use Rattle.settings.specs.declared.Parameters.{Parameters}
 use Rattle.settings.specs.Settings.{slotTimeOf}
 use Rattle.codec_answers.specs.declared.Sent.{Sent}
@@ -48,7 +49,7 @@ pub record Since (a : Activity) (now time : Micros) : Type 0 where
 
 -- the synchronization pause, 33 bits
 abbrev pub syncPause : Parameters → Micros
-syncPause p = timeOf (record { 0 = 33 }) (p .baudrate)
+syncPause p = timeOf (record { 0 = pauseBits }) (p .baudrate)
 
 -- no send before the pause: of a station and a call
 abbrev pub PauseKept : Station → Call → Type 0

@@ -28,9 +28,19 @@ startedAfter (created.Refused refusal) n = started.Refused refusal
 unfoldable pub startedOf : Header → Started
 startedOf h = cond (eqb (headerRefusal h) 0) (startedAfter (buildOf (h .settings)) (h .applications)) (started.Refused (headerRefusal h))
 
+-- document 01, "Trace": the bytes of a header, of an answer, and the most bytes of a trace
+abbrev pub headerLength : ℕ
+headerLength = 16
+
+abbrev pub answerLength : ℕ
+answerLength = 8
+
+abbrev pub longestTrace : ℕ
+longestTrace = 2 ^ 32
+
 -- the station that a trace starts: 17 where it ends inside its header or has more than 2^32 bytes, before all else
 unfoldable pub startOf : List ℕ → Started
-startOf trace = cond (leb 16 (length trace) && leb (length trace) (2 ^ 32)) (startedOf (headerOf trace)) (started.Refused 17)
+startOf trace = cond (leb headerLength (length trace) && leb (length trace) longestTrace) (startedOf (headerOf trace)) (started.Refused 17)
 
 -- a run over entries: the answers given, the station after them, and the number that it ended with
 pub record Run : Type 0 where
@@ -54,9 +64,9 @@ runFrom zero s entries room = ended s 0
 runFrom (suc most) s [] room = ended s 0
 runFrom (suc most) s (kind ∷ rest) room =
     cond (ltb (length rest) (recordLength kind)) (ended s 17)
-    (cond (ltb room 8) (ended s 18)
+    (cond (ltb room answerLength) (ended s 18)
     (answered (entryOf s kind (take (recordLength kind) rest) .answer)
-    (runFrom most (entryOf s kind (take (recordLength kind) rest) .station) (drop (recordLength kind) rest) (room - 8))))
+    (runFrom most (entryOf s kind (take (recordLength kind) rest) .station) (drop (recordLength kind) rest) (room - answerLength))))
 
 -- the run over entries: there are no more of them than bytes
 abbrev pub runOf : Station → List ℕ → ℕ → Run
@@ -73,7 +83,7 @@ came run = record { answers = run .answers; ending = run .ending }
 
 -- the run over what follows a trace's header
 unfoldable pub ranOf : Station → List ℕ → ℕ → Replay
-ranOf s trace room = came (runOf s (drop 16 trace) room)
+ranOf s trace room = came (runOf s (drop headerLength trace) room)
 
 -- a refused header gives no answer; else the run over what follows it
 unfoldable pub replayOn : Started → List ℕ → ℕ → Replay

@@ -20,7 +20,7 @@ headerAt high low =
     reads highWidths
     (λ address baud slot rotation.
     reads lowWidths
-    (λ gap hsa retry min-tsdr applications factor-1 factor-2 zero.
+    (λ gap hsa retry min-tsdr applications factor-1 factor-2 spare.
     record {
       settings = record {
         «token_rotation_bits» = rotation;
@@ -35,7 +35,7 @@ headerAt high low =
         «factor_2» = factor-2;
       };
       applications = applications;
-      «zero_bits» = zero;
+      «zero_bits» = spare;
     })
     low)
     high
@@ -44,7 +44,8 @@ headerAt high low =
 unfoldable pub headerOf : List ℕ → Header
 headerOf trace = headerAt (loadOf trace 0 8) (loadOf trace 8 8)
 
--- a header's first refusal, in document 01's order: 1, 10, 2, 3, 4, 5, 6, 7 (`earlyRefusal`), then 11, 8, 14
+-- a header's first refusal, in document 01's order: 1, 10, 2, 3, 4, 5, 6, 7 (`earlyRefusal`), then 11, 8, 14; 17 comes
+-- before (`startOf` of trace)
 unfoldable pub headerRefusal : Header → ℕ
 headerRefusal h =
     firstOf
