@@ -73,6 +73,7 @@ pub factors-ruled : (ms : ℕ) → 0 < ms → ms / 10 ≤ 65025 → factorsOf ms
 unfolding factorsRule
 factors-ruled ms h l = rw (factors-by-rule ms, ne-eqb ms 0 (λ e. omega arith), le-ltb 65025 (ms / 10) l)
 
+-- so that it has factors
 pub factors-given : (ms : ℕ) → 0 < ms → ms / 10 ≤ 65025 → (f1 : ℕ) × (f2 : ℕ) × (factorsOf ms ≡ factored.Factors f1 f2)
 factors-given ms h l = (firstFactor (ms / 10), ceilOf (ms / 10) (firstFactor (ms / 10)), factors-ruled ms h l)
 
