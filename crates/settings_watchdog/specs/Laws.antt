@@ -9,7 +9,7 @@ use native.Mathlib.Nat.{div-lt-iff-lt-mul, le-div-iff-mul-le, eq-or-lt-of-le}
 use borrow.Author.Tests.{lt-ltb, le-ltb, ltb-true, ltb-false, ne-eqb}
 use borrow.Table.Steps.{cases}
 use Rattle.settings_watchdog.specs.declared.Factored.the-variants as factored
-use Rattle.settings_watchdog.specs.Watchdog.{ceilOf, trial, factorsOf, firstFactor, factorsRule}
+use Rattle.settings_watchdog.specs.Watchdog.{ceilOf, trial, factorsOf, mostUnits, firstFactor, factorsRule}
 
 -- f1 is the least of the numbers from f on, before f + k, with u / f1 rounded up below 256, and f2 is that quotient
 pub record LeastFrom (u k f f1 f2 : ℕ) : Type 0 where
@@ -42,7 +42,7 @@ ceil-high : (u f : ℕ) → 1 ≤ f → 255 * f < u → 256 ≤ ceilOf u f
 ceil-high u f p h = le-div-iff-mul-le p .1 (omega arith)
 
 -- of at most 65,025 units, the rule's first factor is the least in 1..255 that will do
-rule-least : (u : ℕ) → u ≤ 65025 → LeastFrom u 255 1 (firstFactor u) (ceilOf u (firstFactor u))
+rule-least : (u : ℕ) → u ≤ mostUnits → LeastFrom u 255 1 (firstFactor u) (ceilOf u (firstFactor u))
 rule-least u h =
     record {
       from = omega arith;
@@ -55,23 +55,23 @@ rule-least u h =
 -- document 02, P2: for every time the rule gives what the trial gives, refusals included
 pub factors-by-rule : (ms : ℕ) → factorsOf ms ≡ factorsRule ms
 unfolding factorsOf factorsRule
-factors-by-rule ms = cases (eqb ms 0) (λ t. rw t) (λ f. rw f (cases (ltb 65025 (ms / 10)) (λ t. rw t (refused (ltb-true _ _ t))) (λ f. rw f (given (ltb-false _ _ f)))))
+factors-by-rule ms = cases (eqb ms 0) (λ t. rw t) (λ f. rw f (cases (ltb mostUnits (ms / 10)) (λ t. rw t (refused (ltb-true _ _ t))) (λ f. rw f (given (ltb-false _ _ f)))))
   where
-    refused : 65025 < ms / 10 → trial (ms / 10) 255 1 ≡ factored.Refused 9
+    refused : mostUnits < ms / 10 → trial (ms / 10) 255 1 ≡ factored.Refused 9
     refused h = trial-none (ms / 10) 255 1 (λ e a b. ceil-high (ms / 10) e a (omega arith))
 
-    given : ms / 10 ≤ 65025 → trial (ms / 10) 255 1 ≡ factored.Factors (firstFactor (ms / 10)) (ceilOf (ms / 10) (firstFactor (ms / 10)))
+    given : ms / 10 ≤ mostUnits → trial (ms / 10) 255 1 ≡ factored.Factors (firstFactor (ms / 10)) (ceilOf (ms / 10) (firstFactor (ms / 10)))
     given h = let r = rule-least (ms / 10) h in trial-at (ms / 10) 255 1 (firstFactor (ms / 10)) (r .from) (r .before) (r .least) (r .small)
 
 -- a time of more than 65,025 units of 10 ms has no factors: refusal 9
 pub factors-refused : (ms : ℕ) → 65025 < ms / 10 → factorsOf ms ≡ factored.Refused 9
 unfolding factorsRule
-factors-refused ms h = rw (factors-by-rule ms, ne-eqb ms 0 (λ e. omega arith), lt-ltb 65025 (ms / 10) h)
+factors-refused ms h = rw (factors-by-rule ms, ne-eqb ms 0 (λ e. omega arith), lt-ltb mostUnits (ms / 10) h)
 
 -- every other time but 0 has the rule's factors
 pub factors-ruled : (ms : ℕ) → 0 < ms → ms / 10 ≤ 65025 → factorsOf ms ≡ factored.Factors (firstFactor (ms / 10)) (ceilOf (ms / 10) (firstFactor (ms / 10)))
 unfolding factorsRule
-factors-ruled ms h l = rw (factors-by-rule ms, ne-eqb ms 0 (λ e. omega arith), le-ltb 65025 (ms / 10) l)
+factors-ruled ms h l = rw (factors-by-rule ms, ne-eqb ms 0 (λ e. omega arith), le-ltb mostUnits (ms / 10) l)
 
 -- so that it has factors
 pub factors-given : (ms : ℕ) → 0 < ms → ms / 10 ≤ 65025 → (f1 : ℕ) × (f2 : ℕ) × (factorsOf ms ≡ factored.Factors f1 f2)
@@ -80,7 +80,7 @@ factors-given ms h l = (firstFactor (ms / 10), ceilOf (ms / 10) (firstFactor (ms
 -- any factors that a time has: f1 is the least in 1..255 with u / f1 rounded up below 256, and f2 is that quotient
 pub factors-least : (ms f1 f2 : ℕ) → factorsOf ms ≡ factored.Factors f1 f2 → LeastFrom (ms / 10) 255 1 f1 f2
 unfolding factorsRule
-factors-least ms f1 f2 e = cases (eqb ms 0) (λ t. none t) (λ f. cases (ltb 65025 (ms / 10)) (λ t. refused f t) (λ g. given f g))
+factors-least ms f1 f2 e = cases (eqb ms 0) (λ t. none t) (λ f. cases (ltb mostUnits (ms / 10)) (λ t. refused f t) (λ g. given f g))
   where
     ruled : factorsRule ms ≡ factored.Factors f1 f2
     ruled = rw (← factors-by-rule ms) e
@@ -91,13 +91,13 @@ factors-least ms f1 f2 e = cases (eqb ms 0) (λ t. none t) (λ f. cases (ltb 650
         let z : _≡_ {A = ℕ} 0 1 = cc in
         absurd (omega arith)
 
-    refused : eqb ms 0 ≡ false → ltb 65025 (ms / 10) ≡ true → LeastFrom (ms / 10) 255 1 f1 f2
+    refused : eqb ms 0 ≡ false → ltb mostUnits (ms / 10) ≡ true → LeastFrom (ms / 10) 255 1 f1 f2
     refused f t =
         let s : factored.Refused 9 ≡ factored.Factors f1 f2 = rw (f, t) at ruled in
         let z : _≡_ {A = ℕ} 0 1 = cc in
         absurd (omega arith)
 
-    given : eqb ms 0 ≡ false → ltb 65025 (ms / 10) ≡ false → LeastFrom (ms / 10) 255 1 f1 f2
+    given : eqb ms 0 ≡ false → ltb mostUnits (ms / 10) ≡ false → LeastFrom (ms / 10) 255 1 f1 f2
     given f g =
         let s : factored.Factors (firstFactor (ms / 10)) (ceilOf (ms / 10) (firstFactor (ms / 10))) ≡ factored.Factors f1 f2 = rw (f, g) at ruled in
         let a : firstFactor (ms / 10) ≡ f1 = cc in

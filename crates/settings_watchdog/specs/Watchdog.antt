@@ -39,6 +39,10 @@ factorsOf ms = cond (eqb ms 0) factored.None (trial (ms / 10) 255 1)
 abbrev pub unitsOf : ℕ → ℕ
 unitsOf ms = ms / 10
 
+-- document 01, refusal 9: the most units that two factors make, 255 × 255
+abbrev pub mostUnits : ℕ
+mostUnits = 65025
+
 -- document 02, P2: the first factor is the units divided by 255, rounded up, and at least 1
 abbrev pub firstFactor : ℕ → ℕ
 firstFactor u = max 1 (ceilOf u 255)
@@ -48,7 +52,7 @@ firstFactor u = max 1 (ceilOf u 255)
 unfoldable pub factorsRule : ℕ → Factored
 factorsRule ms =
     let u = unitsOf ms in
-    cond (eqb ms 0) factored.None (cond (ltb 65025 u) (factored.Refused 9) (factored.Factors (firstFactor u) (ceilOf u (firstFactor u))))
+    cond (eqb ms 0) factored.None (cond (ltb mostUnits u) (factored.Refused 9) (factored.Factors (firstFactor u) (ceilOf u (firstFactor u))))
 
 -- Parameters::watchdog_timeout: f1 × f2 × 10 ms, where there are factors
 unfoldable pub watchdogTimeOf : WatchdogFactors → Timeout

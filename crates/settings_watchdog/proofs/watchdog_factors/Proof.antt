@@ -13,7 +13,7 @@ unfolding factorsOf
 returns c = rw (eq-eqb _ _ (c .if1 .taken))
 
 returns-2 : tie.Need-returns-2
-returns-2 c = sym (factors-refused _ (omega arith))
+returns-2 c = rw (factors-refused (c .before .before .before .args .ms) (omega arith))
 
 cast-t7 : tie.Need-cast-t7
 cast-t7 c =
