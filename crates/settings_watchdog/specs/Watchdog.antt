@@ -1,4 +1,5 @@
--- Document 01, "Settings": the watchdog's two factors, refusal 9, and the time that they make, beside profirust's parameters.rs.
+-- Document 01, "Settings": the watchdog's two factors, refusal 9, and the time that they make, beside profirust's parameters.rs;
+-- and document 02, P2: the same factors by a rule.
 -- A refusal is document 01's number. `cond t a b` is a if the test t holds, else b.
 use Prim.Native.Nat.{ℕ, zero, suc, _+_, _-_, _*_, _/_, max}
 use mathlib.Core.Bool.{cond}
@@ -47,12 +48,13 @@ mostUnits = 65025
 abbrev pub firstFactor : ℕ → ℕ
 firstFactor u = max 1 (ceilOf u 255)
 
--- document 02, P2: the factors without a trial. No time has none; more than 65,025 units are refused with 9; else the first
--- factor, and the units divided by it, rounded up. It is `factorsOf` (Laws.antt, factors-by-rule).
+-- document 02, P2: the factors without a trial. 0 ms have none; more than 65,025 units are refused with 9; else they are the
+-- first factor, and the units divided by it, rounded up. It gives what `factorsOf` gives (factors-by-rule of Laws.antt).
 unfoldable pub factorsRule : ℕ → Factored
 factorsRule ms =
     let u = unitsOf ms in
-    cond (eqb ms 0) factored.None (cond (ltb mostUnits u) (factored.Refused 9) (factored.Factors (firstFactor u) (ceilOf u (firstFactor u))))
+    let f1 = firstFactor u in
+    cond (eqb ms 0) factored.None (cond (ltb mostUnits u) (factored.Refused 9) (factored.Factors f1 (ceilOf u f1)))
 
 -- Parameters::watchdog_timeout: f1 × f2 × 10 ms, where there are factors
 unfoldable pub watchdogTimeOf : WatchdogFactors → Timeout

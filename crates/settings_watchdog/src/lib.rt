@@ -4,7 +4,7 @@
 // trial. It leans on bit_times.
 ghost use mathlib.Core.Path.{_≡_};
 ghost use Prim.Native.Nat.{_≤_, _<_, _^_};
-ghost use Rattle.settings_watchdog.specs.Watchdog.{ceilOf, unitsOf, firstFactor, factorsOf, watchdogTimeOf};
+ghost use Rattle.settings_watchdog.specs.Watchdog.{ceilOf, unitsOf, mostUnits, firstFactor, factorsOf, watchdogTimeOf};
 use bit_times::Micros;
 
 // Option<(u8, u8)> of the watchdog factors.
@@ -46,7 +46,7 @@ pub fn units_of(ms: u64) -> u64
 
 // The first factor: the units divided by 255, rounded up, and at least 1.
 fn first_factor(units: u64) -> u64
-    requires { ⌜ units ≤ 65025 ⌝ }
+    requires { ⌜ units ≤ mostUnits ⌝ }
     ensures { λ r. ⌜ r ≡ firstFactor units ⌝ }
 {
     let f1 = ceil(units, 255);
@@ -56,8 +56,8 @@ fn first_factor(units: u64) -> u64
     f1
 }
 
-// watchdog_factors: the two factors of a time in milliseconds, by the rule of document 02, P2. It gives what the Rust finds
-// by trial, and refuses what the Rust refuses.
+// watchdog_factors: the two factors of a time in milliseconds, by the rule of document 02, P2. Each answer is that of
+// document 01's trial, refusals included.
 pub fn watchdog_factors(ms: u64) -> Factored
     ensures { λ r. ⌜ r ≡ factorsOf ms ⌝ }
 {
