@@ -41,6 +41,10 @@ find_runner
 target/oracle/release/settings_table | cmp - crates/run_settings_table/stdout ||
     fail "crates/run_settings_table/stdout is not what the published parameters.rs answers"
 echo "settings: $(wc -l <crates/run_settings_table/stdout) lines of the published parameters.rs, 0 differ"
+mapfile -t times <crates/run_watchdog/args
+target/oracle/release/watchdog_lines "${times[@]}" | cmp - crates/run_watchdog/stdout ||
+    fail "crates/run_watchdog/stdout is not what the published parameters.rs answers"
+echo "watchdog: ${#times[@]} times by the published parameters.rs, 0 differ"
 
 target/oracle/release/compare_ring "$seed" "$sequences" -- "${runner[@]}" target/bin/ring_replay ||
     fail "the ring is not the model's, or was not compared (seed $seed)"
