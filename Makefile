@@ -1,29 +1,34 @@
-# The commands of README.md. Each is a script under scripts/, which says on one line what it lacks.
-# TRACE=file, OUT=file, MS=n, SEED=n and COUNT=m on the command line reach the scripts through the environment.
-.PHONY: test replay explain picture watchdog compare speed figures
+# The commands of README.md. Each is a script under scripts/, which says on one line what it lacks. Variables on the command
+# line reach the scripts through the environment. `make help` prints what stands after each ##, variables in brackets first.
+.DEFAULT_GOAL := help
+.PHONY: help test replay explain picture watchdog compare speed figures
 
-test:
+help: ## prints this list
+	@awk -F ': ## ' '/^[a-z]+: ## / { \
+		command = "make " $$1; says = $$2; \
+		while (match(says, /^\[[^]]*\] /)) { command = command " " substr(says, 1, RLENGTH - 1); says = substr(says, RLENGTH + 1) } \
+		printf "%-44s %s\n", command, says }' Makefile
+
+test: ## [RT_JOBS=n] [SEED=n] [TRACES=m] the gate: checks, proofs from nothing, must-fail edits, comparisons with Rust, hosts
 	@bash scripts/test.sh
 
-replay:
+replay: ## [TRACE=file] replays a trace with the proved program: answers as hexadecimal digits
 	@bash scripts/replay.sh
 
-explain:
+explain: ## [TRACE=file] [FROM=n] [TO=m] the same answers in words, a line for each entry
 	@bash scripts/explain.sh
 
-picture:
+picture: ## [TRACE=file] [OUT=file] [FROM=n] [TO=m] the same as a picture that any browser opens
 	@bash scripts/picture.sh
 
 watchdog: ## [MS=n] how the two watchdog factors of n milliseconds come about, as the proved calls give them
 	@bash scripts/watchdog.sh
 
-# m generated traces of seed n through the proved trace call and the published Rust: make compare SEED=n COUNT=m
-compare:
+compare: ## [SEED=n] [COUNT=m] m generated traces of seed n through the proved library and the published Rust
 	@bash scripts/compare_traces.sh
 
-# Entries per second of both on one long ordinary trace.
-speed:
+speed: ## [ENTRIES=n] entries a second of both on one long trace
 	@bash scripts/speed.sh
 
-figures:
+figures: ## counts each crate anew: the tables of docs/CRATES.md and README.md
 	@python3 scripts/figures.py

@@ -6,17 +6,11 @@ mod replacements;
 use std::path::Path;
 
 fn main() {
-    for file in [
-        "build.rs",
-        "build/replacements.rs",
-        "build/watch.rs",
-        "published/active.rs",
-    ] {
+    for file in ["build.rs", "build/replacements.rs", "build/watch.rs", "published/active.rs"] {
         println!("cargo:rerun-if-changed={}", file);
     }
     let published_helpers = std::env::var_os("CARGO_FEATURE_PUBLISHED_HELPERS").is_some();
-    let published =
-        std::fs::read_to_string("published/active.rs").expect("published/active.rs can be read");
+    let published = std::fs::read_to_string("published/active.rs").expect("published/active.rs can be read");
     let text = match replacements::station_text(&published, published_helpers) {
         Ok(text) => text,
         Err(said) => panic!("{}", said),

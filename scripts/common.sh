@@ -1,5 +1,10 @@
 # What the scripts share. A script sets `me`, the name that its messages begin with, goes to the repository's root and
 # reads this file.
+# shellcheck shell=bash
+# shellcheck disable=SC2034,SC2154 # what is set here is read by the scripts, and they set `me`
+
+# A command that fails in $(..) ends it, as it ends the script.
+shopt -s inherit_errexit
 
 # Ends the script with one line.
 fail() {
@@ -7,13 +12,16 @@ fail() {
     exit 1
 }
 
+# The scripts are told by variables.
+[ $# -eq 0 ] || fail "it takes variables and no words: $*"
+
 # need PROGRAM PACKAGE..: the program is on the PATH. Root can have it from these Debian packages.
 need() {
     local program=$1
     shift
     command -v "$program" >/dev/null 2>&1 && return
     local lacks="$program is not on the PATH: install it (Debian: apt-get install $*)"
-    [ "$(id -u)" -eq 0 ] && command -v apt-get >/dev/null 2>&1 || fail "$lacks"
+    { [ "$(id -u)" -eq 0 ] && command -v apt-get >/dev/null 2>&1; } || fail "$lacks"
     apt_install "$@" || { apt-get update >/dev/null 2>&1 && apt_install "$@"; } || fail "$lacks; apt-get could not install it"
     command -v "$program" >/dev/null 2>&1 || fail "$lacks"
 }
@@ -64,7 +72,7 @@ find_runner() {
 find_trace() {
     trace=${TRACE:-traces/example12.trace}
     [ -e "$trace" ] || fail "there is no file $trace"
-    [ -f "$trace" ] && [ -r "$trace" ] || fail "$trace is not a file that can be read"
+    { [ -f "$trace" ] && [ -r "$trace" ]; } || fail "$trace is not a file that can be read"
     size=$(($(wc -c <"$trace")))
 }
 
@@ -89,15 +97,30 @@ build_staticlib() {
     need_rt
     quietly "the library amsulfezd was not proved" rt check amsulfezd
     [ -f target/staticlib/libamsulfezd.a ] && cmp -s target/stamp/amsulfezd target/staticlib/stamp && return
+    rm -f target/staticlib/stamp
     quietly "the library amsulfezd was not proved" rt staticlib amsulfezd
-    cp target/stamp/amsulfezd target/staticlib/stamp 2>/dev/null
+    cp target/stamp/amsulfezd target/staticlib/stamp 2>/dev/null || rm -f target/staticlib/stamp
 }
 
-# host_cargo WORD..: cargo on the package of hosts/rust, in a folder of its own for each library linked or not.
+# host_cargo WORD..: cargo on the packages of hosts/rust, without the proved library.
 host_cargo() {
-    local folder=target/hosts
-    [ -z "${AMSULFEZD_STATICLIB_DIR:-}" ] || folder=target/hosts-linked
-    CARGO_TARGET_DIR=$folder cargo "$@" --release --offline --quiet --manifest-path hosts/rust/Cargo.toml
+    (
+        unset AMSULFEZD_STATICLIB_DIR
+        CARGO_TARGET_DIR=target/hosts cargo "$@" --release --offline --quiet --manifest-path hosts/rust/Cargo.toml
+    )
+}
+
+# The C compiler for x86-64 on another machine. Sets `cross`, a folder that its linker has to look into: Debian's libm.a
+# for it names files by where they are on x86-64, the one in the folder by where they are here.
+need_cross() {
+    local libraries
+    need x86_64-linux-gnu-gcc gcc-x86-64-linux-gnu libc6-dev-amd64-cross
+    cross=$PWD/target/cross
+    mkdir -p "$cross"
+    libraries=$(dirname "$(x86_64-linux-gnu-gcc -print-file-name=libm.a)")
+    if compgen -G "$libraries/libm-*.a" >/dev/null; then
+        echo "GROUP ( $(echo "$libraries"/libm-*.a "$libraries"/libmvec.a) )" >"$cross/libm.a"
+    fi
 }
 
 # Sets `compile`, a C compiler for x86-64 on any machine, with its flags.
@@ -106,10 +129,10 @@ need_c_compiler() {
         need cc gcc libc6-dev
         compile=(cc)
     else
-        need x86_64-linux-gnu-gcc gcc-x86-64-linux-gnu libc6-dev-amd64-cross
-        compile=(x86_64-linux-gnu-gcc -static)
+        need_cross
+        compile=(x86_64-linux-gnu-gcc -static -L"$cross")
     fi
-    compile+=(-std=c11 -O1 -Wall -Wextra -Werror -Ihosts/c)
+    compile+=(-std=c11 -O1 -Wall -Wextra -Wpedantic -Wconversion -Wshadow -Werror -Ihosts/c)
 }
 
 # c_host OUTPUT WORD..: builds a C program with the proved library.
@@ -118,6 +141,76 @@ c_host() {
     shift
     mkdir -p "$(dirname "$output")"
     "${compile[@]}" "$@" target/staticlib/libamsulfezd.a -o "$output" || fail "the C host's $(basename "$output") does not build"
+}
+
+# Rust programs with the proved library linked are for x86-64, as the library is. After find_runner and need_linked_rust
+# linked_cargo builds and tests them on any machine: on another one with a Rust that has the standard library for x86-64
+# and the C cross compiler as its linker, as static programs that the emulator runs. That Rust is the one on the PATH if
+# it has that library (rustup target add x86_64-unknown-linux-gnu), and else Debian's, which root can have, with the
+# library of Debian's package for the other architecture, unpacked under target/.
+
+# linked_cargo WORD..: cargo on the packages of hosts/rust, with the proved library linked.
+linked_cargo() {
+    env "${linked_words[@]}" AMSULFEZD_STATICLIB_DIR="$PWD/target/staticlib" CARGO_TARGET_DIR=target/hosts-linked \
+        "$linked_with" "$@" --release --offline --quiet --manifest-path hosts/rust/Cargo.toml
+}
+
+# Sets `linked_with` and `linked_words`, the cargo of linked_cargo and its environment, and `linked`, the folder where it
+# puts programs, which run by "${emulator[@]}".
+need_linked_rust() {
+    local target=x86_64-unknown-linux-gnu flags
+    need cargo cargo
+    linked_with=cargo
+    linked_words=()
+    linked=target/hosts-linked/release
+    [ "$machine" != x86_64 ] || return 0
+
+    need_cross
+    emulated_object "$cross/emulated.o"
+    # shellcheck disable=SC2034
+    linked=target/hosts-linked/$target/release
+    linked_words=("CARGO_BUILD_TARGET=$target" "CARGO_TARGET_X86_64_UNKNOWN_LINUX_GNU_RUNNER=${emulator[*]}"
+        CARGO_TARGET_X86_64_UNKNOWN_LINUX_GNU_LINKER=x86_64-linux-gnu-gcc)
+    flags=(-C target-feature=+crt-static -C relocation-model=static -L "native=$cross" -C "link-arg=$cross/emulated.o")
+    if ! compgen -G "$(rustc --print target-libdir --target "$target" 2>/dev/null)/libstd-*.rlib" >/dev/null; then
+        need /usr/bin/rustc rustc
+        need /usr/bin/cargo cargo
+        debian_std
+        linked_with=/usr/bin/cargo
+        linked_words+=(RUSTC=/usr/bin/rustc RUSTDOC=/usr/bin/rustdoc)
+        flags+=(--sysroot "$std")
+    fi
+    # That examples in the documentation run under the emulator too is called unstable by older cargos.
+    flags=("$(printf '\x1f%s' "${flags[@]}")")
+    linked_words+=("CARGO_ENCODED_RUSTFLAGS=${flags[0]:1}" "CARGO_ENCODED_RUSTDOCFLAGS=${flags[0]:1}"
+        RUSTC_BOOTSTRAP=1 CARGO_UNSTABLE_DOCTEST_XCOMPILE=true)
+}
+
+# Sets `std` to a folder with the Rust standard library for x86-64 of the version that Debian's rustc has. The lists of
+# packages that apt-get reads for it are read into a folder of their own, so that the system's stay as they are.
+debian_std() {
+    local version part apt
+    version=$(dpkg-query --show --showformat='${Version}' rustc 2>/dev/null) ||
+        fail "/usr/bin/rustc is not Debian's and has no library for x86-64 (rustup target add x86_64-unknown-linux-gnu)"
+    std=$cross/rust-$version
+    [ ! -d "$std" ] || return 0
+    part=$cross/part-$$
+    mkdir -p "$part/lists/partial" "$part/archives/partial" "$part/root"
+    apt=(apt-get --quiet -o "Dir::State::Lists=$part/lists" -o "Dir::Cache=$part" -o APT::Architecture=amd64
+        -o APT::Architectures=amd64 -o APT::Sandbox::User=root)
+    if "${apt[@]}" update && (cd "$part" && "${apt[@]}" download "libstd-rust-dev=$version") &&
+        dpkg-deb --extract "$part"/libstd-rust-dev_*.deb "$part/root"; then
+        mv "$part/root/usr" "$std"
+    fi >"$cross/log" 2>&1
+    rm -rf "$part"
+    [ -d "$std" ] || fail "Debian's package libstd-rust-dev:amd64 of version $version could not be had (target/cross/log)"
+}
+
+# emulated_object FILE: the emulator ends a program that reads /proc/self/maps, and the C library does so for the stack
+# of the main thread, which Rust asks for when a program starts. This object says instead that it is not known.
+emulated_object() {
+    echo 'int pthread_getattr_np(void); int pthread_getattr_np(void) { return 38; /* ENOSYS */ }' |
+        x86_64-linux-gnu-gcc -x c -c - -o "$1" || fail "the C cross compiler does not compile"
 }
 
 # build_oracle WORD..: builds a part of oracle/ into target/oracle; the words are cargo's.
@@ -138,11 +231,11 @@ need_library() {
     export AMSULFEZD_STATICLIB_DIR=$PWD/target/staticlib
 }
 
-# find_answers PROGRAM: builds the program of hosts/rust that is to read them, and sets `answers` to the answers to the
-# trace: the proved program's, or, for a trace that it does not read whole, the proved library's.
+# find_answers PROGRAM: builds the program of hosts/rust/tools that is to read them, and sets `answers` to the answers to
+# the trace: the proved program's, or, for a trace that it does not read whole, the proved library's.
 find_answers() {
     need cargo cargo
-    (unset AMSULFEZD_STATICLIB_DIR && host_cargo build --bin "$1") || fail "the program $1 of hosts/rust does not build"
+    host_cargo build --package amsulfezd-tools --bin "$1" || fail "the program $1 of hosts/rust does not build"
     if [ "$size" -le "$largest" ]; then
         build_replay
         answers=$("${runner[@]}" target/bin/run_replay <"$trace") || fail "the program replay did not run"
@@ -156,13 +249,7 @@ find_answers() {
 # Prints the answers to a trace that the program replay does not read whole.
 answers_of_library() {
     build_staticlib
-    if [ "$machine" = x86_64 ]; then
-        AMSULFEZD_STATICLIB_DIR=$PWD/target/staticlib host_cargo build --example replay_file ||
-            fail "the Rust host does not build"
-        target/hosts-linked/release/examples/replay_file "$trace"
-    else
-        need_c_compiler
-        c_host target/hosts/c/replay_file hosts/c/replay_file.c
-        "${emulator[@]}" target/hosts/c/replay_file "$trace"
-    fi
+    need_c_compiler
+    c_host target/hosts/c/replay_file hosts/c/replay_file.c
+    "${emulator[@]}" target/hosts/c/replay_file "$trace"
 }

@@ -3,8 +3,8 @@
 # valgrind, a trace of 1 GiB, a million polls in which nothing comes, a trace of nothing but bad records, and replay on
 # odd inputs and a closed output. Each line says what was done and what came. Not part of the gate: it takes a minute and
 # some memory.
-set -u
-cd "$(dirname "$0")/.."
+set -euo pipefail
+cd "$(dirname "$0")/.." || exit 1
 me="faults"
 . scripts/common.sh
 
@@ -15,9 +15,13 @@ build_replay
 built=target/hosts/c
 c_host "$built/test" hosts/c/test.c
 c_host "$built/large" hosts/c/large.c
-header='\x05\x06\x00\xc8\x00\x00\x7e\xb4\x0a\x7e\x01\x0b\x01\x00\x00\x00'
 
-# expect WORDS OUTPUT: the last line that came is the one expected.
+# The header of example 12.
+header() {
+    head -c 16 traces/example12.trace
+}
+
+# expect WORDS OUTPUT LINE: the last line that came is the one expected.
 expect() {
     [ "$(tail -n 1 <<<"$2")" = "$3" ] || fail "$1: $(tail -n 1 <<<"$2"), not $3"
     echo "faults: $1: $3"
@@ -46,17 +50,17 @@ said=$("${emulator[@]}" "$built/large" bad 1000000) || fail "a trace of bad reco
 echo "faults: a trace of nothing but bad records: $said"
 
 expect "replay on empty input" "$(replay </dev/null)" "0 17"
-expect "replay on 15 bytes" "$(printf "$header" | head -c 15 | replay)" "0 17"
-expect "replay on a header alone" "$(printf "$header" | replay)" "0 0"
-expect "replay on 4,096 bytes, 4,080 of them online" "$({ printf "$header" && head -c 4080 /dev/zero; } | replay)" "4080 0"
-expect "replay on 4,097 bytes, the last one ignored" "$({ printf "$header" && head -c 4081 /dev/zero; } | replay)" "4080 0"
+expect "replay on 15 bytes" "$(head -c 15 traces/example12.trace | replay)" "0 17"
+expect "replay on a header alone" "$(header | replay)" "0 0"
+expect "replay on 4,096 bytes, 4,080 of them online" "$({ header && head -c 4080 /dev/zero; } | replay)" "4080 0"
+expect "replay on 4,097 bytes, the last one ignored" "$({ header && head -c 4081 /dev/zero; } | replay)" "4080 0"
 expect "replay on 4,110 bytes, cut inside a poll record" \
-    "$({ printf "$header" && head -c 4079 /dev/zero && printf '\x0e' && head -c 14 /dev/zero; } | replay)" "4079 17"
-said=$(replay 2>&1 <traces/example12.trace >&-)
+    "$({ header && head -c 4079 /dev/zero && printf '\x0e' && head -c 14 /dev/zero; } | replay)" "4079 17"
+said=$(replay 2>&1 <traces/example12.trace >&-) || true
 expect "replay with its output closed" "$said" "replay: the answers could not all be written"
 # The reader is gone before replay writes. The signal of a broken pipe is ignored, so that replay meets the error itself.
 exec 3> >(:)
 wait $!
-said=$(trap '' PIPE && replay 2>&1 <traces/example12.trace >&3)
+said=$(trap '' PIPE && replay 2>&1 <traces/example12.trace >&3) || true
 exec 3>&-
 expect "replay whose reader is gone" "$said" "replay: the answers could not all be written"

@@ -1,13 +1,14 @@
 #!/usr/bin/env python3
-"""Writes docs/CRATES.md, a row of figures for each crate, and prints it: functions, lines of source, definitions, laws and
-proofs, must-fail edits, and how long the check takes and how much memory.
+"""Writes the tables of crates from crates.txt and the sources: docs/CRATES.md, a row of figures for each crate (functions, lines
+of source, definitions, laws and proofs, must-fail edits, and how long the check takes and how much memory), which it prints
+too, and the layers in README.md, between two marks.
 
-    scripts/figures.py [--measure [CRATE..]]
+    python3 scripts/figures.py [--check | --measure [CRATE..]]
 
 Sizes are counted anew each time. Time and memory stay those of the last measure, which the last column names by its commit.
+--check writes nothing and fails if a table is not what crates.txt and the sources say; time and memory are not compared.
 --measure takes them anew, of the crates named or of all: each crate is proved from nothing in a copy of the tree, one after
 the other, with what it leans on proved before and not counted. Nothing else should run on the machine meanwhile."""
-import argparse
 import glob
 import os
 import re
@@ -17,27 +18,16 @@ import sys
 import tempfile
 import time
 
-TABLE = "docs/CRATES.md"
-HEAD = ["Crate", "Functions", "Source", "Definitions", ".. without comments", "Laws", "Proofs", "Must-fail edits", "Seconds", "MiB", "Measured at"]
+from common import Parser, crates, fail, read, write
+
+TABLE, README = "docs/CRATES.md", "README.md"
+BEGIN, END = "<!-- crates: made from crates.txt by make figures -->", "<!-- end -->"
+HEAD = ["Layer", "Crate", "Functions", "Source", "Definitions", ".. without comments", "Laws", "Proofs", "Must-fail edits", "Seconds", "MiB", "Measured at"]
 NOT_MEASURED = ["-", "-", "-"]
 
 
-def fail(text):
-    sys.exit(f"figures: {text}")
-
-
-def crates():
-    """The crates of crates.txt in its order, each with the crates of this repository that it leans on."""
-    found = {}
-    for line in open("crates.txt", encoding="utf-8"):
-        entry = re.match(r"(\w+):(.*)", line)
-        if entry:
-            found[entry.group(1)] = entry.group(2).split()
-    return {crate: [name for name in needed if name in found] for crate, needed in found.items()}
-
-
 def lines(paths):
-    return [line.rstrip("\n") for path in paths for line in open(path, encoding="utf-8")]
+    return [line for path in paths for line in read(path)]
 
 
 def is_law(path, has_code):
@@ -69,13 +59,15 @@ def stored():
     found = {}
     for line in lines([TABLE]) if os.path.exists(TABLE) else []:
         cells = [cell.strip() for cell in line.strip("|").split("|")]
-        if len(cells) == len(HEAD) and cells[0].startswith("`"):
-            found[cells[0].strip("`")] = cells[-3:]
+        if len(cells) == len(HEAD) and cells[1].startswith("`"):
+            found[cells[1].strip("`")] = cells[-3:]
     return found
 
 
 def commit():
     """The commit that the tree is at, with a + if it has been changed since."""
+    if shutil.which("git") is None:
+        return "no commit"
     said = subprocess.run(["git", "describe", "--always", "--dirty=+"], capture_output=True, text=True)
     return said.stdout.strip() or "no commit"
 
@@ -89,24 +81,19 @@ def prove(crate, copy):
         _, status, usage = os.wait4(child.pid, 0)
         child.returncode = os.waitstatus_to_exitcode(status)
     seconds = time.monotonic() - begun
-    text = open(log, encoding="utf-8").read()
-    if child.returncode != 0 or not re.search(rf"^rt: {crate} proved", text, re.M):
-        fail(f"{crate} was not proved: " + (text.strip().splitlines() or ["rt said nothing"])[-1])
+    text = read(log)
+    if child.returncode != 0 or not any(line.startswith(f"rt: {crate} proved") for line in text):
+        fail(f"{crate} was not proved: " + (text or ["rt said nothing"])[-1])
     return f"{seconds:.0f}", f"{usage.ru_maxrss / 1024:.0f}"
 
 
-def measure(wanted, needs):
+def measure(wanted, listed):
     """Measures the crates wanted, each after those that it leans on."""
-    order = []
-
-    def visit(crate):
-        for below in needs[crate]:
-            visit(below)
-        if crate not in order:
-            order.append(crate)
-
-    for crate in wanted:
-        visit(crate)
+    needed = set(wanted)
+    for crate in reversed(listed.values()):
+        if crate.name in needed:
+            needed.update(crate.reads)
+    order = [crate for crate in listed if crate in needed]
     found, at = {}, commit()
     with tempfile.TemporaryDirectory() as copy:
         shutil.copytree("crates", os.path.join(copy, "crates"))
@@ -119,43 +106,94 @@ def measure(wanted, needs):
     return found
 
 
-def table(measured, needs):
+def row(cells):
+    return "| " + " | ".join(cells) + " |"
+
+
+def layers(listed):
+    """The layer of each crate, said once for all that have it."""
+    shown = [crate.layer for crate in listed.values()]
+    return [layer if at == 0 or shown[at - 1] != layer else "" for at, layer in enumerate(shown)]
+
+
+def table(measured, listed):
     """The text of docs/CRATES.md."""
     text = [
-        "# Crates in figures",
+        "# The crates",
         "",
-        "Made by `make figures` (`scripts/figures.py`); do not edit it. Source, definitions, laws and proofs are lines. Definitions",
+        "Made by `make figures` (`scripts/figures.py`) from crates.txt and the sources; do not edit it. What each crate holds:",
+        "",
+        row(["Layer", "Crate", "What it holds"]),
+        "|---|---|---|",
+    ]
+    text += [row([layer, f"`{crate.name}`", crate.holds.replace("|", "\\|")]) for layer, crate in zip(layers(listed), listed.values())]
+    text += [
+        "",
+        "## In figures",
+        "",
+        "Source, definitions, laws and proofs are lines. Definitions",
         "are the files of `specs/` that a reader holds beside the Rust or document 01, without `use` and blank lines; laws are its",
         "other files, which the checker reads. Seconds and MiB (of the largest process) are those of a check from nothing with what",
         "the crate leans on proved before, measured at the commit in the last column (a + says that it was changed);",
         "`python3 scripts/figures.py --measure` takes them anew. `-` is not measured.",
         "",
-        "| " + " | ".join(HEAD) + " |",
+        row(HEAD),
         "|---" * len(HEAD) + "|",
     ]
-    rows = [[f"`{crate}`"] + sizes(crate) + measured.get(crate, NOT_MEASURED) for crate in needs]
-    together = [str(sum(int(row[at]) for row in rows)) for at in range(1, 8)]
-    rows.append(["together"] + together + ["", "", ""])
-    return "\n".join(text + ["| " + " | ".join(row) + " |" for row in rows]) + "\n"
+    counted = {crate: sizes(crate) for crate in listed}
+    for layer, crate in zip(layers(listed), listed):
+        text.append(row([layer, f"`{crate}`"] + counted[crate] + measured.get(crate, NOT_MEASURED)))
+    together = [str(sum(map(int, column))) for column in zip(*counted.values())]
+    return "\n".join(text + [row(["", "together"] + together + ["", "", ""])]) + "\n"
+
+
+def readme(listed):
+    """The text of README.md with its table of the layers made anew."""
+    text = read(README)
+    if text.count(BEGIN) != 1 or END not in text[text.index(BEGIN):]:
+        fail(f"{README} has no place for the layers: a line '{BEGIN}' and after it a line '{END}'")
+    begin = text.index(BEGIN) + 1
+    end = text.index(END, begin)
+    rows = [row([layer, ", ".join(f"`{crate.name}`" for crate in listed.values() if crate.layer == layer)]) for layer in layers(listed) if layer]
+    made = ["", row(["Layer", "Crates"]), "|---|---|"] + rows + [""]
+    return "\n".join(text[:begin] + made + text[end:]) + "\n"
+
+
+def check(texts):
+    """Fails with a line for each file that is not what would be written."""
+    stale = []
+    for path, text in texts.items():
+        there, made = (read(path) if os.path.exists(path) else []), text.splitlines()
+        at = next((at for at, (a, b) in enumerate(zip(there, made)) if a != b), min(len(there), len(made)))
+        if there != made:
+            stale.append(f"{path}:{at + 1} is not what crates.txt and the sources say: run 'make figures'")
+    if stale:
+        fail(*stale)
 
 
 def main():
-    parser = argparse.ArgumentParser(prog="figures.py", description="Writes and prints docs/CRATES.md.")
-    parser.add_argument("--measure", nargs="*", metavar="CRATE", help="measure time and memory of these crates, of all without names")
+    parser = Parser(prog="figures.py", description="Writes the tables of crates in docs/CRATES.md and README.md, and prints the first.")
+    which = parser.add_mutually_exclusive_group()
+    which.add_argument("--check", action="store_true", help="write nothing; fail if a table is stale")
+    which.add_argument("--measure", nargs="*", metavar="CRATE", help="measure time and memory of these crates, of all without names")
     given = parser.parse_args()
-    os.chdir(os.path.join(os.path.dirname(os.path.abspath(__file__)), ".."))
-    needs = crates()
+    listed = crates()
     measured = stored()
+    texts = {TABLE: table(measured, listed), README: readme(listed)}
+    if given.check:
+        check(texts)
+        return
     if given.measure is not None:
         for crate in given.measure:
-            if crate not in needs:
+            if crate not in listed:
                 fail(f"there is no crate {crate}")
         if shutil.which("rt") is None:
             fail("the Rattle toolchain's command 'rt' is not on the PATH")
-        measured.update(measure(given.measure or list(needs), needs))
-    text = table(measured, needs)
-    open(TABLE, "w", encoding="utf-8").write(text)
-    print(text, end="")
+        measured.update(measure(given.measure or list(listed), listed))
+        texts[TABLE] = table(measured, listed)
+    for path, text in texts.items():
+        write(path, text)
+    print(texts[TABLE], end="")
 
 
 main()

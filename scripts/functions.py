@@ -2,7 +2,7 @@
 """Writes docs/FUNCTIONS.md: each function of the published active.rs and parameters.rs beside its definitions, the Rattle
 functions that are proved to meet them, and their contracts.
 
-    scripts/functions.py [--check] [--rust DIR]
+    python3 scripts/functions.py [--check] [--rust DIR]
 
 --check writes nothing and fails if docs/FUNCTIONS.md is not what would be written. --rust names the folder of the two
 published files (default: PUBLISHED_RUST from the environment, else oracle/published).
@@ -11,11 +11,11 @@ Everything is read from the sources. A definition belongs to a Rust function if 
 function's name: `-- do_pass_token: ..`, `-- ParametersBuilder::slot_bits: ..`, or several names with a comma, `and` or
 `with` between them. A Rattle function belongs to it if its contract cites such a definition, or if its own comment begins
 with the name. A function of the Rust that has no definition must stand in NOT_TAKEN, and only such a one may."""
-import argparse
 import os
 import re
-import sys
 from dataclasses import dataclass, field
+
+from common import BEGAN_IN, Parser, crates, fail, read, write
 
 TABLE = "docs/FUNCTIONS.md"
 FILES = ("active.rs", "parameters.rs")
@@ -107,17 +107,6 @@ class Function:
     requires: list = field(default_factory=list)
     ensures: list = field(default_factory=list)
     cites: list = field(default_factory=list)
-
-
-def fail(text):
-    sys.exit(f"functions: {text}")
-
-
-def read(path):
-    try:
-        return open(path, encoding="utf-8").read().splitlines()
-    except OSError as error:
-        fail(f"{path} cannot be read: {error.strerror}")
 
 
 # The published Rust.
@@ -258,19 +247,15 @@ def functions_of(path, crate):
 
 
 def sources():
-    """The definitions and functions of each crate that has definitions, in the order of crates.txt, in which a crate comes
-    after those that it reads. Each public function of such a crate has a contract."""
+    """The definitions and functions of each crate that is no program, in the order of crates.txt, in which a crate comes after
+    those that it reads. Each public function of such a crate has a contract."""
     definitions, functions = [], []
-    crates = [line.split(":")[0] for line in read("crates.txt") if re.match(r"\w+:", line)]
-    for crate in crates:
-        specs, source = os.path.join("crates", crate, "specs"), os.path.join("crates", crate, "src", "lib.rt")
-        if not os.path.isdir(specs):
-            continue
-        for name in sorted(os.listdir(specs)):
+    for crate in (crate.name for crate in crates().values() if crate.layer != "Programs"):
+        specs = os.path.join("crates", crate, "specs")
+        for name in sorted(os.listdir(specs)) if os.path.isdir(specs) else []:
             if name.endswith(".antt"):
                 definitions.extend(definitions_of(os.path.join(specs, name), crate))
-        if os.path.exists(source):
-            functions.extend(functions_of(source, crate))
+        functions.extend(functions_of(os.path.join("crates", crate, "src", "lib.rt"), crate))
     for function in functions:
         if function.public and not function.ensures:
             fail(f"the public function {function.name} ({function.file}:{function.line}) has no contract")
@@ -427,17 +412,15 @@ def table(folder):
 
 
 def main():
-    parser = argparse.ArgumentParser(prog="functions.py", description="Writes or checks docs/FUNCTIONS.md.")
+    parser = Parser(prog="functions.py", description="Writes or checks docs/FUNCTIONS.md.")
     parser.add_argument("--check", action="store_true", help="write nothing; fail if the table is stale")
     parser.add_argument("--rust", metavar="DIR", help="the folder of the published active.rs and parameters.rs")
     given = parser.parse_args()
     named = given.rust or os.environ.get("PUBLISHED_RUST")
-    folder = os.path.abspath(named) if named else "oracle/published"
-    os.chdir(os.path.join(os.path.dirname(os.path.abspath(__file__)), ".."))
-    text = table(folder)
+    text = table(os.path.join(BEGAN_IN, named) if named else "oracle/published")
     if not given.check:
-        open(TABLE, "w", encoding="utf-8").write(text)
-    elif not os.path.exists(TABLE) or open(TABLE, encoding="utf-8").read() != text:
+        write(TABLE, text)
+    elif not os.path.exists(TABLE) or read(TABLE) != text.splitlines():
         fail(f"{TABLE} is not what the sources say: run 'python3 scripts/functions.py' and read what changed")
 
 

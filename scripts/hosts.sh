@@ -1,9 +1,9 @@
 #!/usr/bin/env bash
 # Builds the C and Rust hosts of the proved library and runs their tests and examples. Part of make test.
-# On a machine that is not x86-64 the C host is cross-compiled and run under the toolchain's emulator, and the Rust host
-# is built and tested without the library; what could not be run is said on one line.
-set -u
-cd "$(dirname "$0")/.."
+# On a machine that is not x86-64 what has the library linked, in C and in Rust, is cross-compiled and run under the
+# toolchain's emulator.
+set -euo pipefail
+cd "$(dirname "$0")/.." || exit 1
 me="hosts"
 . scripts/common.sh
 
@@ -12,91 +12,191 @@ built=target/hosts/c
 # The long trace says online this many times, which changes nothing.
 long=100000
 
+# How many traces are made at random to measure the stack.
+at_random=1000
+
 # The C test holds, and it finds each planted fault of hosts/c/faulty.c.
 test_c() {
     local faults fault
     c_host "$built/test" hosts/c/test.c
     "${emulator[@]}" "$built/test" || fail "the C host's test does not hold"
-    faults=$(grep -c '^    case [0-9]' hosts/c/faulty.c)
+    faults=$(grep -c '^    case [0-9]' hosts/c/faulty.c) || fail "hosts/c/faulty.c has no faults"
     for fault in $(seq "$faults"); do
         "${compile[@]}" -DFAULT="$fault" -c hosts/c/faulty.c -o "$built/faulty.o" || fail "hosts/c/faulty.c does not build"
         c_host "$built/test-faulty" -Damsulfezd_replay_trace=faulty_replay_trace hosts/c/test.c "$built/faulty.o"
-        "${emulator[@]}" "$built/test-faulty" >/dev/null 2>&1 && fail "the C host's test does not find planted fault $fault"
+        ! "${emulator[@]}" "$built/test-faulty" >/dev/null 2>&1 || fail "the C host's test does not find planted fault $fault"
     done
     echo "C host: its test finds each of $faults planted faults"
 }
 
-# replay_all HOST COMMAND..: each trace of traces/, replayed by the host's example, is answered as its story says.
+# compiles COMPILER WORD..: the header and all that is in it compile without a warning.
+compiles() {
+    "$@" -Wall -Wextra -Wpedantic -Wconversion -Wshadow -Werror -c hosts/c/fields.c -o "$built/fields.o" ||
+        fail "hosts/c/amsulfezd.h does not compile without a warning by $*"
+    compiled=$((compiled + 1))
+}
+
+# The header is C99 and C++11 by gcc and, where it is there, by clang, with the call and without it; its readers and
+# writers are right in both languages; and it says which processor it is for.
+test_header() {
+    local cc=("${compile[0]}" -x c -std=c99) cpp=(c++ -x c++ -std=c++11) link=() compiler said compiled=0
+    if [ "$machine" = x86_64 ]; then
+        need c++ g++
+    else
+        need x86_64-linux-gnu-g++ g++-x86-64-linux-gnu
+        cpp[0]=x86_64-linux-gnu-g++
+        link=(-static -L"$cross")
+    fi
+    compiles "${cc[@]}"
+    compiles "${cc[@]}" -DAMSULFEZD_WITHOUT_CALL
+    compiles "${cpp[@]}"
+    compiles "${cpp[@]}" -DAMSULFEZD_WITHOUT_CALL
+    if command -v clang >/dev/null 2>&1; then
+        compiles clang --target=x86_64-linux-gnu "${cc[@]:1}"
+        compiles clang --target=x86_64-linux-gnu "${cpp[@]:1}"
+    fi
+    # Without the call it is for any processor, this machine's as well.
+    if command -v cc >/dev/null 2>&1; then
+        compiles cc "${cc[@]:1}" -DAMSULFEZD_WITHOUT_CALL
+    fi
+    ! said=$("${cc[@]}" -U__ELF__ -fsyntax-only hosts/c/fields.c 2>&1) || fail "hosts/c/amsulfezd.h compiles for any processor"
+    [[ "$said" = *"libamsulfezd.a is for x86-64"* ]] || fail "hosts/c/amsulfezd.h does not say which processor it is for: $said"
+    echo "C host: its header compiles as C99 and C++11 without a warning, in $compiled ways"
+    for compiler in cc cpp; do
+        local -n words=$compiler
+        "${words[@]}" "${link[@]}" hosts/c/fields.c -o "$built/fields" || fail "hosts/c/fields.c does not build"
+        said=$("${emulator[@]}" "$built/fields") || fail "the C host's readers and writers are not right (${words[*]})"
+    done
+    echo "$said, as C99 and as C++11"
+    test_planted_fields "${cc[@]}" "${link[@]}"
+}
+
+# test_planted_fields COMPILER WORD..: the test of the readers and writers finds each number of the header that is one
+# too large.
+test_planted_fields() {
+    local folder=$built/planted count at
+    mkdir -p "$folder"
+    cp hosts/c/fields.c "$folder"
+    count=$(awk -v at=0 -f hosts/c/plant.awk hosts/c/amsulfezd.h)
+    [ "$count" -ge 60 ] || fail "hosts/c/plant.awk finds only $count numbers in hosts/c/amsulfezd.h"
+    for at in $(seq "$count"); do
+        awk -v at="$at" -v by=1 -f hosts/c/plant.awk hosts/c/amsulfezd.h >"$folder/amsulfezd.h"
+        "$@" -w "$folder/fields.c" -o "$folder/fields" || fail "hosts/c/fields.c does not build with planted fault $at"
+        ! "${emulator[@]}" "$folder/fields" >/dev/null 2>&1 ||
+            fail "hosts/c/fields.c does not find: $(diff hosts/c/amsulfezd.h "$folder/amsulfezd.h")"
+    done
+    echo "C host: that test finds each of $count planted faults"
+}
+
+# A call takes no more stack than the header says, and one that takes more is found.
+test_stack() {
+    local files
+    mapfile -t files < <(find traces/ hosts/rust -name '*.trace' | sort)
+    c_host "$built/stack" hosts/c/stack.c
+    "${emulator[@]}" "$built/stack" "$at_random" "${files[@]}" || fail "a call takes more stack than amsulfezd.h says"
+    c_host "$built/stack-faulty" -DFAULT hosts/c/stack.c
+    ! "${emulator[@]}" "$built/stack-faulty" "$at_random" >/dev/null 2>&1 || fail "a call that takes more stack is not found"
+}
+
+# The C example prints what is stored.
+test_c_example() {
+    c_host "$built/example" hosts/c/example.c
+    "${emulator[@]}" "$built/example" | cmp - hosts/c/example.txt || fail "hosts/c/example.c does not print what is stored"
+    echo "C host: its example prints what is stored"
+}
+
+# replay_all HOST COMMAND..: each trace of traces/ and of the pictures' tests, replayed by the host's example, is
+# answered as its story says.
 replay_all() {
     local host=$1 count=0 trace
     shift
     while read -r trace; do
         "$@" "$trace" | cmp - "${trace%.trace}.answers" || fail "the $host host answers $trace otherwise than its story"
         count=$((count + 1))
-    done < <(find traces/ -name '*.trace' | sort)
+    done < <(find traces/ hosts/rust -name '*.trace' | sort)
     [ "$count" -gt 0 ] || fail "there are no traces"
     { head -c 16 traces/example12.trace && head -c "$long" /dev/zero; } >target/hosts/long.trace
-    { yes 0000000000000014 | head -n "$long" && echo "$long 0"; } >target/hosts/long.answers
+    awk -v n="$long" 'BEGIN { for (i = 0; i < n; i++) print "0000000000000014"; print n, 0 }' >target/hosts/long.answers
     "$@" target/hosts/long.trace | cmp - target/hosts/long.answers || fail "the $host host answers a long trace wrongly"
     echo "$host host: $count traces replayed from files, each answered as its story says, and one of $long entries"
 }
 
-# The Rust host's tests hold, on x86-64 with the proved library linked.
+# test_rust WORDS COMMAND..: the Rust host's tests hold, run so.
 test_rust() {
-    local said
-    said=$(host_cargo test 2>&1) || {
+    local words=$1 said
+    shift
+    said=$("$@" 2>&1) || {
         echo "$said" >&2
-        fail "the Rust host's tests do not hold"
+        fail "the Rust host's tests do not hold, $words"
     }
-    echo "Rust host: $(awk '/^test result: ok/ { n += $4 } END { print n + 0 }' <<<"$said") tests hold, $1"
+    echo "Rust host: $(awk '/^test result: ok/ { n += $4 } END { print n + 0 }' <<<"$said") tests hold, $words"
 }
 
-# picture TRACE OUT: what make picture prints.
+# picture TRACE OUT [FROM TO]: what make picture prints.
 picture() {
-    TRACE=$1 OUT=$2 bash scripts/picture.sh 2>&1
+    TRACE=$1 OUT=$2 FROM=${3:-} TO=${4:-} bash scripts/picture.sh 2>&1
 }
 
-# make picture draws each stored picture anew, byte for byte, from the proved program's answers, and 500 entries from the
-# proved library's; a trace that is not there is said on one line; no other file is left.
+# make picture draws each stored picture anew, byte for byte, from the proved program's answers, README's too, and 500
+# entries from the proved library's; a trace or a range that is not there is said on one line; no other file is left.
 test_pictures() {
-    local folder=target/hosts/pictures stored name out said count=0
-    rm -rf "$folder" && mkdir -p "$folder" || fail "$folder could not be made"
-    for stored in hosts/rust/tests/pictures/*.svg; do
+    local folder=target/hosts/pictures tests=hosts/rust/tools/tests/pictures stored name out said count=0
+    { rm -rf "$folder" && mkdir -p "$folder"; } || fail "$folder could not be made"
+    for stored in "$tests"/*.svg; do
         name=$(basename "$stored" .svg)
         out=$folder/$name.svg
-        said=$(picture "traces/$name.trace" "$out") && [ "$said" = "$out" ] ||
+        { said=$(picture "traces/$name.trace" "$out") && [ "$said" = "$out" ]; } ||
             fail "make picture TRACE=traces/$name.trace says: $said"
         cmp "$stored" "$out" || fail "make picture draws traces/$name.trace otherwise than it is stored"
         count=$((count + 1))
     done
+    out=$folder/readme.svg
+    { said=$(picture traces/night.trace "$out" 18 30) && [ "$said" = "$out" ]; } ||
+        fail "make picture TRACE=traces/night.trace FROM=18 TO=30 says: $said"
+    cmp docs/night.svg "$out" || fail "make picture draws entries 18 to 30 of traces/night.trace otherwise than docs/night.svg"
     out=$folder/long.svg
-    said=$(picture hosts/rust/tests/pictures/long.trace "$out") && [ "$said" = "$out" ] ||
+    { said=$(picture "$tests/long.trace" "$out") && [ "$said" = "$out" ]; } ||
         fail "make picture does not draw the long trace: $said"
     [ "$(grep -c '<g class="entry"' "$out")" -eq 500 ] || fail "the picture of the long trace does not have 500 entries"
-    said=$(picture "$folder/nosuch.trace" "$folder/nosuch.svg") && fail "make picture draws a trace that is not there"
+    ! said=$(picture "$folder/nosuch.trace" "$folder/nosuch.svg") || fail "make picture draws a trace that is not there"
     [ "$said" = "make picture: there is no file $folder/nosuch.trace" ] || fail "make picture of no trace says: $said"
-    said=$(picture traces/night.trace "$folder/nosuch/night.svg") && fail "make picture draws into no folder"
-    [ "$(find "$folder" -type f | wc -l)" -eq $((count + 1)) ] || fail "make picture left other files in $folder"
-    echo "Pictures: $count drawn as they are stored, and one of 500 entries"
+    ! said=$(picture traces/night.trace "$folder/nosuch/night.svg") || fail "make picture draws into no folder"
+    ! said=$(picture traces/night.trace "$folder/nosuch.svg" 30 18) || fail "make picture draws a range that ends before it begins"
+    [ "$said" = "picture: FROM=30 is after TO=18" ] || fail "make picture of no range says: $said"
+    { said=$(TRACE=traces/night.trace FROM=24 TO=27 bash scripts/explain.sh) && [ "$(grep -c '^ *[0-9*]' <<<"$said")" -eq 5 ]; } ||
+        fail "make explain does not give four entries and a note: $said"
+    [ "$(find "$folder" -type f | wc -l)" -eq $((count + 2)) ] || fail "make picture left other files in $folder"
+    echo "Pictures: $count and README's drawn as they are stored, and one of 500 entries"
+}
+
+# The Rust host's tests hold with the proved library linked, and its example replays every trace. Where another machine
+# than x86-64 cannot have a Rust that links the library, one line says why this was not run.
+test_rust_linked() {
+    local why
+    if [ "$machine" != x86_64 ] && ! why=$( (need_linked_rust) 2>&1); then
+        echo "hosts: not run on this machine ($machine): the Rust host's calls of the proved library: ${why#hosts: }"
+        return 0
+    fi
+    need_linked_rust
+    test_rust "the proved library linked" linked_cargo test --package amsulfezd
+    linked_cargo build --package amsulfezd --example replay_file || fail "the Rust host's example does not build"
+    replay_all Rust "${emulator[@]}" "$linked/examples/replay_file"
 }
 
 find_runner
 need cargo cargo
 need_c_compiler
 build_staticlib
+mkdir -p "$built"
 
 test_c
+test_header
+test_stack
+test_c_example
 c_host "$built/replay_file" hosts/c/replay_file.c
 replay_all C "${emulator[@]}" "$built/replay_file"
 
-if [ "$machine" = x86_64 ]; then
-    export AMSULFEZD_STATICLIB_DIR=$PWD/target/staticlib
-    test_rust "the proved library linked"
-    host_cargo build --example replay_file || fail "the Rust host's example does not build"
-    replay_all Rust target/hosts-linked/release/examples/replay_file
-else
-    test_rust "without the library"
-    echo "hosts: not run on this machine ($machine): the Rust host's calls of the proved library, which is for x86-64"
-fi
+test_rust "without the library" host_cargo test
+test_rust_linked
 
 test_pictures

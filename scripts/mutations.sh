@@ -1,24 +1,28 @@
 #!/usr/bin/env bash
-# Plants each error of oracle/mutants/list.rs in a copy of the oracle, runs traces until one shows it, and writes the
-# table oracle/MUTATIONS.md. Not part of the gate: it takes some minutes.
-set -u
-cd "$(dirname "$0")/.."
+# Plants each error of oracle/mutants/list.rs in a copy of the oracle, runs traces or the settings table until one shows it,
+# and writes the table oracle/MUTATIONS.md. Not part of the gate: it takes some minutes.
+set -euo pipefail
+cd "$(dirname "$0")/.." || exit 1
 me="mutations"
 . scripts/common.sh
 
 need cargo cargo
 build_oracle --profile planted -p mutants
-table=$(target/oracle/planted/mutants)
-status=$?
-{
-    echo "# Planted errors"
-    echo
-    echo "That the comparison of traces can fail: each line is one error planted in a copy of the oracle (the published"
-    echo "\`active.rs\` and \`parameters.rs\`, document 01's helpers in them, ring, records, trace, port), and the first"
-    echo "generated trace of seed 1 that shows it. \"Shortest\" is how many entries the shortened trace has. Made by"
-    echo "\`bash scripts/mutations.sh\`."
-    echo
-    echo "$table"
-} >oracle/MUTATIONS.md || fail "oracle/MUTATIONS.md cannot be written"
+found=yes
+table=$(target/oracle/planted/mutants) || found=no
+[ -n "$table" ] || fail "the planted errors were not tried"
+part=oracle/MUTATIONS.md.part-$$
+trap 'rm -f "$part"' EXIT
+cat >"$part" <<EOF_TABLE || fail "$part cannot be written"
+# Planted errors
+
+That the comparison can fail: each line is one error planted in a copy of the oracle (the published \`active.rs\` and
+\`parameters.rs\`, document 01's helpers in them, ring, records, trace, port), the run that shows it, and where. "traces" is
+the first generated trace of seed 1; "Shortest" is how many entries the shortened trace has. "settings table" is the table
+of the published \`parameters.rs\`. "none" says why no run can. Made by \`bash scripts/mutations.sh\`.
+
+$table
+EOF_TABLE
+mv -f "$part" oracle/MUTATIONS.md || fail "oracle/MUTATIONS.md cannot be written"
 tail -n 1 oracle/MUTATIONS.md
-[ "$status" -eq 0 ] || fail "an error was not found; see oracle/MUTATIONS.md"
+[ "$found" = yes ] || fail "an error was not found; see oracle/MUTATIONS.md"

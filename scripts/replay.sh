@@ -1,8 +1,8 @@
 #!/usr/bin/env bash
 # make replay [TRACE=file]: replays a trace, example 12 if none is named, with the proved program: each answer as 16
 # hexadecimal digits, then entries answered and ending number.
-set -u
-cd "$(dirname "$0")/.."
+set -euo pipefail
+cd "$(dirname "$0")/.." || exit 1
 me="make replay"
 . scripts/common.sh
 

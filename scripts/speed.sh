@@ -1,8 +1,8 @@
 #!/usr/bin/env bash
 # make speed: entries per second of the proved replay_trace and of the oracle on one long ordinary trace, in one
 # process, both built without checks, three runs each. ENTRIES changes the trace's length.
-set -u
-cd "$(dirname "$0")/.."
+set -euo pipefail
+cd "$(dirname "$0")/.." || exit 1
 me="make speed"
 . scripts/common.sh
 

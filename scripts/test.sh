@@ -1,31 +1,64 @@
 #!/usr/bin/env bash
-# make test: proves every crate of crates.txt from nothing, tries the must-fail edits, runs the programs,
-# then the comparisons and the hosts' tests. The last line printed is `rt ci`'s own, 'N passed, 0 failed', and only if all of it held.
-set -u
-cd "$(dirname "$0")/.."
-
+# make test: first what is checked in seconds, then every crate of crates.txt proved from nothing, the must-fail edits and the
+# programs (rt ci), then the comparisons and the hosts' tests. Each part says how long it took. The last line printed is
+# rt ci's own, 'N passed, 0 failed', and only if all of it held.
+set -euo pipefail
+cd "$(dirname "$0")/.." || exit 1
 me="make test"
 . scripts/common.sh
 
+# part NAME COMMAND..: one part of the gate. The command ends with a failure where it does not hold, and says why.
+part() {
+    local name=$1 begun=$SECONDS
+    shift
+    "$@" || fail "this does not hold: $name"
+    echo "$me: $name: $((SECONDS - begun)) s"
+}
+
+# Sets RT_JOBS, how many crates rt proves at a time. A crate takes up to 1.5 GB. Crates of one level are proved side by side, and
+# the next level waits for all of them: with six at a time two cores wait less.
+choose_jobs() {
+    local free
+    if [ -n "${RT_JOBS:-}" ]; then
+        [[ "$RT_JOBS" =~ ^[1-9][0-9]?$ ]] || fail "RT_JOBS is a whole number from 1 to 99, not '$RT_JOBS'"
+        echo "$me: $RT_JOBS crates at a time, as RT_JOBS says"
+        return
+    fi
+    free=$(awk '/^MemAvailable:/ { print int($2 / 1024) }' /proc/meminfo 2>/dev/null) || free=0
+    RT_JOBS=$((${free:-0} / 1500))
+    [ "$RT_JOBS" -ge 1 ] || RT_JOBS=1
+    [ "$RT_JOBS" -le 6 ] || RT_JOBS=6
+    export RT_JOBS
+    echo "$me: $RT_JOBS crates at a time, by ${free:-0} MiB of memory that are free; RT_JOBS=n says otherwise"
+}
+
+# Runs rt ci. All that it prints goes on at once but for its last line, which is kept back in `verdict`.
+prove() {
+    rt ci 2>&1 | tee "$log" | awk 'NR > 1 { print line; fflush() } { line = $0 }' ||
+        fail "rt ci ended with status ${PIPESTATUS[0]}: $(tail -n 1 "$log")"
+    verdict=$(tail -n 1 "$log")
+    [[ "$verdict" =~ ^[1-9][0-9]*\ passed,\ 0\ failed$ ]] || fail "rt ci's last line is not a verdict: $verdict"
+}
+
+# All that any part needs, before the first one runs.
 need_rt
 need python3 python3
-
-rt fmt --check || fail "a file is not in the formatter's layout: run 'rt fmt'"
-python3 scripts/functions.py --check || fail "docs/FUNCTIONS.md is not what the sources say"
-
+need shellcheck shellcheck
+need cargo cargo
+find_runner
+need_c_compiler
+choose_jobs
 log=$(mktemp) || fail "no temporary file could be made"
 trap 'rm -f "$log"' EXIT
 
-# Crates of one level are proved side by side, and the next level waits for all of them: with six at a time two cores
-# wait less. All that rt ci prints goes on at once but for its last line, which is kept back.
-export RT_JOBS=${RT_JOBS:-6}
-rt ci 2>&1 | tee "$log" | awk 'NR > 1 { print line; fflush() } { line = $0 }'
-status=${PIPESTATUS[0]}
-verdict=$(tail -n 1 "$log")
-[ "$status" -eq 0 ] || { echo "$verdict"; fail "rt ci ended with status $status"; }
-[[ "$verdict" =~ ^[1-9][0-9]*\ passed,\ 0\ failed$ ]] || fail "rt ci's last line is not a verdict: $verdict"
-
-bash scripts/compare.sh || fail "the comparison with Rust did not hold"
-bash scripts/hosts.sh || fail "the hosts' tests did not hold"
+part "the formatter's layout (rt fmt)" rt fmt --check
+part "the shell scripts (shellcheck)" shellcheck --external-sources .ci/run scripts/*.sh
+part "docs/FUNCTIONS.md" python3 scripts/functions.py --check
+part "the tables of crates" python3 scripts/figures.py --check
+part "a claim for each public call" python3 scripts/determined.py
+part "the proofs (rt ci)" prove
+part "the comparison with Rust" bash scripts/compare.sh
+part "the listed differences" quietly "an answer is not as listed" bash scripts/differences.sh
+part "the hosts" bash scripts/hosts.sh
 
 echo "$verdict"

@@ -1,11 +1,40 @@
 /*
- * The proved trace call of Amsulfezd, for C and C++ on x86-64 (System V calling convention).
+ * Amsulfezd: a proved PROFIBUS FDL active station, for C (C99 and later) and C++ (C++11 and later).
  *
- * Link with target/staticlib/libamsulfezd.a, which `rt staticlib amsulfezd` writes. The library has no dependency but the C
- * library's memory functions.
+ * A trace is a header of 16 bytes and then entries: commands and poll records. The proved call
+ * amsulfezd_replay_trace runs a trace and writes an answer of 8 bytes for each entry. In this file, in this order:
+ *
+ *   the numbers in traces and answers      enum amsulfezd_..
+ *   the call                               amsulfezd_replay_trace, amsulfezd_entries, amsulfezd_ending
+ *   readers of an answer                   amsulfezd_answer, amsulfezd_answer_..
+ *   writers of a trace                     amsulfezd_write_header, amsulfezd_write_command, amsulfezd_write_poll
+ *
+ * example.c uses all four. The field widths are document 01's, "Station" and "Trace".
+ *
+ * Linking. `rt staticlib amsulfezd` proves the library and writes target/staticlib/libamsulfezd.a. From the
+ * repository's root:
+ *
+ *   cc -Ihosts/c program.c target/staticlib/libamsulfezd.a -o program
+ *   cc -Ihosts/c program.c -Ltarget/staticlib -lamsulfezd -o program
+ *
+ * The library needs no other one. It is for x86-64 with the System V calling convention (ELF, 64-bit pointers), and
+ * for no other target. Readers and writers are plain C, inline, and work anywhere: with AMSULFEZD_WITHOUT_CALL
+ * defined this file has them and not the call.
+ *
+ * Stack. A call uses at most AMSULFEZD_STACK_BYTES of the caller's stack, its return address included, whatever the
+ * trace's length. Measured: 2,145 bytes, with the library of the toolchain rattle-kit-5b. The method: the call runs on
+ * a stack of its own that was filled with a pattern, and the deepest byte that changed is looked for, over all traces
+ * of traces/, one of 100,000 entries and 1,000 traces made at random, which reach every state and every kind of send.
+ * hosts/c/stack.c does this and is part of the tests, so that a library that uses more than AMSULFEZD_STACK_BYTES is
+ * found. The library's code agrees: it has no recursion, takes no stack by a computed length, calls nothing outside
+ * itself, and its deepest way down comes to the same number.
  */
 #ifndef AMSULFEZD_H
 #define AMSULFEZD_H
+
+#if !defined(AMSULFEZD_WITHOUT_CALL) && !(defined(__x86_64__) && defined(__LP64__) && defined(__ELF__))
+#error "libamsulfezd.a is for x86-64 System V; define AMSULFEZD_WITHOUT_CALL to have the readers and writers without the call"
+#endif
 
 #include <stddef.h>
 #include <stdint.h>
@@ -14,9 +43,17 @@
 extern "C" {
 #endif
 
+/* ---- The numbers in traces and answers --------------------------------------------------------------------------- */
+
 /* The length of a trace's header and of an answer, in bytes. */
 #define AMSULFEZD_HEADER_LENGTH 16
 #define AMSULFEZD_ANSWER_LENGTH 8
+
+/* The longest entry, in bytes: a byte with the record's length, and the record. */
+#define AMSULFEZD_ENTRY_LENGTH 256
+
+/* The most stack that a call uses, in bytes: see above. */
+#define AMSULFEZD_STACK_BYTES 4096
 
 /*
  * Document 01's refusal numbers. As ending number of a run: 0, the number of a refused header (1 to 8, 10, 11, 14), 17
@@ -24,45 +61,109 @@ extern "C" {
  */
 enum amsulfezd_refusal {
     AMSULFEZD_OK = 0,
-    AMSULFEZD_ADDRESS = 1,          /* address above 125 */
-    AMSULFEZD_SLOT = 2,             /* slot too small */
-    AMSULFEZD_HSA = 3,              /* HSA not above the address, or above 126 */
-    AMSULFEZD_ROTATION = 4,         /* rotation outside 256..16,777,960 */
-    AMSULFEZD_GAP_WAIT = 5,         /* gap wait outside 1..100 */
-    AMSULFEZD_RETRY = 6,            /* retry outside 1..15 */
-    AMSULFEZD_MIN_TSDR = 7,         /* min Tsdr below 11 */
-    AMSULFEZD_WATCHDOG = 8,         /* watchdog outside 10..650,000 ms, or one factor zero in a header */
-    AMSULFEZD_FACTORS = 9,          /* factors: u above 65,025 */
-    AMSULFEZD_BAUD = 10,            /* baud code above 10 */
-    AMSULFEZD_APPLICATIONS = 11,    /* applications not 1..8 */
-    AMSULFEZD_RECORD_LENGTH = 12,   /* poll record length */
-    AMSULFEZD_TELEGRAM_COUNT = 13,  /* telegram count above 8 */
-    AMSULFEZD_ZERO_BIT = 14,        /* a bit that should be zero */
-    AMSULFEZD_NO_BYTES = 15,        /* sending 0 bytes */
-    AMSULFEZD_PASSIVE = 16,         /* passive */
-    AMSULFEZD_CUT = 17,             /* trace ends inside header or entry, or is above 2^32 bytes */
-    AMSULFEZD_NO_ROOM = 18          /* no 8 bytes left for an answer */
+    AMSULFEZD_REFUSAL_ADDRESS = 1,          /* address above 125 */
+    AMSULFEZD_REFUSAL_SLOT = 2,             /* slot too small */
+    AMSULFEZD_REFUSAL_HSA = 3,              /* HSA not above the address, or above 126 */
+    AMSULFEZD_REFUSAL_ROTATION = 4,         /* rotation outside 256..16,777,960 */
+    AMSULFEZD_REFUSAL_GAP_WAIT = 5,         /* gap wait outside 1..100 */
+    AMSULFEZD_REFUSAL_RETRY = 6,            /* retry outside 1..15 */
+    AMSULFEZD_REFUSAL_MIN_TSDR = 7,         /* min Tsdr below 11 */
+    AMSULFEZD_REFUSAL_WATCHDOG = 8,         /* watchdog outside 10..650,000 ms, or one factor zero in a header */
+    AMSULFEZD_REFUSAL_FACTORS = 9,          /* factors: u above 65,025 */
+    AMSULFEZD_REFUSAL_BAUD = 10,            /* baud code above 10 */
+    AMSULFEZD_REFUSAL_APPLICATIONS = 11,    /* applications not 1..8 */
+    AMSULFEZD_REFUSAL_RECORD_LENGTH = 12,   /* poll record length */
+    AMSULFEZD_REFUSAL_TELEGRAM_COUNT = 13,  /* telegram count above 8 */
+    AMSULFEZD_REFUSAL_ZERO_BIT = 14,        /* a bit that should be zero */
+    AMSULFEZD_REFUSAL_NO_BYTES = 15,        /* sending 0 bytes */
+    AMSULFEZD_REFUSAL_PASSIVE = 16,         /* passive */
+    AMSULFEZD_REFUSAL_CUT = 17,             /* trace ends inside header or entry, or is above 2^32 bytes */
+    AMSULFEZD_REFUSAL_NO_ROOM = 18          /* no 8 bytes left for an answer */
 };
 
+/* How a poll ended. */
+enum amsulfezd_outcome {
+    AMSULFEZD_OUTCOME_NONE = 0,         /* no poll: a command, or an entry that was refused */
+    AMSULFEZD_OUTCOME_OFFLINE = 1,      /* the station is not online */
+    AMSULFEZD_OUTCOME_TRANSMISSION = 2, /* a transmission was found going on, or one was begun */
+    AMSULFEZD_OUTCOME_BUS = 3,          /* it waits for something to happen on the bus */
+    AMSULFEZD_OUTCOME_DELAY = 4         /* it waits for time to pass */
+};
+
+/* The station's state after an entry. amsulfezd_state_name gives its name. */
+enum amsulfezd_state {
+    AMSULFEZD_STATE_OFFLINE = 0,
+    AMSULFEZD_STATE_LISTEN_TOKEN = 1,
+    AMSULFEZD_STATE_ACTIVE_IDLE = 2,
+    AMSULFEZD_STATE_USE_TOKEN = 3,
+    AMSULFEZD_STATE_CLAIM_TOKEN = 4,
+    AMSULFEZD_STATE_AWAIT_DATA_RESPONSE = 5,
+    AMSULFEZD_STATE_PASS_TOKEN = 6,
+    AMSULFEZD_STATE_CHECK_TOKEN_PASS = 7,
+    AMSULFEZD_STATE_AWAIT_STATUS_RESPONSE = 8
+};
+
+/* What the station sent in a poll. */
+enum amsulfezd_sent {
+    AMSULFEZD_SENT_NONE = 0,
+    AMSULFEZD_SENT_TOKEN = 1,
+    AMSULFEZD_SENT_STATUS_REQUEST = 2,
+    AMSULFEZD_SENT_STATUS_RESPONSE = 3,
+    AMSULFEZD_SENT_APPLICATION = 4 /* an application's telegram */
+};
+
+/* What a response says of the station that sends it. */
+enum amsulfezd_station_type {
+    AMSULFEZD_TYPE_SLAVE = 0,
+    AMSULFEZD_TYPE_NOT_READY = 1,
+    AMSULFEZD_TYPE_WITHOUT_TOKEN = 2,
+    AMSULFEZD_TYPE_IN_RING = 3
+};
+
+/* What an application was told in a poll. */
+enum amsulfezd_notice {
+    AMSULFEZD_NOTICE_NONE = 0,
+    AMSULFEZD_NOTICE_REPLY = 1,  /* the reply that it waited for came */
+    AMSULFEZD_NOTICE_TIMEOUT = 2 /* it did not come in time */
+};
+
+/* A trace's entries that are commands. */
+enum amsulfezd_command {
+    AMSULFEZD_COMMAND_ONLINE = 0,
+    AMSULFEZD_COMMAND_OFFLINE = 1,
+    AMSULFEZD_COMMAND_PASSIVE = 2
+};
+
+/* The kinds of a telegram that a poll record reports. */
+enum amsulfezd_telegram_kind {
+    AMSULFEZD_TELEGRAM_TOKEN = 0,
+    AMSULFEZD_TELEGRAM_SHORT_CONFIRMATION = 1,
+    AMSULFEZD_TELEGRAM_REQUEST = 2,
+    AMSULFEZD_TELEGRAM_RESPONSE = 3
+};
+
+/* ---- The call ---------------------------------------------------------------------------------------------------- */
+
+#ifndef AMSULFEZD_WITHOUT_CALL
 /*
  * Runs a trace from a fresh station and writes an answer for each entry.
  *
  * trace, trace_len      The trace: a header of 16 bytes, then entries. It is read only. A trace above 2^32 bytes is
  *                       refused with 17.
  * answers, answers_len  Where the answers go: the answer to the entry with index i, counted from 0, into the 8 bytes
- *                       from 8 * i on, most significant byte first. A trace of n bytes, n at least 16, has at most n - 16 entries, so
- *                       8 * (n - 16) bytes are always enough.
+ *                       from 8 * i on, most significant byte first. A trace of n bytes, n at least 16, has at most
+ *                       n - 16 entries, so 8 * (n - 16) bytes are always enough.
  *
  * Returns the number of entries answered, times 256, plus the ending number: 0 if the trace was read to its end, 17
- * if it ends inside its header or an entry or is above 2^32 bytes, 18 if there was no room for an answer, or the number of a refused header.
- * Take it apart with amsulfezd_entries and amsulfezd_ending.
+ * if it ends inside its header or an entry or is above 2^32 bytes, 18 if there was no room for an answer, or the number
+ * of a refused header. Take it apart with amsulfezd_entries and amsulfezd_ending.
  *
  * Which bytes change: exactly the 8 bytes of each answered entry. All others of `answers` keep their value, and nothing
  * else is written. After 17 or 18 the answers before it stand. A refused header writes nothing. An entry that is
  * refused with 12 to 16 gets an answer with its number, and the run goes on.
  *
- * What the caller must ensure: `trace` points to trace_len readable bytes and `answers` to answers_len writable ones for
- * the time of the call; the two do not overlap; neither is NULL, not even with length 0; nobody else writes to
+ * What the caller must ensure: `trace` points to trace_len readable bytes and `answers` to answers_len writable ones
+ * for the time of the call; the two do not overlap; neither is NULL, not even with length 0; nobody else writes to
  * either during the call. Any content is allowed.
  *
  * Ownership: both stay the caller's. The call keeps no pointer and allocates nothing.
@@ -73,6 +174,7 @@ enum amsulfezd_refusal {
  * It always returns; its time grows with the number of entries.
  */
 uint64_t amsulfezd_replay_trace(const uint8_t *trace, size_t trace_len, uint8_t *answers, size_t answers_len);
+#endif
 
 /* The number of entries answered, of what amsulfezd_replay_trace returned. */
 static inline uint64_t amsulfezd_entries(uint64_t returned)
@@ -80,10 +182,439 @@ static inline uint64_t amsulfezd_entries(uint64_t returned)
     return returned / 256;
 }
 
-/* The ending number, of what amsulfezd_replay_trace returned. */
+/* The ending number, of what amsulfezd_replay_trace returned: see enum amsulfezd_refusal. */
 static inline unsigned amsulfezd_ending(uint64_t returned)
 {
     return (unsigned)(returned % 256);
+}
+
+/* ---- Readers of an answer ---------------------------------------------------------------------------------------- */
+
+/* The answer in these 8 bytes, as a word whose fields the functions below read. Of entry i: answers + 8 * i. */
+static inline uint64_t amsulfezd_answer(const uint8_t *bytes)
+{
+    uint64_t answer = 0;
+    int i;
+    for (i = 0; i < AMSULFEZD_ANSWER_LENGTH; i++) {
+        answer = answer << 8 | bytes[i];
+    }
+    return answer;
+}
+
+/* For the readers below: the field of `width` bits above the lowest `place` bits. */
+static inline unsigned amsulfezd_field(uint64_t answer, unsigned place, unsigned width)
+{
+    return (unsigned)(answer >> place & ((UINT64_C(1) << width) - 1));
+}
+
+/* Why the entry was refused: AMSULFEZD_OK, or 12 to 16 of enum amsulfezd_refusal. The topmost 5 bits. */
+static inline unsigned amsulfezd_answer_refusal(uint64_t answer)
+{
+    return (unsigned)(answer >> 59);
+}
+
+/* How the poll ended: enum amsulfezd_outcome. */
+static inline unsigned amsulfezd_answer_outcome(uint64_t answer)
+{
+    return amsulfezd_field(answer, 56, 3);
+}
+
+/* The state after the entry: enum amsulfezd_state. */
+static inline unsigned amsulfezd_answer_state(uint64_t answer)
+{
+    return amsulfezd_field(answer, 52, 4);
+}
+
+/* What was sent: enum amsulfezd_sent. */
+static inline unsigned amsulfezd_answer_sent(uint64_t answer)
+{
+    return amsulfezd_field(answer, 49, 3);
+}
+
+/* To whom it was sent. An application's telegram: whose reply is awaited, 0 also where none is. */
+static inline unsigned amsulfezd_answer_destination(uint64_t answer)
+{
+    return amsulfezd_field(answer, 42, 7);
+}
+
+/* What a status response says: enum amsulfezd_station_type. */
+static inline unsigned amsulfezd_answer_response_type(uint64_t answer)
+{
+    return amsulfezd_field(answer, 40, 2);
+}
+
+/* Which application's telegram was sent, from 0. */
+static inline unsigned amsulfezd_answer_application(uint64_t answer)
+{
+    return amsulfezd_field(answer, 37, 3);
+}
+
+/* 1 if that telegram was of high priority. */
+static inline unsigned amsulfezd_answer_high(uint64_t answer)
+{
+    return amsulfezd_field(answer, 36, 1);
+}
+
+/* How many bytes were sent. */
+static inline unsigned amsulfezd_answer_bytes(uint64_t answer)
+{
+    return amsulfezd_field(answer, 28, 8);
+}
+
+/* How many of the poll's telegrams were consumed. */
+static inline unsigned amsulfezd_answer_consumed(uint64_t answer)
+{
+    return amsulfezd_field(answer, 24, 4);
+}
+
+/* What an application was told: enum amsulfezd_notice. */
+static inline unsigned amsulfezd_answer_notice(uint64_t answer)
+{
+    return amsulfezd_field(answer, 22, 2);
+}
+
+/* Which application was told, from 0. */
+static inline unsigned amsulfezd_answer_notice_application(uint64_t answer)
+{
+    return amsulfezd_field(answer, 19, 3);
+}
+
+/* Whose reply it was told of. */
+static inline unsigned amsulfezd_answer_notice_address(uint64_t answer)
+{
+    return amsulfezd_field(answer, 12, 7);
+}
+
+/* Which application is asked next, from 0. */
+static inline unsigned amsulfezd_answer_next_application(uint64_t answer)
+{
+    return amsulfezd_field(answer, 9, 3);
+}
+
+/* The next station in the ring. */
+static inline unsigned amsulfezd_answer_next_station(uint64_t answer)
+{
+    return amsulfezd_field(answer, 2, 7);
+}
+
+/* The name of a state. */
+static inline const char *amsulfezd_state_name(unsigned state)
+{
+    switch (state) {
+    case AMSULFEZD_STATE_OFFLINE:
+        return "Offline";
+    case AMSULFEZD_STATE_LISTEN_TOKEN:
+        return "ListenToken";
+    case AMSULFEZD_STATE_ACTIVE_IDLE:
+        return "ActiveIdle";
+    case AMSULFEZD_STATE_USE_TOKEN:
+        return "UseToken";
+    case AMSULFEZD_STATE_CLAIM_TOKEN:
+        return "ClaimToken";
+    case AMSULFEZD_STATE_AWAIT_DATA_RESPONSE:
+        return "AwaitDataResponse";
+    case AMSULFEZD_STATE_PASS_TOKEN:
+        return "PassToken";
+    case AMSULFEZD_STATE_CHECK_TOKEN_PASS:
+        return "CheckTokenPass";
+    case AMSULFEZD_STATE_AWAIT_STATUS_RESPONSE:
+        return "AwaitStatusResponse";
+    default:
+        return "unknown";
+    }
+}
+
+/* ---- Writers of a trace ------------------------------------------------------------------------------------------ */
+
+/*
+ * Each writes a header or an entry to the start of `to`, which has `room` bytes, and returns how many bytes it wrote.
+ * It writes nothing and returns 0 where there is not room enough, or where a value does not fit its field. Whether
+ * what is written is accepted is the call's matter, and its answer tells.
+ */
+
+/* The settings at the head of a trace. */
+struct amsulfezd_header {
+    uint8_t address;        /* 0..125 */
+    uint8_t baud;           /* code 0..10, for 9600 to 12,000,000 bits a second */
+    uint16_t slot_bits;     /* at least 100 for codes 0 to 5, then 200, 300, 400, 600, 1000 */
+    uint32_t rotation_bits; /* 256..16,777,960 */
+    uint8_t gap_wait;       /* 1..100 rotations */
+    uint8_t hsa;            /* highest station address: above the address, at most 126 */
+    uint8_t retry;          /* 1..15 */
+    uint8_t min_tsdr;       /* at least 11 bits */
+    uint8_t applications;   /* 1..8 */
+    uint8_t factor_1;       /* the watchdog's factors: both zero for none, or neither */
+    uint8_t factor_2;
+};
+
+/* What an application would do if it were asked in a poll: see amsulfezd_declines, _tells and _asks. */
+struct amsulfezd_decision {
+    uint8_t sends;         /* 0 or 1; if 0, all else is 0 */
+    uint8_t expects_reply; /* 0 or 1; if 0, the address is 0 */
+    uint8_t reply_address; /* 7 bits */
+    uint8_t length;        /* of its telegram, in bytes */
+};
+
+/* What one application would do, by priority. */
+struct amsulfezd_decisions {
+    struct amsulfezd_decision normal;
+    struct amsulfezd_decision high;
+};
+
+/* A telegram that was received: see amsulfezd_token and those after it. Fields that its kind does not have are 0. */
+struct amsulfezd_telegram {
+    uint8_t kind;           /* enum amsulfezd_telegram_kind */
+    uint8_t destination;    /* 7 bits */
+    uint8_t source;         /* 7 bits */
+    uint8_t status_request; /* 0 or 1 */
+    uint8_t station_type;   /* enum amsulfezd_station_type */
+    uint8_t status;         /* 4 bits, 0 = Ok */
+};
+
+/* A poll: what the port reports and what the applications would do. */
+struct amsulfezd_poll {
+    uint64_t clock;       /* microseconds, 48 bits */
+    uint8_t transmitting; /* 1 if the port is still transmitting, else 0 */
+    uint16_t pending;     /* bytes in the receive buffer, 11 bits */
+    size_t applications;  /* as many as in the trace's header */
+    const struct amsulfezd_decisions *decisions; /* one for each application; NULL if all decline */
+    size_t telegram_count;                       /* 4 bits; above 8 is refused with 13 */
+    const struct amsulfezd_telegram *telegrams;  /* the oldest first; may be NULL if there are none */
+};
+
+/* For the writers below: whether the value has at most `width` bits. */
+static inline int amsulfezd_fits(uint64_t value, unsigned width)
+{
+    return value >> width == 0;
+}
+
+/* For the writers below: the lowest `count` bytes of the word, most significant first. */
+static inline uint8_t *amsulfezd_store(uint8_t *to, unsigned count, uint64_t word)
+{
+    while (count != 0) {
+        count--;
+        *to++ = (uint8_t)(word >> 8 * count & 255);
+    }
+    return to;
+}
+
+/*
+ * The settings of document 01's example 12 with this address, baud code and number of applications: slot 200, rotation
+ * 32,436, gap wait 10, HSA 126, retry 1, min Tsdr 11, no watchdog.
+ */
+static inline struct amsulfezd_header amsulfezd_new_header(uint8_t address, uint8_t baud, uint8_t applications)
+{
+    struct amsulfezd_header header;
+    header.address = address;
+    header.baud = baud;
+    header.slot_bits = 200;
+    header.rotation_bits = 32436;
+    header.gap_wait = 10;
+    header.hsa = 126;
+    header.retry = 1;
+    header.min_tsdr = 11;
+    header.applications = applications;
+    header.factor_1 = 0;
+    header.factor_2 = 0;
+    return header;
+}
+
+/* Writes a header: AMSULFEZD_HEADER_LENGTH bytes. */
+static inline size_t amsulfezd_write_header(uint8_t *to, size_t room, const struct amsulfezd_header *header)
+{
+    if (room < AMSULFEZD_HEADER_LENGTH) {
+        return 0;
+    }
+    to = amsulfezd_store(to, 1, header->address);
+    to = amsulfezd_store(to, 1, header->baud);
+    to = amsulfezd_store(to, 2, header->slot_bits);
+    to = amsulfezd_store(to, 4, header->rotation_bits);
+    to = amsulfezd_store(to, 1, header->gap_wait);
+    to = amsulfezd_store(to, 1, header->hsa);
+    to = amsulfezd_store(to, 1, header->retry);
+    to = amsulfezd_store(to, 1, header->min_tsdr);
+    to = amsulfezd_store(to, 1, header->applications);
+    to = amsulfezd_store(to, 1, header->factor_1);
+    to = amsulfezd_store(to, 1, header->factor_2);
+    amsulfezd_store(to, 1, 0);
+    return AMSULFEZD_HEADER_LENGTH;
+}
+
+/* Writes a command, enum amsulfezd_command: 1 byte. */
+static inline size_t amsulfezd_write_command(uint8_t *to, size_t room, unsigned command)
+{
+    if (room < 1 || command > AMSULFEZD_COMMAND_PASSIVE) {
+        return 0;
+    }
+    amsulfezd_store(to, 1, command);
+    return 1;
+}
+
+/* An application that has nothing to send. */
+static inline struct amsulfezd_decision amsulfezd_declines(void)
+{
+    struct amsulfezd_decision decision;
+    decision.sends = 0;
+    decision.expects_reply = 0;
+    decision.reply_address = 0;
+    decision.length = 0;
+    return decision;
+}
+
+/* An application that would send a telegram of so many bytes and waits for no reply. */
+static inline struct amsulfezd_decision amsulfezd_tells(uint8_t length)
+{
+    struct amsulfezd_decision decision = amsulfezd_declines();
+    decision.sends = 1;
+    decision.length = length;
+    return decision;
+}
+
+/* An application that would send a telegram of so many bytes and wait for the reply of this address. */
+static inline struct amsulfezd_decision amsulfezd_asks(uint8_t reply_address, uint8_t length)
+{
+    struct amsulfezd_decision decision = amsulfezd_tells(length);
+    decision.expects_reply = 1;
+    decision.reply_address = reply_address;
+    return decision;
+}
+
+/* A telegram that says no more than its kind. */
+static inline struct amsulfezd_telegram amsulfezd_short_confirmation(void)
+{
+    struct amsulfezd_telegram telegram;
+    telegram.kind = AMSULFEZD_TELEGRAM_SHORT_CONFIRMATION;
+    telegram.destination = 0;
+    telegram.source = 0;
+    telegram.status_request = 0;
+    telegram.station_type = 0;
+    telegram.status = 0;
+    return telegram;
+}
+
+/* A token passed from source to destination. */
+static inline struct amsulfezd_telegram amsulfezd_token(uint8_t source, uint8_t destination)
+{
+    struct amsulfezd_telegram telegram = amsulfezd_short_confirmation();
+    telegram.kind = AMSULFEZD_TELEGRAM_TOKEN;
+    telegram.destination = destination;
+    telegram.source = source;
+    return telegram;
+}
+
+/* Any request but a status request. */
+static inline struct amsulfezd_telegram amsulfezd_request(uint8_t source, uint8_t destination)
+{
+    struct amsulfezd_telegram telegram = amsulfezd_token(source, destination);
+    telegram.kind = AMSULFEZD_TELEGRAM_REQUEST;
+    return telegram;
+}
+
+/* The question whether a station is there, and which. */
+static inline struct amsulfezd_telegram amsulfezd_status_request(uint8_t source, uint8_t destination)
+{
+    struct amsulfezd_telegram telegram = amsulfezd_request(source, destination);
+    telegram.status_request = 1;
+    return telegram;
+}
+
+/* A response: enum amsulfezd_station_type, and a status (0 = Ok). */
+static inline struct amsulfezd_telegram amsulfezd_response(uint8_t source, uint8_t destination, uint8_t station_type,
+                                                           uint8_t status)
+{
+    struct amsulfezd_telegram telegram = amsulfezd_token(source, destination);
+    telegram.kind = AMSULFEZD_TELEGRAM_RESPONSE;
+    telegram.station_type = station_type;
+    telegram.status = status;
+    return telegram;
+}
+
+/* A poll at which nothing was received and every application declines. */
+static inline struct amsulfezd_poll amsulfezd_poll_at(uint64_t clock, size_t applications)
+{
+    struct amsulfezd_poll poll;
+    poll.clock = clock;
+    poll.transmitting = 0;
+    poll.pending = 0;
+    poll.applications = applications;
+    poll.decisions = NULL;
+    poll.telegram_count = 0;
+    poll.telegrams = NULL;
+    return poll;
+}
+
+/* For amsulfezd_write_poll: whether each field of a decision fits. */
+static inline int amsulfezd_decision_fits(const struct amsulfezd_decision *decision)
+{
+    return amsulfezd_fits(decision->sends, 1) && amsulfezd_fits(decision->expects_reply, 1) &&
+           amsulfezd_fits(decision->reply_address, 7);
+}
+
+/* For amsulfezd_write_poll: whether each field of a telegram fits. */
+static inline int amsulfezd_telegram_fits(const struct amsulfezd_telegram *telegram)
+{
+    return amsulfezd_fits(telegram->kind, 2) && amsulfezd_fits(telegram->destination, 7) &&
+           amsulfezd_fits(telegram->source, 7) && amsulfezd_fits(telegram->status_request, 1) &&
+           amsulfezd_fits(telegram->station_type, 2) && amsulfezd_fits(telegram->status, 4);
+}
+
+/* For amsulfezd_write_poll: a decision's 24 bits. */
+static inline uint64_t amsulfezd_decision_word(const struct amsulfezd_decision *decision)
+{
+    return (uint64_t)decision->sends << 23 | (uint64_t)decision->expects_reply << 22 |
+           (uint64_t)decision->reply_address << 15 | (uint64_t)decision->length << 7;
+}
+
+/* For amsulfezd_write_poll: a telegram's 32 bits. */
+static inline uint64_t amsulfezd_telegram_word(const struct amsulfezd_telegram *telegram)
+{
+    return (uint64_t)telegram->kind << 30 | (uint64_t)telegram->destination << 23 | (uint64_t)telegram->source << 16 |
+           (uint64_t)telegram->status_request << 15 | (uint64_t)telegram->station_type << 13 |
+           (uint64_t)telegram->status << 9;
+}
+
+/*
+ * Writes a poll as an entry: a byte with the record's length, which is 8 + 6 for each application + 4 for each
+ * telegram, and the record. At most AMSULFEZD_ENTRY_LENGTH bytes.
+ */
+static inline size_t amsulfezd_write_poll(uint8_t *to, size_t room, const struct amsulfezd_poll *poll)
+{
+    const struct amsulfezd_decisions *decisions = poll->decisions;
+    const struct amsulfezd_telegram *telegrams = poll->telegrams;
+    size_t length, i;
+    if (!amsulfezd_fits(poll->clock, 48) || !amsulfezd_fits(poll->transmitting, 1) ||
+        !amsulfezd_fits(poll->telegram_count, 4) || !amsulfezd_fits(poll->pending, 11)) {
+        return 0;
+    }
+    if (poll->applications > 255) {
+        return 0; /* far too many, and the length below cannot overflow */
+    }
+    length = 8 + 6 * poll->applications + 4 * poll->telegram_count;
+    if (!amsulfezd_fits(length, 8) || room < 1 + length) {
+        return 0;
+    }
+    for (i = 0; decisions != NULL && i < poll->applications; i++) {
+        if (!amsulfezd_decision_fits(&decisions[i].normal) || !amsulfezd_decision_fits(&decisions[i].high)) {
+            return 0;
+        }
+    }
+    for (i = 0; i < poll->telegram_count; i++) {
+        if (!amsulfezd_telegram_fits(&telegrams[i])) {
+            return 0;
+        }
+    }
+    to = amsulfezd_store(to, 1, length);
+    to = amsulfezd_store(to, 8,
+                         poll->clock << 16 | (uint64_t)poll->transmitting << 15 |
+                             (uint64_t)poll->telegram_count << 11 | (uint64_t)poll->pending);
+    for (i = 0; i < poll->applications; i++) {
+        to = amsulfezd_store(to, 3, decisions == NULL ? 0 : amsulfezd_decision_word(&decisions[i].normal));
+        to = amsulfezd_store(to, 3, decisions == NULL ? 0 : amsulfezd_decision_word(&decisions[i].high));
+    }
+    for (i = 0; i < poll->telegram_count; i++) {
+        to = amsulfezd_store(to, 4, amsulfezd_telegram_word(&telegrams[i]));
+    }
+    return 1 + length;
 }
 
 #ifdef __cplusplus

@@ -9,12 +9,8 @@
 #include <stdlib.h>
 #include <string.h>
 
-/* Document 01's example 12. */
-static const uint8_t header[AMSULFEZD_HEADER_LENGTH] = {0x05, 0x06, 0x00, 0xc8, 0x00, 0x00, 0x7e, 0xb4,
-                                                        0x0a, 0x7e, 0x01, 0x0b, 0x01, 0x00, 0x00, 0x00};
-
-/* A poll for one application that declines: its length, the clock, and all else zero. */
-enum { POLL = 15, BAD = 4 };
+/* The length of an entry with a record of three bytes. */
+enum { BAD = 4 };
 
 static int fail(const char *why)
 {
@@ -32,30 +28,36 @@ static uint8_t *zeros(size_t size)
     return memory;
 }
 
-/* Online, and then polls 100 microseconds apart, as many as fit. Its entries are counted. */
+/* The header of document 01's example 12. */
+static size_t put_header(uint8_t *trace, size_t size)
+{
+    const struct amsulfezd_header header = amsulfezd_new_header(5, 6, 1);
+    return amsulfezd_write_header(trace, size, &header);
+}
+
+/* Online, and then polls 100 microseconds apart in which nothing comes, as many as fit. Its entries are counted. */
 static size_t polls(uint8_t *trace, size_t size, size_t *entries)
 {
-    size_t at = sizeof header + 1;
-    uint64_t clock = 1000;
-    memcpy(trace, header, sizeof header);
+    size_t length = put_header(trace, size), written;
+    struct amsulfezd_poll poll = amsulfezd_poll_at(1000, 1);
+    length += amsulfezd_write_command(trace + length, size - length, AMSULFEZD_COMMAND_ONLINE);
     *entries = 1;
-    for (; size - at >= POLL; at += POLL, clock += 100, (*entries)++) {
-        trace[at] = POLL - 1;
-        for (int i = 0; i < 6; i++) {
-            trace[at + 1 + i] = (uint8_t)(clock >> (40 - 8 * i));
-        }
+    while ((written = amsulfezd_write_poll(trace + length, size - length, &poll)) != 0) {
+        length += written;
+        poll.clock += 100;
+        (*entries)++;
     }
-    return at;
+    return length;
 }
 
 /* Records of three bytes. */
-static size_t bad(uint8_t *trace, size_t entries)
+static size_t bad(uint8_t *trace, size_t size, size_t entries)
 {
-    memcpy(trace, header, sizeof header);
+    size_t length = put_header(trace, size);
     for (size_t i = 0; i < entries; i++) {
-        trace[sizeof header + BAD * i] = BAD - 1;
+        trace[length + BAD * i] = BAD - 1;
     }
-    return sizeof header + BAD * entries;
+    return length + BAD * entries;
 }
 
 int main(int count, char **words)
@@ -68,8 +70,9 @@ int main(int count, char **words)
         return fail("usage: large polls BYTES or large bad ENTRIES, with a number from 100 to 2^32");
     }
     size_t entries = (size_t)number;
-    uint8_t *trace = zeros(refused ? sizeof header + BAD * entries : (size_t)number);
-    size_t size = refused ? bad(trace, entries) : polls(trace, (size_t)number, &entries);
+    size_t room = refused ? AMSULFEZD_HEADER_LENGTH + BAD * entries : (size_t)number;
+    uint8_t *trace = zeros(room);
+    size_t size = refused ? bad(trace, room, entries) : polls(trace, room, &entries);
     uint8_t *answers = zeros(AMSULFEZD_ANSWER_LENGTH * entries);
     uint64_t result = amsulfezd_replay_trace(trace, size, answers, AMSULFEZD_ANSWER_LENGTH * entries);
     if (amsulfezd_entries(result) != entries || amsulfezd_ending(result) != AMSULFEZD_OK) {
@@ -77,12 +80,11 @@ int main(int count, char **words)
     }
     uint64_t sent = 0;
     for (size_t i = 0; i < entries; i++) {
-        const uint8_t *answer = answers + AMSULFEZD_ANSWER_LENGTH * i;
-        unsigned refusal = answer[0] >> 3;
-        if (refusal != (refused ? AMSULFEZD_RECORD_LENGTH : AMSULFEZD_OK)) {
+        uint64_t answer = amsulfezd_answer(answers + AMSULFEZD_ANSWER_LENGTH * i);
+        if (amsulfezd_answer_refusal(answer) != (refused ? AMSULFEZD_REFUSAL_RECORD_LENGTH : AMSULFEZD_OK)) {
             return fail("an answer has another refusal than expected");
         }
-        sent += (answer[1] & 0x0e) != 0;
+        sent += amsulfezd_answer_sent(answer) != AMSULFEZD_SENT_NONE;
     }
     printf("large: %zu bytes, %zu entries, all answered, %llu of them with a telegram sent\n", size, entries,
            (unsigned long long)sent);

@@ -125,7 +125,7 @@ static void run_once(struct expected expected, size_t length, bool trace_upper, 
     uint64_t room = length / AMSULFEZD_ANSWER_LENGTH;
     bool enough = expected.entries <= room;
     uint64_t entries = enough ? expected.entries : room;
-    unsigned ending = enough ? expected.ending : (unsigned)AMSULFEZD_NO_ROOM;
+    unsigned ending = enough ? expected.ending : (unsigned)AMSULFEZD_REFUSAL_NO_ROOM;
     size_t written = (size_t)entries * AMSULFEZD_ANSWER_LENGTH;
     check(amsulfezd_entries(returned) == entries, "not the entries that should be answered", expected.name, length);
     check(amsulfezd_ending(returned) == ending, "not the ending number that it should be", expected.name, length);
@@ -165,7 +165,7 @@ static void test_example_12(void)
         size_t polls = length < 17 ? 0 : (length - 17) / 15;
         cut.entries = length < 17 ? 0 : 1 + polls;
         bool between = length == 16 || (length > 16 && (length - 17) % 15 == 0);
-        cut.ending = between ? AMSULFEZD_OK : AMSULFEZD_CUT;
+        cut.ending = between ? AMSULFEZD_OK : AMSULFEZD_REFUSAL_CUT;
         for (size_t i = 0; i < sizeof patterns; i++) {
             run_once(cut, LONGEST, true, true, patterns[i]);
             run_once(cut, LONGEST, false, false, patterns[i]);
@@ -181,12 +181,14 @@ static void test_refused_headers(void)
         uint8_t value;
         unsigned ending;
     } faults[] = {
-        {0, 126, AMSULFEZD_ADDRESS},  {1, 11, AMSULFEZD_BAUD},       {3, 199, AMSULFEZD_SLOT},
-        {9, 5, AMSULFEZD_HSA},        {9, 127, AMSULFEZD_HSA},       {4, 1, AMSULFEZD_ROTATION},
-        {8, 0, AMSULFEZD_GAP_WAIT},   {8, 101, AMSULFEZD_GAP_WAIT},  {10, 0, AMSULFEZD_RETRY},
-        {10, 16, AMSULFEZD_RETRY},    {11, 10, AMSULFEZD_MIN_TSDR},  {12, 0, AMSULFEZD_APPLICATIONS},
-        {12, 9, AMSULFEZD_APPLICATIONS}, {13, 1, AMSULFEZD_WATCHDOG}, {14, 1, AMSULFEZD_WATCHDOG},
-        {15, 1, AMSULFEZD_ZERO_BIT},
+        {0, 126, AMSULFEZD_REFUSAL_ADDRESS},     {1, 11, AMSULFEZD_REFUSAL_BAUD},
+        {3, 199, AMSULFEZD_REFUSAL_SLOT},        {9, 5, AMSULFEZD_REFUSAL_HSA},
+        {9, 127, AMSULFEZD_REFUSAL_HSA},         {4, 1, AMSULFEZD_REFUSAL_ROTATION},
+        {8, 0, AMSULFEZD_REFUSAL_GAP_WAIT},      {8, 101, AMSULFEZD_REFUSAL_GAP_WAIT},
+        {10, 0, AMSULFEZD_REFUSAL_RETRY},        {10, 16, AMSULFEZD_REFUSAL_RETRY},
+        {11, 10, AMSULFEZD_REFUSAL_MIN_TSDR},    {12, 0, AMSULFEZD_REFUSAL_APPLICATIONS},
+        {12, 9, AMSULFEZD_REFUSAL_APPLICATIONS}, {13, 1, AMSULFEZD_REFUSAL_WATCHDOG},
+        {14, 1, AMSULFEZD_REFUSAL_WATCHDOG},     {15, 1, AMSULFEZD_REFUSAL_ZERO_BIT},
     };
     for (size_t i = 0; i < sizeof faults / sizeof faults[0]; i++) {
         uint8_t trace[sizeof example_12];

@@ -286,16 +286,9 @@ pub fn replace_once(text: &str, old: &str, new: &str) -> Result<String, usize> {
 pub fn station_text(published: &str, published_helpers: bool) -> Result<String, String> {
     let mut text = published.to_string();
     for r in &REPLACEMENTS {
-        let ours = if r.always || !published_helpers {
-            r.ours
-        } else {
-            r.published
-        };
+        let ours = if r.always || !published_helpers { r.ours } else { r.published };
         text = replace_once(&text, r.published, ours).map_err(|count| {
-            format!(
-                "'{}': its text stands {} times in the published active.rs, not once",
-                r.name, count
-            )
+            format!("'{}': its text stands {} times in the published active.rs, not once", r.name, count)
         })?;
     }
     Ok(text)

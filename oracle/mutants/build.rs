@@ -18,74 +18,58 @@ const TOGETHER: [&str; 6] = ["time", "baud", "fdl", "phy", "port", "trace"];
 
 fn read(path: &str) -> String {
     println!("cargo:rerun-if-changed={}", path);
-    match std::fs::read_to_string(path) {
-        Ok(text) => text,
-        Err(e) => panic!("{}: {}", path, e),
-    }
+    std::fs::read_to_string(path).unwrap_or_else(|e| panic!("{}: {}", path, e))
 }
 
 fn main() {
-    for file in [
-        "build.rs",
-        "list.rs",
-        "../build/replacements.rs",
-        "../build/watch.rs",
-    ] {
+    for file in ["build.rs", "list.rs", "../build/replacements.rs", "../build/watch.rs"] {
         println!("cargo:rerun-if-changed={}", file);
     }
     let out = std::env::var("OUT_DIR").expect("cargo names a folder");
     let active = replacements::station_text(&read("../published/active.rs"), false)
         .expect("the published active.rs takes document 01's helpers");
-    let mut sources = vec![
-        ("active", active),
-        ("parameters", read("../published/parameters.rs")),
-    ];
+    let mut sources = vec![("active", active), ("parameters", read("../published/parameters.rs"))];
     for name in TOGETHER.iter().chain(&ALONE) {
-        sources.push((*name, read(&format!("../src/{}.rs", name))));
+        sources.push((*name, read(&format!("../src/helpers/{}.rs", name))));
     }
-    let mut index = String::new();
-    let mut calls = String::from("pub const CALLS: &[fn(&[u8], &mut [u8]) -> u64] = &[\n");
+    let settings_table = ("settings_table", read("../src/settings_table.rs"));
+    let (mut index, mut runs) = (String::new(), String::from("pub const RUNS: &[crate::Runs] = &[\n"));
     for (i, error) in list::PLANTED.iter().enumerate() {
         let name = format!("error_{}", i + 1);
         let folder = Path::new(&out).join(&name);
         std::fs::create_dir_all(&folder).expect("a folder can be made");
         let mut root = String::new();
-        for (file, text) in &sources {
-            let text = if *file == error.file {
-                match replacements::replace_once(text, error.old, error.new) {
-                    Ok(text) => text,
-                    Err(count) => panic!(
-                        "planted error {}: its text stands {} times in {}, not once:\n{}",
-                        i + 1,
-                        count,
-                        file,
-                        error.old
-                    ),
-                }
-            } else if ALONE.contains(file) {
+        // the settings table asks these files alone
+        let asked = ["parameters", "baud", "time", "dp"].contains(&error.file);
+        for (file, text) in sources.iter().chain(asked.then_some(&settings_table)) {
+            let planted = *file == error.file;
+            if !planted && ALONE.contains(file) {
                 writeln!(root, "pub use oracle::{};", file).expect("text");
                 continue;
+            }
+            let text = if planted {
+                replacements::replace_once(text, error.old, error.new).unwrap_or_else(|count| {
+                    panic!("{}: this text stands {} times in {}.rs, not once:\n{}", name, count, file, error.old)
+                })
             } else {
                 text.clone()
             };
             let text = text
                 .replace("crate::", &format!("crate::copies::{}::", name))
-                .replace("../published/parameters.rs", "parameters.rs");
-            std::fs::write(folder.join(format!("{}.rs", file)), text)
-                .expect("a file can be written");
+                .replace("../../published/parameters.rs", "parameters.rs");
+            std::fs::write(folder.join(format!("{}.rs", file)), text).expect("a file can be written");
             if *file != "parameters" {
                 writeln!(root, "#[path = \"{}.rs\"]\npub mod {};", file, file).expect("text");
             }
         }
-        root.push_str("pub mod station {\n    pub use super::active::{ConnectivityState, FdlActiveStation, Watched};\n}\n");
         root.push_str(
-            "pub use baud::Baudrate;\npub use oracle::{debug_assert_address, Address};\n",
+            "pub mod station {\n    pub use super::active::{ConnectivityState, FdlActiveStation, Watched};\n}\n",
         );
+        root.push_str("pub use baud::Baudrate;\npub use oracle::{debug_assert_address, Address};\n");
         std::fs::write(folder.join("mod.rs"), root).expect("a file can be written");
         writeln!(index, "#[path = \"{}/mod.rs\"]\nmod {};", name, name).expect("text");
-        writeln!(calls, "    {}::trace::replay_trace,", name).expect("text");
+        let table = if asked { format!("{}::settings_table::table", name) } else { "String::new".to_string() };
+        writeln!(runs, "    crate::Runs {{ traces: {}::trace::replay_trace, table: {} }},", name, table).expect("text");
     }
-    calls.push_str("];\n");
-    index.push_str(&calls);
-    std::fs::write(Path::new(&out).join("index.rs"), index).expect("a file can be written");
+    std::fs::write(Path::new(&out).join("index.rs"), index + &runs + "];\n").expect("a file can be written");
 }

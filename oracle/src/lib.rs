@@ -1,28 +1,25 @@
-//! The published Rust with document 01's helpers, models written from document 01's words, and what is
-//! needed to hold another program to them.
+//! The published Rust with document 01's helpers, and what holds another `replay_trace` to it by running.
 //!
-//! `ring` and `records` are the models; they know nothing of any program. `ring_calls` and
-//! `record_items` are the byte protocols of the two programs under test with their seeded
-//! generators. `compare`, `cli`, `coverage`, `pipe` and `seed` are the machinery that all share.
-//!
-//! `station` is the published `active.rs`, `fdl::parameters` the published `parameters.rs`. They find
-//! the names they use at the root of this crate: `time`, `phy`, `fdl`, `dp`, `Baudrate`, `log`. `port`
-//! drives the station by poll records, and `trace` replays a trace.
+//! Each folder leans on those before it: `helpers` (with the published text), then `generator` and `coverage`, which do not
+//! know each other, then `comparison`, then the programs.
 #![forbid(unsafe_code)]
 
-/// The published text writes `log::warn!`: the macros of `log.rs` stand at the root of this crate.
+/// The published text writes `log::warn!`: the macros of `helpers/log.rs` stand at the root of this crate.
 extern crate self as log;
 
-#[path = "log.rs"]
-mod log_macros;
-
-pub mod baud;
-pub mod dp;
-pub mod fdl;
-pub mod phy;
-pub mod port;
-pub mod time;
-pub mod trace;
+/// Document 01's helpers: the names that the published files use, ring, records, port and trace.
+mod helpers {
+    pub mod baud;
+    pub mod dp;
+    pub mod fdl;
+    mod log;
+    pub mod phy;
+    pub mod port;
+    pub mod records;
+    pub mod ring;
+    pub mod time;
+    pub mod trace;
+}
 
 /// The published `active.rs` as `build.rs` writes it.
 mod station {
@@ -31,33 +28,51 @@ mod station {
     pub use active::{ConnectivityState, FdlActiveStation, Watched};
 }
 
-pub use baud::Baudrate;
+/// Seeded traces.
+pub mod generator {
+    mod bad_records;
+    mod entries;
+    mod headers;
+    pub mod ordinary;
+    mod seed;
+    mod traces;
+    pub use traces::trace;
+}
+
+/// The cases that generated traces have to reach, by name.
+pub mod coverage {
+    mod events;
+    mod met;
+    mod points;
+    mod poll;
+    mod refusals;
+    pub use met::Met;
+}
+
+/// Holding another `replay_trace` to the oracle's.
+pub mod comparison {
+    pub mod compare;
+    pub mod program;
+    pub mod run;
+    pub mod shorten;
+    pub mod speed;
+    mod words;
+    pub use words::hex;
+}
+
+/// The settings table by the published `parameters.rs`.
+pub mod settings_table;
+
+/// What the program run_watchdog prints, by the published `parameters.rs`.
+pub mod watchdog_lines;
+
+// The published files find these names at the root.
+pub use helpers::{baud, baud::Baudrate, dp, fdl, phy, port, records, ring, time, trace};
 
 /// A station's address, as the published files name it.
 pub type Address = u8;
 
 /// The published check of `src/lib.rs`.
 pub fn debug_assert_address(addr: Address) {
-    debug_assert!(
-        addr <= 127,
-        "PROFIBUS address cannot be bigger than 127, got {}!",
-        addr
-    );
+    debug_assert!(addr <= 127, "PROFIBUS address cannot be bigger than 127, got {}!", addr);
 }
-
-pub mod cli;
-pub mod compare;
-pub mod coverage;
-pub mod ordinary;
-pub mod pipe;
-pub mod record_coverage;
-pub mod record_items;
-pub mod records;
-pub mod ring;
-pub mod ring_calls;
-pub mod ring_coverage;
-pub mod seed;
-pub mod speed;
-pub mod trace_compare;
-pub mod trace_coverage;
-pub mod trace_items;

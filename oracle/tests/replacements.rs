@@ -29,11 +29,7 @@ fn a_text_that_does_not_stand_once_fails_by_name() {
         assert!(said.contains(" 0 times"), "{}", said);
         let twice = format!("{}{}", PUBLISHED, r.published);
         let said = station_text(&twice, false).expect_err("it stands twice");
-        assert!(
-            said.contains(r.name) && said.contains(" 2 times"),
-            "{}",
-            said
-        );
+        assert!(said.contains(r.name) && said.contains(" 2 times"), "{}", said);
     }
 }
 

@@ -1,168 +1,95 @@
-//! Document 01's examples 9 to 12 through the oracle, the published calls that the replay does not
-//! make, the programs, and that the comparison of traces can fail.
+//! Document 01's examples 9 to 12 through the oracle, the published calls that the replay does not make, the programs, and
+//! that the comparison can fail.
 
+use oracle::comparison::compare::compare_traces;
+use oracle::comparison::{hex, run::Replay};
 use oracle::fdl::{FdlActiveStation, FdlApplication};
+use oracle::generator::trace;
 use oracle::port::{RecordApplication, RecordPort};
-use oracle::records::{Answer, Decision, PollRecord, Sent, Telegram};
+use oracle::records::{PollRecord, Sent, Telegram};
 use oracle::time::Instant;
 use oracle::trace::{replay_trace, Entry, Header, Runner, ANSWER};
-use oracle::trace_compare::{compare_traces, hex};
-use oracle::trace_items::trace;
 use std::io::Write;
 use std::process::{Command, Stdio};
 
-/// The header of example 12: "Address 5, code 6, slot 200, one application".
-const HEADER: &str = "050600c800007eb40a7e010b01000000";
-
-fn bytes_of(digits: &str) -> Vec<u8> {
-    (0..digits.len() / 2)
-        .map(|i| u8::from_str_radix(&digits[2 * i..2 * i + 2], 16).expect("hex"))
-        .collect()
-}
-
-fn header() -> Header {
-    let bytes: [u8; 16] = bytes_of(HEADER).try_into().expect("16 bytes");
-    Header::read(&bytes)
-}
-
 /// A poll at this time, all else zero.
 fn silent(clock: u64) -> PollRecord {
-    PollRecord {
-        clock,
-        transmitting: false,
-        pending: 0,
-        decisions: vec![(Decision::Declines, Decision::Declines)],
-        telegrams: Vec::new(),
-    }
+    PollRecord::silent(clock, 1)
 }
 
 fn hearing(clock: u64, telegrams: Vec<Telegram>) -> PollRecord {
-    PollRecord {
-        telegrams,
-        ..silent(clock)
-    }
+    PollRecord { telegrams, ..silent(clock) }
 }
 
-fn token(source: u8, destination: u8) -> Telegram {
-    Telegram::Token {
-        destination,
-        source,
-    }
-}
-
-fn sent_and_state(answer: &Answer) -> (Sent, u8) {
-    match *answer {
-        Answer::Done { sent, state, .. } => (sent, state),
-        Answer::Refused { number, .. } => panic!("refused with {}", number),
-    }
-}
-
-/// A station that has claimed the token alone, and the time after its second claim.
-fn claimed() -> (Runner, u64) {
-    let mut runner = Runner::new(&header());
+/// A station that is online.
+fn online() -> Runner {
+    let mut runner = Runner::new(&Header::EXAMPLE_12);
     runner.entry(Entry::Online);
-    for clock in [1000, 7400, 7532] {
-        runner.poll(&silent(clock));
-    }
-    (runner, 7532)
+    runner
 }
 
-/// Polls in steps of 10 µs until the station has sent something; gives that and the time.
+/// Polls in steps of 10 µs until the station has sent something; gives that and the state.
 fn until_sent(runner: &mut Runner, clock: &mut u64) -> (Sent, u8) {
     loop {
         *clock += 10;
-        let (sent, state) = sent_and_state(&runner.poll(&silent(*clock)));
-        if sent != Sent::Nothing {
-            return (sent, state);
+        let answer = runner.poll(&silent(*clock));
+        if answer.sent != Sent::Nothing {
+            return (answer.sent, answer.state);
         }
     }
 }
 
 #[test]
 fn example_9_passes_1_to_11_count_and_pass_12_polls() {
-    let (mut runner, mut clock) = claimed();
+    let mut runner = online();
+    for clock in [1000, 7400, 7532] {
+        runner.poll(&silent(clock));
+    }
+    let mut clock = 7532;
     for pass in 1..=11 {
         let (sent, _) = until_sent(&mut runner, &mut clock);
         assert_eq!(sent, Sent::Token { destination: 5 }, "pass {}", pass);
         assert_eq!(runner.station.watch().gap_count, pass);
     }
-    let (sent, state) = until_sent(&mut runner, &mut clock);
-    assert_eq!((sent, state), (Sent::StatusRequest { destination: 6 }, 8));
+    assert_eq!(until_sent(&mut runner, &mut clock), (Sent::StatusRequest { destination: 6 }, 8));
 }
 
 #[test]
 fn example_10_tokens_to_9_9_9_and_5() {
-    let mut runner = Runner::new(&header());
-    runner.entry(Entry::Online);
+    let mut runner = online();
     // ready after two laps, asked by 9, in the ring, given the token
-    runner.poll(&hearing(1000, vec![token(9, 9), token(9, 9)]));
-    let request = Telegram::Request {
-        destination: 5,
-        source: 9,
-        status_request: true,
-    };
-    runner.poll(&hearing(1100, vec![request]));
+    runner.poll(&hearing(1000, vec![Telegram::token(9, 9); 2]));
+    runner.poll(&hearing(1100, vec![Telegram::status_request(9, 5)]));
     let mut clock = 1100;
     until_sent(&mut runner, &mut clock);
     clock += 200;
-    let answer = runner.poll(&hearing(clock, vec![token(9, 5)]));
-    assert_eq!(sent_and_state(&answer), (Sent::Nothing, 3));
-    let mut tokens = Vec::new();
-    let mut state = 3;
-    while state != 3 || tokens.is_empty() {
-        let (sent, now) = until_sent(&mut runner, &mut clock);
-        match sent {
-            Sent::Token { destination } => tokens.push(destination),
-            other => panic!("{:?} was sent", other),
-        }
-        state = now;
+    let answer = runner.poll(&hearing(clock, vec![Telegram::token(9, 5)]));
+    assert_eq!((answer.sent, answer.state), (Sent::Nothing, 3));
+    for (destination, state) in [(9, 7), (9, 7), (9, 7), (5, 3)] {
+        assert_eq!(until_sent(&mut runner, &mut clock), (Sent::Token { destination }, state));
     }
-    assert_eq!(tokens, [9, 9, 9, 5]);
 }
 
 #[test]
 fn example_11_second_collision_in_listen_token() {
-    let fresh = |runner: &Runner| format!("{:?}", runner.station);
-    let new = fresh(&Runner::new(&header()));
-    let mut runner = Runner::new(&header());
-    runner.entry(Entry::Online);
-    runner.poll(&hearing(1000, vec![token(5, 9)]));
-    let answer = runner.poll(&hearing(2000, vec![token(5, 9)]));
-    let done = |consumed| Answer::Done {
-        outcome: 3,
-        state: 0,
-        sent: Sent::Nothing,
-        consumed,
-        notice: oracle::records::Notice::Nothing,
-        next_application: 0,
-        next_station: 5,
-    };
-    assert_eq!(answer, done(1));
-    assert_eq!(fresh(&runner), new);
-
-    let mut runner = Runner::new(&header());
-    runner.entry(Entry::Online);
-    runner.poll(&hearing(1000, vec![token(5, 9)]));
-    let answer = runner.poll(&hearing(2000, vec![token(5, 9), token(9, 7)]));
-    assert_eq!(answer, done(2));
-    let activity = runner.station.watch().last_bus_activity;
-    assert_eq!(activity, Some(Instant::from_micros(2000)));
-    assert_eq!(
-        fresh(&runner).replace("Some(Instant { micros: 2000 })", "None"),
-        new
-    );
+    let station = |runner: &Runner| format!("{:?}", runner.station);
+    let new = station(&Runner::new(&Header::EXAMPLE_12));
+    let active_now = new.replace("last_bus_activity: None", "last_bus_activity: Some(Instant { micros: 2000 })");
+    for (after, left) in [(vec![], new), (vec![Telegram::token(9, 7)], active_now)] {
+        let mut runner = online();
+        runner.poll(&hearing(1000, vec![Telegram::token(5, 9)]));
+        let telegrams = [vec![Telegram::token(5, 9)], after].concat();
+        let count = telegrams.len() as u8;
+        let answer = runner.poll(&hearing(2000, telegrams));
+        assert_eq!((answer.outcome, answer.state, answer.sent, answer.consumed), (3, 0, Sent::Nothing, count));
+        assert_eq!(station(&runner), left);
+    }
 }
 
-/// The trace of example 12.
+/// The trace of example 12, and what the program prints.
 fn example_12() -> Vec<u8> {
-    let mut bytes = bytes_of(HEADER);
-    bytes.push(0);
-    for clock in [1000, 7399, 7400, 7532, 7598] {
-        let record = silent(clock).encode();
-        bytes.push(record.len() as u8);
-        bytes.extend_from_slice(&record);
-    }
-    bytes
+    let polls = [1000, 7399, 7400, 7532, 7598].map(|clock| silent(clock).entry());
+    [Header::EXAMPLE_12.write(), vec![0], polls.concat()].concat()
 }
 
 const EXAMPLE_12: &str = "0000000000000014
@@ -174,96 +101,70 @@ const EXAMPLE_12: &str = "0000000000000014
 6 0
 ";
 
-fn replay_program(words: &[&str], input: &[u8]) -> (i32, String, String) {
-    let mut child = Command::new(env!("CARGO_BIN_EXE_replay_oracle"))
-        .args(words)
-        .stdin(Stdio::piped())
-        .stdout(Stdio::piped())
-        .stderr(Stdio::piped())
-        .spawn()
-        .expect("it starts");
+/// Runs a program; gives its status and what it prints.
+fn program(path: &str, words: &[&str], input: &[u8]) -> (i32, String, String) {
+    let mut command = Command::new(path);
+    command.args(words).stdin(Stdio::piped()).stdout(Stdio::piped()).stderr(Stdio::piped());
+    let mut child = command.spawn().expect("it starts");
     // it may end before it has read all
     let _ = child.stdin.take().expect("its input").write_all(input);
     let output = child.wait_with_output().expect("it ends");
     let text = |bytes| String::from_utf8(bytes).expect("text");
-    (
-        output.status.code().expect("a status"),
-        text(output.stdout),
-        text(output.stderr),
-    )
+    (output.status.code().expect("a status"), text(output.stdout), text(output.stderr))
 }
+
+const REPLAY_ORACLE: &str = env!("CARGO_BIN_EXE_replay_oracle");
+const COMPARE_TRACES: &str = env!("CARGO_BIN_EXE_compare_traces");
 
 #[test]
 fn example_12_as_the_program_prints_it() {
     let trace = example_12();
-    assert_eq!(
-        replay_program(&[], &trace),
-        (0, EXAMPLE_12.to_string(), String::new())
-    );
-    let said = replay_program(&["--hex", &hex(&trace)], &[]);
-    assert_eq!(said, (0, EXAMPLE_12.to_string(), String::new()));
-    assert_eq!(
-        replay_program(&[], &trace[..17]).1,
-        "0000000000000014\n1 0\n"
-    );
-    assert_eq!(
-        replay_program(&[], &trace[..18]).1,
-        "0000000000000014\n1 17\n"
-    );
-    assert_eq!(replay_program(&[], &[200; 16]).1, "0 1\n");
-    assert_eq!(replay_program(&[], &[]).1, "0 17\n");
-}
-
-#[test]
-fn the_replay_program_reads_4096_bytes() {
-    let mut trace = bytes_of(HEADER);
-    trace.resize(5000, 0);
-    let (_, said, _) = replay_program(&[], &trace);
-    assert!(said.ends_with("\n4080 0\n"));
-}
-
-#[test]
-fn the_replay_program_refuses_bad_usage_in_one_line() {
-    for words in [
-        vec!["--hex"],
-        vec!["--hex", "0"],
-        vec!["--hex", "zz"],
-        vec!["--other"],
-        vec!["no-such-file"],
-        vec!["a", "b", "c"],
+    assert_eq!(hex(&trace[..16]), "050600c800007eb40a7e010b01000000");
+    for (words, input) in [(vec![], &trace[..]), (vec!["--hex", &hex(&trace)], &[])] {
+        assert_eq!(program(REPLAY_ORACLE, &words, input), (0, EXAMPLE_12.to_string(), String::new()));
+    }
+    // it reads 4,096 bytes
+    let mut long = trace[..16].to_vec();
+    long.resize(5000, 0);
+    for (input, end) in [
+        (&trace[..17], "0000000000000014\n1 0\n"),
+        (&trace[..18], "0000000000000014\n1 17\n"),
+        (&[200; 16], "0 1\n"),
+        (&[], "0 17\n"),
+        (&long, "\n4080 0\n"),
     ] {
-        let (status, said, error) = replay_program(&words, &[]);
-        assert_eq!(
-            (status, said.as_str(), error.lines().count()),
-            (2, "", 1),
-            "{:?}",
-            words
-        );
+        assert!(program(REPLAY_ORACLE, &[], input).1.ends_with(end), "{:?}", end);
     }
 }
 
-/// `poll` and `poll_multi` of the published text leave the station as the replay's poll does, and ask
-/// the same of the port.
+#[test]
+fn bad_usage_is_one_line_and_status_2() {
+    let replay = ["--hex", "--hex 0", "--hex zz", "--other", "no-such-file", "a b c"];
+    let compare =
+        ["", "1", "1 0", "x 1", "1 2 3", "1 -2", "--show 1", "1 2 --", "1 2 -- no-such-program", "x 2 -- true"];
+    let all =
+        replay.map(|words| (REPLAY_ORACLE, words)).into_iter().chain(compare.map(|words| (COMPARE_TRACES, words)));
+    for (path, words) in all {
+        let list: Vec<&str> = words.split_whitespace().collect();
+        let (status, said, error) = program(path, &list, &[]);
+        assert_eq!((status, said.as_str(), error.lines().count()), (2, "", 1), "{}: {}", words, error);
+    }
+}
+
+/// `poll` and `poll_multi` of the published text leave the station as the replay's poll does, and ask the same of the
+/// port.
 #[test]
 fn poll_and_poll_multi_are_the_replays_poll() {
     let mut polls = 0;
     for index in 0..300 {
         let made = trace(1, index);
-        let header: [u8; 16] = match made.header.as_slice().try_into() {
-            Ok(header) => header,
-            Err(_) => continue,
+        let header = match Header::accepted(&made.header) {
+            Some(header) => header,
+            None => continue,
         };
-        let header = Header::read(&header);
-        if header.refusal().is_some() {
-            continue;
-        }
         let mut runner = Runner::new(&header);
         let mut other = FdlActiveStation::new(header.parameters());
-        for entry in &made.entries {
-            let entry = match Entry::first(entry) {
-                Some((entry, _)) => entry,
-                None => continue,
-            };
+        for (entry, _) in made.entries.iter().filter_map(|entry| Entry::first(entry)) {
             runner.entry(entry);
             match entry {
                 Entry::Online => other.set_online(),
@@ -291,9 +192,7 @@ fn published_poll(station: &mut FdlActiveStation, record: &PollRecord) {
         station.poll(now, &mut port, application);
     } else {
         let mut list: Vec<&mut dyn FdlApplication> = Vec::new();
-        for application in applications.iter_mut() {
-            list.push(application);
-        }
+        applications.iter_mut().for_each(|application| list.push(application));
         station.poll_multi(now, &mut port, &mut list);
     }
 }
@@ -301,43 +200,23 @@ fn published_poll(station: &mut FdlActiveStation, record: &PollRecord) {
 #[test]
 fn a_header_is_refused_exactly_where_the_published_builder_panics() {
     std::panic::set_hook(Box::new(|_| {}));
-    let good = header();
-    let mut tried = 0;
+    let good = Header::EXAMPLE_12;
     for value in 0..=255u8 {
+        let more = u32::from(value);
         for header in [
-            Header {
-                address: value,
-                ..good
-            },
+            Header { address: value, ..good },
             Header { gap: value, ..good },
             Header { hsa: value, ..good },
-            Header {
-                retry: value,
-                ..good
-            },
-            Header {
-                min_tsdr: value,
-                ..good
-            },
-            Header {
-                slot: 100 + u16::from(value),
-                ..good
-            },
-            Header {
-                rotation: 128 + u32::from(value),
-                ..good
-            },
-            Header {
-                rotation: 16_777_960 - 128 + u32::from(value),
-                ..good
-            },
+            Header { retry: value, ..good },
+            Header { min_tsdr: value, ..good },
+            Header { slot: 100 + u16::from(value), ..good },
+            Header { rotation: 128 + more, ..good },
+            Header { rotation: 16_777_960 - 128 + more, ..good },
         ] {
             let built = std::panic::catch_unwind(|| header.parameters()).is_ok();
             assert_eq!(built, header.refusal().is_none(), "{:?}", header);
-            tried += 1;
         }
     }
-    assert_eq!(tried, 2048);
     let _ = std::panic::take_hook();
 }
 
@@ -360,65 +239,41 @@ fn the_oracle_agrees_with_itself_and_too_few_traces_miss_something() {
     assert!(held, "{}", said);
     assert!(said.contains("never reached: "), "{}", said);
     assert!(said.ends_with(", 0 differ\n"), "{}", said);
+    let words = ["5", "300", "--", COMPARE_TRACES, "--serve"];
+    assert_eq!(program(COMPARE_TRACES, &words, &[]), (0, said, String::new()));
 }
 
 #[test]
 fn wrong_calls_are_found() {
     // one entry too many
-    let counts = |trace: &[u8], answers: &mut [u8]| {
-        let number = replay_trace(trace, answers);
-        if number >= 256 {
-            number + 256
-        } else {
-            number
-        }
+    let counts = |trace: &[u8], answers: &mut [u8]| match replay_trace(trace, answers) {
+        number if number >= 256 => number + 256,
+        number => number,
     };
     // a byte behind the answers
     let tail = |trace: &[u8], answers: &mut [u8]| {
         let number = replay_trace(trace, answers);
-        if let Some(byte) = answers.get_mut(ANSWER * (number / 256) as usize) {
-            *byte = 0x33;
-        }
+        answers.iter_mut().skip(ANSWER * (number / 256) as usize).take(1).for_each(|byte| *byte = 0x33);
         number
     };
     // one answer for all
     let same = |trace: &[u8], answers: &mut [u8]| {
         let number = replay_trace(trace, answers);
-        for answer in answers.chunks_mut(ANSWER).take((number / 256) as usize) {
-            answer.fill(0);
-        }
+        answers[..ANSWER * (number / 256) as usize].fill(0);
         number
     };
-    // refusing everything
     let refuses = |_: &[u8], _: &mut [u8]| 17;
     let panics = |_: &[u8], _: &mut [u8]| -> u64 { panic!("planted") };
-    let wrong: [oracle::trace_compare::Replay; 5] = [&counts, &tail, &same, &refuses, &panics];
+    let wrong: [Replay; 5] = [&counts, &tail, &same, &refuses, &panics];
     for (i, call) in wrong.iter().enumerate() {
         let (said, held) = compare_traces(*call, 5, 300);
         assert!(!held, "{}: {}", i, said);
-        assert!(said.contains("seed 5, trace "), "{}", said);
-        assert!(said.contains("the shortest trace found"), "{}", said);
+        for part in ["seed 5, trace ", "the shortest trace found", "the oracle:  ", "the other:   "] {
+            assert!(said.contains(part), "{}: {}", i, said);
+        }
     }
-}
-
-#[test]
-fn compare_traces_refuses_bad_usage_in_one_line() {
-    for words in [
-        vec![],
-        vec!["1"],
-        vec!["1", "0"],
-        vec!["x", "1"],
-        vec!["1", "2", "3"],
-        vec!["1", "-2"],
-    ] {
-        let output = Command::new(env!("CARGO_BIN_EXE_compare_traces"))
-            .args(&words)
-            .output()
-            .expect("it runs");
-        assert_eq!(output.status.code(), Some(2), "{:?}", words);
-        assert!(output.stdout.is_empty());
-        let said = String::from_utf8(output.stderr).expect("text");
-        assert_eq!(said.lines().count(), 1, "{}", said);
-        assert!(said.contains("usage: "), "{}", said);
-    }
+    // a program that says nothing
+    let (status, said, _) = program(COMPARE_TRACES, &["5", "300", "--", "true"], &[]);
+    assert_eq!(status, 1);
+    assert!(said.contains("it ended without an answer"), "{}", said);
 }

@@ -4,7 +4,7 @@ use mathlib.Core.Path.{_≡_}
 use mathlib.Core.List.{List, [], _∷_}
 use mathlib.Core.Bool.{Bool, true, false, cond, not}
 use lib.Dec.{eqb, ltb, leb}
-use Rattle.codec_fields.specs.Fields.{fieldOf, bitAt, bitNumber, putAll}
+use Rattle.codec_fields.specs.Fields.{isOne, bitNumber, putAll, reads}
 use Rattle.codec_telegrams.specs.Words.{responseNumber, responseStateOf}
 use Rattle.codec_answers.specs.declared.Outcome.{Outcome}
 use Rattle.codec_answers.specs.declared.Outcome.the-variants.{None, Offline, Transmission, Bus, Delay}
@@ -112,20 +112,27 @@ answerWord a = putAll 0 answerWidths (answerValues a)
 -- what the fields of a word say, its refusal left out
 unfoldable pub fullOf : ℕ → Answer
 fullOf w =
+    reads answerWidths
+    (λ refusal outcome state kind destination type application high bytes consumed notice its-application its-address next-application next-station zero.
     record {
       refusal = 0;
-      outcome = outcomeOf (fieldOf w 56 3);
-      state = fieldOf w 52 4;
-      sent = sentFrom (sending (fieldOf w 49 3) (fieldOf w 42 7) (fieldOf w 40 2) (fieldOf w 37 3) (bitAt w 36) (fieldOf w 28 8));
-      consumed = fieldOf w 24 4;
-      notice = noticeFrom (telling (fieldOf w 22 2) (fieldOf w 19 3) (fieldOf w 12 7));
-      «next_application» = fieldOf w 9 3;
-      «next_station» = fieldOf w 2 7;
-    }
+      outcome = outcomeOf outcome;
+      state = state;
+      sent = sentFrom (sending kind destination type application (isOne high) bytes);
+      consumed = consumed;
+      notice = noticeFrom (telling notice its-application its-address);
+      «next_application» = next-application;
+      «next_station» = next-station;
+    })
+    w
 
 -- what the fields of a word say; with a refusal only the fields that a refused entry has
 unfoldable pub answerOf : ℕ → Answer
-answerOf w = cond (eqb (fieldOf w 59 5) 0) (fullOf w) (refusedAnswer (fieldOf w 59 5) (fieldOf w 52 4) (fieldOf w 9 3) (fieldOf w 2 7))
+answerOf w =
+    reads answerWidths
+    (λ refusal outcome state kind destination type application high bytes consumed notice its-application its-address next-application next-station zero.
+    cond (eqb refusal 0) (fullOf w) (refusedAnswer refusal state next-application next-station))
+    w
 
 -- the refusals that an answer can have: none, or 12 to 16
 unfoldable pub refusalKnown : ℕ → Bool

@@ -1,25 +1,23 @@
--- An application's decision (document 01, "Station": poll record). A list of widths says how a word is cut, most significant bit
+-- An application's decision (document 01, "Station": poll record). The list of widths says how a word is cut, most significant bit
 -- first. Assumes nothing.
 use Prim.Native.Nat.{ℕ, _^_, _<_}
 use mathlib.Core.List.{List, [], _∷_}
 use mathlib.Core.Bool.{cond}
 use lib.Dec.{eqb, leb}
-use Rattle.codec_fields.specs.Fields.{fieldOf, bitAt, putAll}
+use Rattle.codec_fields.specs.Fields.{isOne, zerosOr14, putAll, reads}
 use Rattle.codec_decisions.specs.declared.Decision.{Decision}
 use Rattle.codec_decisions.specs.declared.Decision.the-variants.{Decline, Send, SendExpectReply}
-use Rattle.codec_telegrams.specs.Words.{zeroOr14}
 
--- a decision that declines: sends 1, zero
-abbrev pub declineWidths : List ℕ
-declineWidths = 1 ∷ 23 ∷ []
-
--- a decision that sends: sends 1, expects reply 1, reply address 7, length 8, zero 7
-abbrev pub sendWidths : List ℕ
-sendWidths = 1 ∷ 1 ∷ 7 ∷ 8 ∷ 7 ∷ []
+-- sends 1, expects reply 1, reply address 7, length 8, zero 7
+abbrev pub decisionWidths : List ℕ
+decisionWidths = 1 ∷ 1 ∷ 7 ∷ 8 ∷ 7 ∷ []
 
 -- what a decision's word says
 unfoldable pub decisionOf : ℕ → Decision
-decisionOf w = cond (bitAt w 23) (cond (bitAt w 22) (SendExpectReply (fieldOf w 15 7) (fieldOf w 7 8)) (Send (fieldOf w 7 8))) Decline
+decisionOf w =
+    reads decisionWidths
+    (λ sends expects address length zero. cond (isOne sends) (cond (isOne expects) (SendExpectReply address length) (Send length)) Decline)
+    w
 
 -- 15 for a send of 0 bytes
 unfoldable pub lengthRefusal : ℕ → ℕ
@@ -30,17 +28,22 @@ lengthRefusal length = cond (eqb length 0) 15 0
 unfoldable pub decisionRefusal : ℕ → ℕ
 decisionRefusal w =
     cond (leb (2 ^ 24) w) 14
-    (cond (bitAt w 23)
-    (cond (eqb (fieldOf w 0 7) 0)
-    (cond (bitAt w 22) (lengthRefusal (fieldOf w 7 8)) (cond (eqb (fieldOf w 15 7) 0) (lengthRefusal (fieldOf w 7 8)) 14))
-    14)
-    (zeroOr14 (fieldOf w 0 23)))
+    (reads decisionWidths
+    (λ sends expects address length zero.
+    cond (isOne sends)
+    (cond (eqb zero 0) (cond (isOne expects) (lengthRefusal length) (cond (eqb address 0) (lengthRefusal length) 14)) 14)
+    (zerosOr14 (expects ∷ address ∷ length ∷ zero ∷ [])))
+    w)
+
+-- the values of a decision's fields, in that order
+abbrev pub decisionValues : Decision → List ℕ
+decisionValues Decline = 0 ∷ 0 ∷ 0 ∷ 0 ∷ 0 ∷ []
+decisionValues (Send length) = 1 ∷ 0 ∷ 0 ∷ length ∷ 0 ∷ []
+decisionValues (SendExpectReply address length) = 1 ∷ 1 ∷ address ∷ length ∷ 0 ∷ []
 
 -- the word that says a decision
 unfoldable pub decisionWord : Decision → ℕ
-decisionWord Decline = putAll 0 declineWidths (0 ∷ 0 ∷ [])
-decisionWord (Send length) = putAll 0 sendWidths (1 ∷ 0 ∷ 0 ∷ length ∷ 0 ∷ [])
-decisionWord (SendExpectReply address length) = putAll 0 sendWidths (1 ∷ 1 ∷ address ∷ length ∷ 0 ∷ [])
+decisionWord d = putAll 0 decisionWidths (decisionValues d)
 
 -- a decision whose numbers fit their widths, and which sends no 0 bytes
 abbrev pub DecisionFits : Decision → Type 0

@@ -6,27 +6,25 @@ use mathlib.Core.Bool.{true, false}
 use native.Mathlib.Omega.{arith}
 use borrow.Author.Tests.{ne-eqb, lt-leb, leb-false, eqb-true, eqb-false}
 use borrow.Table.Steps.{cases}
-use lib.ListN.{getD}
+use lib.ListN.{getD, drop}
 use lib.Dec.{eqb, leb, lit<, lit≤}
-use Rattle.codec_fields.specs.Fields.{fieldOf, bitAt, bitNumber, unpack, Within}
+use Rattle.codec_fields.specs.Fields.{fieldOf, bitAt, bitNumber, zerosOr14, unpack, Within}
 use Rattle.codec_fields.specs.Widths.{field-below}
-use Rattle.codec_fields.specs.Laws.{unpack-put, put-unpack, put-below, bit-written}
+use Rattle.codec_fields.specs.Laws.{unpack-put, put-unpack, put-below, never, zero-fields, bit-written}
 use Rattle.codec_decisions.specs.declared.Decision.{Decision}
 use Rattle.codec_decisions.specs.declared.Decision.the-variants.{Decline, Send, SendExpectReply}
-use Rattle.codec_telegrams.specs.Words.{zeroOr14}
-use Rattle.codec_decisions.specs.Decisions.{declineWidths, sendWidths, decisionOf, lengthRefusal, decisionRefusal, decisionWord, DecisionFits}
-use Rattle.codec_telegrams.specs.Laws.{never, zero-bits}
+use Rattle.codec_decisions.specs.Decisions.{decisionWidths, decisionOf, lengthRefusal, decisionRefusal, decisionValues, decisionWord, DecisionFits}
 
 -- a word whose fields are those of a decision that declines says it, and is accepted
-decline-word : (w : ℕ) → w < 2 ^ 24 → unpack declineWidths w ≡ 0 ∷ 0 ∷ [] → (decisionOf w ≡ Decline) × (decisionRefusal w ≡ 0)
-unfolding decisionOf decisionRefusal zeroOr14
+decline-word : (w : ℕ) → w < 2 ^ 24 → unpack decisionWidths w ≡ 0 ∷ 0 ∷ 0 ∷ 0 ∷ 0 ∷ [] → (decisionOf w ≡ Decline) × (decisionRefusal w ≡ 0)
+unfolding decisionOf decisionRefusal zerosOr14
 decline-word w h e =
     let sends : fieldOf w 23 1 ≡ 0 = ap (λ l. getD l 0 0) e in
-    let zero : fieldOf w 0 23 ≡ 0 = ap (λ l. getD l 1 0) e in
-    (rw sends, rw (lt-leb _ _ h, sends, zero))
+    let zeros : unpack (1 ∷ 7 ∷ 8 ∷ 7 ∷ []) w ≡ 0 ∷ 0 ∷ 0 ∷ 0 ∷ [] = ap (drop 1) e in
+    (rw sends, rw (lt-leb _ _ h, sends) (ap zerosOr14 zeros))
 
 -- the same for a send
-send-word : (w n : ℕ) → w < 2 ^ 24 → 0 < n → unpack sendWidths w ≡ 1 ∷ 0 ∷ 0 ∷ n ∷ 0 ∷ [] → (decisionOf w ≡ Send n) × (decisionRefusal w ≡ 0)
+send-word : (w n : ℕ) → w < 2 ^ 24 → 0 < n → unpack decisionWidths w ≡ 1 ∷ 0 ∷ 0 ∷ n ∷ 0 ∷ [] → (decisionOf w ≡ Send n) × (decisionRefusal w ≡ 0)
 unfolding decisionOf decisionRefusal lengthRefusal
 send-word w n h p e =
     let sends : fieldOf w 23 1 ≡ 1 = ap (λ l. getD l 0 0) e in
@@ -41,7 +39,7 @@ expect-word :
     (w a n : ℕ)
     → w < 2 ^ 24
     → 0 < n
-    → unpack sendWidths w ≡ 1 ∷ 1 ∷ a ∷ n ∷ 0 ∷ []
+    → unpack decisionWidths w ≡ 1 ∷ 1 ∷ a ∷ n ∷ 0 ∷ []
     → (decisionOf w ≡ SendExpectReply a n) × (decisionRefusal w ≡ 0)
 unfolding decisionOf decisionRefusal lengthRefusal
 expect-word w a n h p e =
@@ -52,21 +50,27 @@ expect-word w a n h p e =
     let zero : fieldOf w 0 7 ≡ 0 = ap (λ l. getD l 4 0) e in
     (rw (sends, expects, address, length), rw (lt-leb _ _ h, sends, zero, expects, length, ne-eqb n 0 (λ z. omega arith)))
 
+-- the values of a decision whose numbers fit are within their widths
+values-within : (d : Decision) → DecisionFits d → Within decisionWidths (decisionValues d)
+values-within Decline f = (lit< tt, (lit< tt, (lit< tt, (lit< tt, (lit< tt, tt)))))
+values-within (Send n) f = (lit< tt, (lit< tt, (lit< tt, (f .1, (lit< tt, tt)))))
+values-within (SendExpectReply a n) f = (lit< tt, (lit< tt, (f .0, (f .2, (lit< tt, tt)))))
+
+-- its word has 24 bits
+pub decision-below : (d : Decision) → DecisionFits d → decisionWord d < 2 ^ 24
+unfolding decisionWord
+decision-below d f = put-below decisionWidths (lit≤ tt) (decisionValues d) (values-within d f)
+
+-- and the values are the word's fields
+word-fields : (d : Decision) → DecisionFits d → unpack decisionWidths (decisionWord d) ≡ decisionValues d
+unfolding decisionWord
+word-fields d f = unpack-put decisionWidths (lit≤ tt) (decisionValues d) (values-within d f)
+
 -- a decision whose numbers fit is what its word says, and the word is accepted
 pub decision-read : (d : Decision) → DecisionFits d → (decisionOf (decisionWord d) ≡ d) × (decisionRefusal (decisionWord d) ≡ 0)
-unfolding decisionWord
-decision-read Decline f =
-    let vs : List ℕ = 0 ∷ 0 ∷ [] in
-    let within : Within declineWidths vs = (lit< tt, (lit< tt, tt)) in
-    decline-word _ (put-below declineWidths (lit≤ tt) vs within) (unpack-put declineWidths (lit≤ tt) vs within)
-decision-read (Send n) f =
-    let vs : List ℕ = 1 ∷ 0 ∷ 0 ∷ n ∷ 0 ∷ [] in
-    let within : Within sendWidths vs = (lit< tt, (lit< tt, (lit< tt, (f .1, (lit< tt, tt))))) in
-    send-word _ n (put-below sendWidths (lit≤ tt) vs within) (f .0) (unpack-put sendWidths (lit≤ tt) vs within)
-decision-read (SendExpectReply a n) f =
-    let vs : List ℕ = 1 ∷ 1 ∷ a ∷ n ∷ 0 ∷ [] in
-    let within : Within sendWidths vs = (lit< tt, (lit< tt, (f .0, (f .2, (lit< tt, tt))))) in
-    expect-word _ a n (put-below sendWidths (lit≤ tt) vs within) (f .1) (unpack-put sendWidths (lit≤ tt) vs within)
+decision-read Decline f = decline-word _ (decision-below Decline f) (word-fields Decline f)
+decision-read (Send n) f = send-word _ n (decision-below (Send n) f) (f .0) (word-fields (Send n) f)
+decision-read (SendExpectReply a n) f = expect-word _ a n (decision-below (SendExpectReply a n) f) (f .1) (word-fields (SendExpectReply a n) f)
 
 -- no refusal: the length is not 0
 long-enough : (n : ℕ) → lengthRefusal n ≡ 0 → 0 < n
@@ -75,7 +79,7 @@ long-enough n h = cases (eqb n 0) (λ a. never 14 (rw a at h)) (λ a. omega (ari
 
 -- what an accepted decision's word holds: its fields by whether it sends and expects a reply
 data Accepted (w : ℕ) : Type 0 where
-  declines : bitAt w 23 ≡ false → fieldOf w 0 23 ≡ 0 → Accepted w
+  declines : bitAt w 23 ≡ false → unpack (1 ∷ 7 ∷ 8 ∷ 7 ∷ []) w ≡ 0 ∷ 0 ∷ 0 ∷ 0 ∷ [] → Accepted w
   sends : bitAt w 23 ≡ true → bitAt w 22 ≡ false → fieldOf w 15 7 ≡ 0 → 0 < fieldOf w 7 8 → fieldOf w 0 7 ≡ 0 → Accepted w
   expects : bitAt w 23 ≡ true → bitAt w 22 ≡ true → 0 < fieldOf w 7 8 → fieldOf w 0 7 ≡ 0 → Accepted w
 
@@ -96,7 +100,7 @@ accepted w h =
           (λ a. sends s x (eqb-true _ 0 a) (long-enough (fieldOf w 7 8) (rw (l, s, z, x, a) at h)) (eqb-true _ 0 z))
           (λ a. never 13 (rw (l, s, z, x, a) at h))))
           (λ z. never 13 (rw (l, s, z) at h)))
-          (λ s. declines s (zero-bits (fieldOf w 0 23) (rw (l, s) at h))),
+          (λ s. declines s (zero-fields (unpack (1 ∷ 7 ∷ 8 ∷ 7 ∷ []) w) (rw (l, s) at h))),
     ))
 
 -- an accepted word says a decision whose numbers fit, and is the one that it is written as
@@ -110,7 +114,10 @@ decision-written w h = held (accepted w h .0) (accepted w h .1)
     none : (at : ℕ) → bitAt w at ≡ false → fieldOf w at 1 ≡ 0
     none at b = sym (bit-written w at) ∙ ap bitNumber b
 
+    nth : (i : ℕ) {vs ws : List ℕ} → vs ≡ ws → getD vs i 0 ≡ getD ws i 0
+    nth i e = ap (λ (l : List ℕ). getD l i 0) e
+
     held : w < 2 ^ 24 → Accepted w → (decisionWord (decisionOf w) ≡ w) × DecisionFits (decisionOf w)
-    held l (declines s z) = (rw s (rw (none 23 s, z) at (put-unpack declineWidths (lit≤ tt) w l)), rw s tt)
-    held l (sends s x a n z) = (rw (s, x) (rw (one 23 s, none 22 x, a, z) at (put-unpack sendWidths (lit≤ tt) w l)), rw (s, x) (n, field-below w 7 8))
-    held l (expects s x n z) = (rw (s, x) (rw (one 23 s, one 22 x, z) at (put-unpack sendWidths (lit≤ tt) w l)), rw (s, x) (field-below w 15 7, n, field-below w 7 8))
+    held l (declines s z) = (rw s (rw (none 23 s, nth 0 z, nth 1 z, nth 2 z, nth 3 z) at (put-unpack decisionWidths (lit≤ tt) w l)), rw s tt)
+    held l (sends s x a n z) = (rw (s, x) (rw (one 23 s, none 22 x, a, z) at (put-unpack decisionWidths (lit≤ tt) w l)), rw (s, x) (n, field-below w 7 8))
+    held l (expects s x n z) = (rw (s, x) (rw (one 23 s, one 22 x, z) at (put-unpack decisionWidths (lit≤ tt) w l)), rw (s, x) (field-below w 15 7, n, field-below w 7 8))

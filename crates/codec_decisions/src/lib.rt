@@ -1,12 +1,16 @@
 // An application's decision of 24 bits (document 01, "Poll record"): what it says, the refusal of a word that no decision has,
-// and the writer. It leans on codec_fields, and on codec_telegrams for refusal 14.
+// and the writer. It leans on codec_fields.
 ghost use mathlib.Core.Path.{_≡_};
-ghost use Rattle.codec_decisions.specs.Decisions.{decisionOf, decisionRefusal, decisionWord, lengthRefusal};
+ghost use mathlib.Core.List.{[], _∷_};
+ghost use Rattle.codec_fields.specs.Fields.{bitNumber, putAll};
+ghost use Rattle.codec_decisions.specs.Decisions.{decisionOf, decisionRefusal, decisionWidths, decisionWord, lengthRefusal};
 use codec_fields::bit;
 use codec_fields::field;
 use codec_fields::field_byte;
 use codec_fields::put;
+use codec_fields::put_bit;
 use codec_fields::put_byte;
+use codec_fields::zero_or_14;
 
 // What an application decides when it is asked: to send nothing, to send so many bytes, or to send them and await a reply.
 pub enum Decision {
@@ -61,24 +65,31 @@ pub fn decision_refusal(word: u64) -> u8
         }
         return length_refusal(field_byte(word, 7, 8));
     }
-    codec_telegrams::zero_or_14(field(word, 0, 23))
+    zero_or_14(field(word, 0, 23))
 }
 
-// The word that says a decision.
+// The word of a decision's fields.
+fn put_fields(sends: bool, expects: bool, address: u8, length: u8) -> u64
+    ensures { λ r. ⌜ r ≡ putAll 0 decisionWidths (bitNumber sends ∷ bitNumber expects ∷ address ∷ length ∷ 0 ∷ []) ⌝ }
+{
+    put(
+        put_byte(
+            put_byte(put_bit(put_bit(0, sends), expects), 7, address),
+            8,
+            length,
+        ),
+        7,
+        0,
+    )
+}
+
+// The word that says a decision. Of an address that does not fit its field the lowest bits are taken.
 pub fn write_decision(decision: Decision) -> u64
     ensures { λ r. ⌜ r ≡ decisionWord decision ⌝ }
 {
     match decision {
-        Decision::Decline => put(put(0, 1, 0), 23, 0),
-        Decision::Send { length } => put(
-            put_byte(put(put(put(0, 1, 1), 1, 0), 7, 0), 8, length),
-            7,
-            0,
-        ),
-        Decision::SendExpectReply { address, length } => put(
-            put_byte(put_byte(put(put(0, 1, 1), 1, 1), 7, address), 8, length),
-            7,
-            0,
-        ),
+        Decision::Decline => put_fields(false, false, 0, 0),
+        Decision::Send { length } => put_fields(true, false, 0, length),
+        Decision::SendExpectReply { address, length } => put_fields(true, true, address, length),
     }
 }

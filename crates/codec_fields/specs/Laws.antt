@@ -1,17 +1,17 @@
--- Fields put below one another and read again undo each other, for every list of widths. Assumes nothing.
-use Prim.Native.Nat.{ℕ, _+_, _*_, _/_, _^_, _<_, _≤_}
+-- Fields put below one another and read again undo each other, for every list of widths; so do bytes and their number. Assumes nothing.
+use Prim.Native.Nat.{ℕ, zero, suc, _+_, _*_, _/_, _^_, _<_, _≤_}
 use mathlib.Core.Path.{_≡_, refl, sym, ap, _∙_}
-use mathlib.Core.List.{List, [], _∷_, _++_}
+use mathlib.Core.List.{List, [], _∷_}
 use native.Mathlib.Nat.{add-zero, div-one, div-eq-of-lt}
-use mathlib.Core.Bool.{Bool, true, false}
+use mathlib.Core.Bool.{Bool, true, false, cond}
 use native.Mathlib.Omega.{arith}
-use borrow.Author.Tests.{le-ltb, eqb-true, eqb-false}
+use borrow.Author.Tests.{ne-eqb, eqb-true, eqb-false}
 use borrow.Table.Steps.{cases}
-use lib.ListN.{length, drop}
-use lib.Pow.{high, low, split, shr-shr}
+use lib.ListN.{length, replicate}
+use lib.Pow.{high, low, split, shr-shr, pow-pos}
 use lib.Dec.{eqb, lit<}
-use Rattle.codec_fields.specs.Fields.{fieldOf, bitAt, bitNumber, putAll, total, unpack, Within, be, beFrom, bytesOf, storedOf}
-use Rattle.codec_fields.specs.Widths.{field-below, grown, put-plain}
+use Rattle.codec_fields.specs.Fields.{fieldOf, bitAt, bitNumber, zeroOr14, zerosOr14, putAll, total, unpack, Within, be, beFrom, lowBytes, bytesOf, Bytes}
+use Rattle.codec_fields.specs.Widths.{field-below, field-split, grown, put-plain}
 
 -- the sum that fields make where nothing falls away
 abbrev packFrom : ℕ → List ℕ → List ℕ → ℕ
@@ -80,15 +80,86 @@ module _ (ws : List ℕ) (room : total ws ≤ 64) where
       let e : 0 + total ws ≡ total ws = omega arith in
       rw (plain 0 0 ws vs (lit< tt) (omega arith) h) (rw e at (below 0 0 ws vs (lit< tt) h))
 
+-- bytes take eight bits each
+pub bytes-total : (n : ℕ) → total (replicate n 8) ≡ 8 * n
+bytes-total zero = refl
+bytes-total (suc n) = rw (bytes-total n) (omega arith)
+
+-- the lowest count bytes of a word are count
+pub low-length : (count word : ℕ) → length (lowBytes count word) ≡ count
+low-length zero word = refl
+low-length (suc n) word = ap suc (low-length n word)
+
+-- the number that bytes are is the sum that fields of eight bits make
+be-packs : (acc : ℕ) (bs : List ℕ) → beFrom acc bs ≡ packFrom acc (replicate (length bs) 8) bs
+unfolding beFrom
+be-packs acc [] = refl
+be-packs acc (b ∷ bs) = be-packs (acc * 2 ^ 8 + b) bs
+
+-- bytes are within eight bits each
+bytes-within : (bs : List ℕ) → Bytes bs → Within (replicate (length bs) 8) bs
+bytes-within [] h = tt
+bytes-within (b ∷ bs) h = (h .0, bytes-within bs (h .1))
+
+-- a word of count bytes is the number that they are
+pub be-low : (count word : ℕ) → word < 2 ^ (8 * count) → be (lowBytes count word) ≡ word
+be-low count word h =
+    let ws : List ℕ = replicate count 8 in
+    let small : word < 2 ^ total ws = rw (bytes-total count) h in
+    be-packs 0 (lowBytes count word)
+    ∙ ap (λ (n : ℕ). packFrom 0 (replicate n 8) (lowBytes count word)) (low-length count word)
+    ∙ ap (λ (n : ℕ). packFrom n ws (lowBytes count word)) (sym (div-eq-of-lt small))
+    ∙ pack-unpack ws word
+
+-- bytes are those of the number that they are
+pub low-be : (bs : List ℕ) → Bytes bs → lowBytes (length bs) (be bs) ≡ bs
+low-be bs h = ap (lowBytes (length bs)) (be-packs 0 bs) ∙ unpack-pack 0 (replicate (length bs) 8) bs (bytes-within bs h)
+
+-- and that number is below 2 to their bits
+pub be-below : (bs : List ℕ) → Bytes bs → be bs < 2 ^ (8 * length bs)
+be-below bs h =
+    let e : 0 + total (replicate (length bs) 8) ≡ 8 * length bs = omega (arith, bytes-total (length bs)) in
+    rw (be-packs 0 bs) (rw e at (below 0 0 (replicate (length bs) 8) bs (lit< tt) (bytes-within bs h)))
+
 -- the number that a word's eight bytes are is the word
 pub be-bytes : (word : ℕ) → word < 2 ^ 64 → be (bytesOf word) ≡ word
-unfolding beFrom
-be-bytes word h = ap (λ (n : ℕ). packFrom n (8 ∷ 8 ∷ 8 ∷ 8 ∷ 8 ∷ 8 ∷ 8 ∷ 8 ∷ []) (bytesOf word)) (sym (div-eq-of-lt h)) ∙ pack-unpack (8 ∷ 8 ∷ 8 ∷ 8 ∷ 8 ∷ 8 ∷ 8 ∷ 8 ∷ []) word
+be-bytes word h = be-low 8 word h
 
--- where there is room, a store leaves the word's bytes and the rest as it was
-pub stored-room : (word : ℕ) (s : List ℕ) → 8 ≤ length s → storedOf word s ≡ bytesOf word ++ drop 8 s
-unfolding storedOf
-stored-room word s h = rw (le-ltb _ _ h)
+-- a refusal is not 0
+pub never : {A : Type 0} (n : ℕ) → suc n ≡ 0 → A
+never n e = absurd (omega arith)
+
+-- no refusal: the fields are zero
+pub zero-fields : (vs : List ℕ) → zerosOr14 vs ≡ 0 → vs ≡ replicate (length vs) 0
+unfolding zerosOr14
+zero-fields [] h = refl
+zero-fields (v ∷ vs) h =
+    cases (eqb v 0) (λ a. rw (eqb-true v 0 a) (ap (λ l. 0 ∷ l) (zero-fields vs (rw a at h)))) (λ a. never 13 (rw a at h))
+
+-- two fields beside each other are zero as one if both are
+zero-beside : (word at width : ℕ) → eqb (fieldOf word 0 (at + width)) 0 ≡ cond (eqb (fieldOf word at width) 0) (eqb (fieldOf word 0 at) 0) false
+zero-beside word at width =
+    let above-it = fieldOf word at width in
+    let e = field-split word at width in
+    cases (eqb above-it 0)
+    (λ a.
+    let z : above-it * 2 ^ at + fieldOf word 0 at ≡ fieldOf word 0 at = rw (eqb-true above-it 0 a) (omega arith) in
+    rw (a, e, z))
+    (λ a.
+    rw (
+      a,
+      ne-eqb (fieldOf word 0 (at + width)) 0 (λ z.
+          eqb-false above-it 0 a
+          (sym (high above-it at (field-below word 0 at)) ∙ ap (λ (n : ℕ). n / 2 ^ at) (sym e ∙ z) ∙ div-eq-of-lt (pow-pos at))),
+    ))
+
+-- fields that end a word are zero if they are as one
+pub zeros-field : (ws : List ℕ) (word : ℕ) → zerosOr14 (unpack ws word) ≡ zeroOr14 (fieldOf word 0 (total ws))
+unfolding zerosOr14 zeroOr14
+zeros-field [] word = let e : fieldOf word 0 0 ≡ 0 = omega (arith, field-below word 0 0) in rw e
+zeros-field (w ∷ ws) word =
+    rw (zero-beside word (total ws) w, zeros-field ws word)
+    (cases (eqb (fieldOf word (total ws) w) 0) (λ a. rw a) (λ a. rw a))
 
 -- a bit's number is below 2
 pub bit-below : (b : Bool) → bitNumber b < 2 ^ 1

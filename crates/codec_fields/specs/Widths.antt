@@ -2,7 +2,7 @@
 use Prim.Native.Nat.{ℕ, _+_, _-_, _*_, _/_, _%_, _^_, _<_, _≤_}
 use mathlib.Core.Path.{_≡_, refl, sym, ap, _∙_, subst}
 use mathlib.Core.List.{List, [], _∷_, _++_}
-use native.Mathlib.Nat.{one-mul, mod-lt, zero-mod, div-one, add-zero, mod-eq-of-lt, div-eq-of-lt, lt-of-lt-of-le, lt-of-le-of-lt, mul-assoc}
+use native.Mathlib.Nat.{one-mul, mod-lt, zero-mod, div-one, add-zero, add-comm, mod-eq-of-lt, div-eq-of-lt, lt-of-lt-of-le, lt-of-le-of-lt, mul-assoc}
 use native.Mathlib.Numerals.{add-one}
 use native.Mathlib.Omega.{arith}
 use lib.Bits.{bitAnd, bitOr, and-mask, or-shifted}
@@ -27,6 +27,11 @@ field-past word at width h l = ap (λ (n : ℕ). n % 2 ^ width) (div-eq-of-lt (l
 pub field-whole : (word at width : ℕ) → word < 2 ^ 64 → 64 ≤ width → fieldOf word at width ≡ word / 2 ^ at
 unfolding fieldOf
 field-whole word at width h l = mod-eq-of-lt (lt-of-lt-of-le (lt-of-le-of-lt (shr-le word at) h) (pow-mono l))
+
+-- a field and what stands below it, as one
+pub field-split : (word at width : ℕ) → fieldOf word 0 (at + width) ≡ fieldOf word at width * 2 ^ at + fieldOf word 0 at
+unfolding fieldOf
+field-split word at width = rw div-one (ap (λ (n : ℕ). word % 2 ^ n) (add-comm at width) ∙ mod-pow-add word width at)
 
 -- a number and width bits below it, within some bits more
 cut : (more width word : ℕ) {value : ℕ} → value < 2 ^ width → (word * 2 ^ width + value) % 2 ^ (more + width) ≡ word % 2 ^ more * 2 ^ width + value

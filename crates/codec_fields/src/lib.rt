@@ -4,7 +4,7 @@
 ghost use mathlib.Core.Path.{_≡_};
 ghost use Prim.Native.Nat.{_+_, _^_, _<_, _≤_};
 ghost use lib.ListN.{length, take, drop};
-ghost use Rattle.codec_fields.specs.Fields.{fieldOf, bitAt, upTo8, putOf, bitNumber, be, loadOf, storedOf};
+ghost use Rattle.codec_fields.specs.Fields.{fieldOf, bitAt, upTo, putOf, bitNumber, zeroOr14, be, loadOf, overOf, storedOf};
 
 // The `width` bits of `word` that stand above its lowest `at`.
 pub fn field(word: u64, at: u64, width: u64) -> u64
@@ -21,12 +21,32 @@ pub fn field(word: u64, at: u64, width: u64) -> u64
 
 // A field of at most 8 bits as a byte: of a wider one the lowest 8.
 pub fn field_byte(word: u64, at: u64, width: u64) -> u8
-    ensures { λ r. ⌜ r ≡ fieldOf word at (upTo8 width) ⌝ }
+    ensures { λ r. ⌜ r ≡ fieldOf word at (upTo 8 width) ⌝ }
 {
     if 8 < width {
         return field(word, at, 8) as u8;
     }
     field(word, at, width) as u8
+}
+
+// A field of at most 16 bits: of a wider one the lowest 16.
+pub fn field_short(word: u64, at: u64, width: u64) -> u16
+    ensures { λ r. ⌜ r ≡ fieldOf word at (upTo 16 width) ⌝ }
+{
+    if 16 < width {
+        return field(word, at, 16) as u16;
+    }
+    field(word, at, width) as u16
+}
+
+// A field of at most 32 bits: of a wider one the lowest 32.
+pub fn field_long(word: u64, at: u64, width: u64) -> u32
+    ensures { λ r. ⌜ r ≡ fieldOf word at (upTo 32 width) ⌝ }
+{
+    if 32 < width {
+        return field(word, at, 32) as u32;
+    }
+    field(word, at, width) as u32
 }
 
 // Whether the bit of `word` above its lowest `at` is one.
@@ -53,6 +73,13 @@ pub fn put_byte(word: u64, width: u64, value: u8) -> u64
     put(word, width, wide(value))
 }
 
+// The same for a number of 16 bits.
+pub fn put_short(word: u64, width: u64, value: u16) -> u64
+    ensures { λ r. ⌜ r ≡ putOf word width value ⌝ }
+{
+    put(word, width, wide_short(value))
+}
+
 // The same for one bit.
 pub fn put_bit(word: u64, value: bool) -> u64
     ensures { λ r. ⌜ r ≡ putOf word 1 (bitNumber value) ⌝ }
@@ -61,6 +88,23 @@ pub fn put_bit(word: u64, value: bool) -> u64
         return put(word, 1, 1);
     }
     put(word, 1, 0)
+}
+
+// 14 for bits that should be zero and are not, else 0.
+pub fn zero_or_14(bits: u64) -> u8
+    ensures { λ r. ⌜ r ≡ zeroOr14 bits ⌝ }
+{
+    if bits == 0 {
+        return 0;
+    }
+    14
+}
+
+// A number of 16 bits as a wide number.
+fn wide_short(n: u16) -> u64
+    ensures { λ r. ⌜ r ≡ n ⌝ }
+{
+    n as u64
 }
 
 // A byte as a wide number.
@@ -100,19 +144,31 @@ pub fn load(s: &[u8], at: usize, count: usize) -> u64
     number(s, at, count)
 }
 
-// Writes `word` into the first eight bytes of `s`, the highest first; a slice of fewer bytes stays as it is.
-pub fn store(s: &mut [u8], word: u64)
-    ensures { λ _. ⌜ now (s .exit) ≡ storedOf word (now (s .entry)) ⌝ }
+// Writes the lowest `count` bytes of `word` over those of `s` from `at`, the highest first.
+fn write_over(s: &mut [u8], at: usize, count: usize, word: u64)
+    requires { ⌜ (count ≤ 8) × (at + count ≤ length (now s)) ⌝ }
+    ensures { λ _. ⌜ now (s .exit) ≡ overOf (now (s .entry)) at count word ⌝ }
 {
-    if s.len() < 8 {
+    let mut i: usize = 0;
+    while i < count {
+        s[at + i] = field_byte(word, 8 * ((count - 1 - i) as u64), 8);
+        i += 1;
+    }
+}
+
+// Writes the lowest `count` bytes of `word` into `s` from `at`, the highest first; every other byte stays. Where `s` ends before,
+// and for more than 8 bytes, all of `s` stays.
+pub fn store(s: &mut [u8], at: usize, count: usize, word: u64)
+    ensures { λ _. ⌜ now (s .exit) ≡ storedOf (now (s .entry)) at count word ⌝ }
+{
+    if 8 < count {
         return;
     }
-    s[0] = field_byte(word, 56, 8);
-    s[1] = field_byte(word, 48, 8);
-    s[2] = field_byte(word, 40, 8);
-    s[3] = field_byte(word, 32, 8);
-    s[4] = field_byte(word, 24, 8);
-    s[5] = field_byte(word, 16, 8);
-    s[6] = field_byte(word, 8, 8);
-    s[7] = field_byte(word, 0, 8);
+    if s.len() < at {
+        return;
+    }
+    if s.len() - at < count {
+        return;
+    }
+    write_over(s, at, count, word);
 }

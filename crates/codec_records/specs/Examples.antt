@@ -3,8 +3,8 @@ use Prim.Native.Nat.{ℕ}
 use mathlib.Core.Path.{_≡_, refl}
 use mathlib.Core.Bool.{true, false}
 use mathlib.Core.List.{List, [], _∷_, _++_}
-use Rattle.codec_fields.specs.Fields.{fieldOf, beFrom, loadOf}
-use Rattle.codec_telegrams.specs.Words.{telegramOf, zeroOr14, telegramRefusal}
+use Rattle.codec_fields.specs.Fields.{fieldOf, zerosOr14, beFrom, loadOf}
+use Rattle.codec_telegrams.specs.Words.{telegramOf, telegramRefusal}
 use Rattle.codec_decisions.specs.Decisions.{decisionOf, lengthRefusal, decisionRefusal}
 use Rattle.codec_telegrams.specs.declared.Telegram.the-variants.{Token}
 use Rattle.codec_decisions.specs.declared.Decision.the-variants.{Decline, SendExpectReply}
@@ -40,5 +40,5 @@ pub examples :
     × (recordRefusal (start 0 ++ asked (128 ∷ 0 ∷ 0 ∷ [])) 1 ≡ 15)
     × (recordRefusal (start 0 ++ asked (128 ∷ 0 ∷ 1 ∷ [])) 1 ≡ 14)
     × (recordRefusal (start 8 ++ asked none ++ token 1) 1 ≡ 14)
-unfolding headOf decisionAt telegramAt entryRefusal wordsRefusal recordRefusal telegramOf zeroOr14 telegramRefusal decisionOf lengthRefusal decisionRefusal fieldOf beFrom loadOf
+unfolding headOf decisionAt telegramAt entryRefusal wordsRefusal recordRefusal telegramOf telegramRefusal zerosOr14 decisionOf lengthRefusal decisionRefusal fieldOf beFrom loadOf
 examples = (refl, refl, refl, refl, refl, refl, refl, refl, refl, refl, refl, refl)

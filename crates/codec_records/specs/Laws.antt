@@ -1,6 +1,6 @@
 -- The first refusal as a loop goes, and what an accepted record holds. Assumes nothing.
 use Prim.Native.Nat.{ℕ, zero, suc, _+_, _-_, _*_, _^_, _<_, _≤_}
-use mathlib.Core.Path.{_≡_, sym, _∙_}
+use mathlib.Core.Path.{_≡_, refl, sym, _∙_}
 use mathlib.Core.List.{List}
 use mathlib.Core.Bool.{Bool}
 use mathlib.Core.Logic.{⊎-elim}
@@ -13,10 +13,10 @@ use lib.ListN.{length}
 use lib.Dec.{eqb, ltb}
 use Rattle.codec_fields.specs.Fields.{bitNumber, loadOf}
 use Rattle.codec_fields.specs.Widths.{field-below}
-use Rattle.codec_fields.specs.Laws.{bit-below}
+use Rattle.codec_fields.specs.Laws.{never, bit-below}
 use Rattle.codec_telegrams.specs.Words.{telegramWord, TelegramFits}
 use Rattle.codec_decisions.specs.Decisions.{decisionWord, DecisionFits}
-use Rattle.codec_telegrams.specs.Laws.{never, telegram-fits, telegram-written}
+use Rattle.codec_telegrams.specs.Laws.{telegram-fits, telegram-written}
 use Rattle.codec_decisions.specs.Laws.{decision-written}
 use Rattle.codec_records.specs.Records.{headOf, countOf, decisionWordAt, telegramWordAt, decisionAt, telegramAt, entryRefusal, wordsRefusal, recordRefusal}
 
@@ -47,6 +47,12 @@ none-at g (suc k) i p h =
     (λ (l : i < k). none-at g k i (eqb-true _ 0 a) l)
     (eq-or-lt-of-le {n = i} {m = k} (omega arith)))
     (λ a. absurd (eqb-false _ 0 a (rw a at p)))
+
+-- none at any place below k: none among the first k
+pub none-first : (g : ℕ → ℕ) (k : ℕ) → ((i : ℕ) → i < k → g i ≡ 0) → wordsRefusal g k ≡ 0
+unfolding wordsRefusal
+none-first g zero h = refl
+none-first g (suc k) h = rw (eq-eqb _ 0 (none-first g k (λ i l. h i (omega arith))), h k (omega arith))
 
 -- the clock of any record is below 2 to the 48
 pub clock-below : (s : List ℕ) → headOf s .clock < 2 ^ 48

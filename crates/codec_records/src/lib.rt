@@ -1,21 +1,29 @@
 // A poll record of document 01, checked once and then read in place: the refusal of a record for a number of applications, what
-// its first 64 bits say, the decision of an application and a telegram. Every call is total on every slice and none reads past
-// its end. It leans on codec_fields for the bits and on codec_telegrams and codec_decisions for the
+// its first 64 bits say, the decision of an application and a telegram; and written in place, one of these at a time. Every call
+// is total on every slice and none reads or writes past its end. It leans on codec_fields for the bits and on codec_telegrams and codec_decisions for the
 // words.
 ghost use mathlib.Core.Path.{_≡_};
 ghost use Prim.Native.Nat.{_+_, _*_, _<_};
-ghost use Rattle.codec_fields.specs.Fields.{fieldOf, bitNumber};
-ghost use Rattle.codec_records.specs.Records.{headOf, entryRefusal, wordsRefusal, recordRefusal, decisionAt, telegramAt};
+ghost use Rattle.codec_fields.specs.Fields.{bitNumber};
+ghost use Rattle.codec_records.specs.Records.{headOf, entryRefusal, wordsRefusal, recordRefusal, decisionAt, telegramAt, headWord, headStored, decisionStored, telegramStored};
 use codec_decisions::Decision;
 use codec_decisions::decision_refusal;
 use codec_decisions::read_decision;
+use codec_decisions::write_decision;
 use codec_fields::bit;
 use codec_fields::field;
 use codec_fields::field_byte;
+use codec_fields::field_short;
 use codec_fields::load;
+use codec_fields::put;
+use codec_fields::put_bit;
+use codec_fields::put_byte;
+use codec_fields::put_short;
+use codec_fields::store;
 use codec_telegrams::Telegram;
 use codec_telegrams::read_telegram;
 use codec_telegrams::telegram_refusal;
+use codec_telegrams::write_telegram;
 
 // A record's first 64 bits: the clock, below 2 to the 48, the pending bytes, the number of telegrams, and whether a
 // transmission goes on.
@@ -26,13 +34,6 @@ pub struct Head {
     pub transmitting: bool,
 }
 
-// The pending bytes of a record's first 64 bits.
-fn pending_bytes(word: u64) -> u16
-    ensures { λ r. ⌜ r ≡ fieldOf word 0 11 ⌝ }
-{
-    field(word, 0, 11) as u16
-}
-
 // What a record's first 64 bits say.
 pub fn read_head(bytes: &[u8]) -> Head
     ensures { λ r. ⌜ r ≡ headOf (now (bytes .entry)) ⌝ }
@@ -40,7 +41,7 @@ pub fn read_head(bytes: &[u8]) -> Head
     let word = load(bytes, 0, 8);
     Head {
         clock: field(word, 16, 48),
-        pending: pending_bytes(word),
+        pending: field_short(word, 0, 11),
         telegrams: field_byte(word, 11, 4),
         transmitting: bit(word, 15),
     }
@@ -127,4 +128,49 @@ pub fn record_refusal(bytes: &[u8], applications: u8) -> u8
         return 12;
     }
     entries_refusal(bytes, applications, telegrams)
+}
+
+// The word that says a head. Of a number that does not fit its field the lowest bits are taken.
+fn head_word(head: Head) -> u64
+    ensures { λ r. ⌜ r ≡ headWord head ⌝ }
+{
+    let mut word = put(0, 48, head.clock);
+    word = put_bit(word, head.transmitting);
+    word = put_byte(word, 4, head.telegrams);
+    put_short(word, 11, head.pending)
+}
+
+// Writes a head into a record's first 8 bytes; every other byte stays. A shorter slice stays as it is. Of a number that does not
+// fit its field the lowest bits are taken.
+pub fn store_head(bytes: &mut [u8], head: Head)
+    ensures { λ _. ⌜ now (bytes .exit) ≡ headStored (now (bytes .entry)) head ⌝ }
+{
+    store(bytes, 0, 8, head_word(head));
+}
+
+// Writes the decision of an application, normal or high priority, into its 3 bytes; every other byte stays. For an application past
+// the last, and where the slice ends before, all of it stays. Of an address that does not fit its field the lowest bits are taken.
+pub fn store_decision(
+    bytes: &mut [u8],
+    applications: u8,
+    application: u8,
+    high: bool,
+    decided: Decision,
+)
+    ensures { λ _. ⌜ now (bytes .exit) ≡ decisionStored (now (bytes .entry)) applications application high decided ⌝ }
+{
+    if applications <= application {
+        return;
+    }
+    let at = decision_place(application, high);
+    store(bytes, at, 3, write_decision(decided));
+}
+
+// Writes a telegram into its 4 bytes; every other byte stays. Where the slice ends before, all of it stays. Of a number that does not
+// fit its field the lowest bits are taken.
+pub fn store_telegram(bytes: &mut [u8], applications: u8, index: u8, heard: Telegram)
+    ensures { λ _. ⌜ now (bytes .exit) ≡ telegramStored (now (bytes .entry)) applications index heard ⌝ }
+{
+    let at = telegram_place(applications, index);
+    store(bytes, at, 4, write_telegram(heard));
 }

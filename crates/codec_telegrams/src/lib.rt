@@ -1,13 +1,16 @@
 // Document 01's telegram word of 32 bits: what it says, the refusal of a word that no telegram has, and the writer. It leans on
 // codec_fields.
 ghost use mathlib.Core.Path.{_≡_};
-ghost use Rattle.codec_telegrams.specs.Words.{responseStateOf, responseNumber, telegramOf, telegramRefusal, telegramWord, zeroOr14, addressed};
+ghost use mathlib.Core.List.{[], _∷_};
+ghost use Rattle.codec_fields.specs.Fields.{bitNumber, putAll};
+ghost use Rattle.codec_telegrams.specs.Words.{responseStateOf, responseNumber, telegramOf, telegramRefusal, telegramWidths, telegramWord};
 use codec_fields::bit;
 use codec_fields::field;
 use codec_fields::field_byte;
 use codec_fields::put;
 use codec_fields::put_bit;
 use codec_fields::put_byte;
+use codec_fields::zero_or_14;
 
 // A station's type in a response, in document 01's order: slave, not ready, without token, in ring.
 pub enum ResponseState {
@@ -97,16 +100,6 @@ pub fn read_telegram(word: u64) -> Telegram
     }
 }
 
-// 14 for bits that should be zero and are not.
-pub fn zero_or_14(bits: u64) -> u8
-    ensures { λ r. ⌜ r ≡ zeroOr14 bits ⌝ }
-{
-    if bits == 0 {
-        return 0;
-    }
-    14
-}
-
 // 14 for a word that no telegram has, 0 for any other.
 pub fn telegram_refusal(word: u64) -> u8
     ensures { λ r. ⌜ r ≡ telegramRefusal word ⌝ }
@@ -124,20 +117,25 @@ pub fn telegram_refusal(word: u64) -> u8
     if kind == 2 {
         return zero_or_14(field(word, 0, 15));
     }
-    if bit(word, 15) {
+    if field(word, 15, 1) != 0 {
         return 14;
     }
     zero_or_14(field(word, 0, 9))
 }
 
-// The first 16 bits of a telegram word with addresses.
-fn addresses(kind: u64, destination: u8, source: u8) -> u64
-    ensures { λ r. ⌜ r ≡ addressed kind destination source ⌝ }
+// The word of a telegram's fields.
+fn put_fields(kind: u64, destination: u8, source: u8, request: bool, state: u8, status: u8) -> u64
+    ensures { λ r. ⌜ r ≡ putAll 0 telegramWidths (kind ∷ destination ∷ source ∷ bitNumber request ∷ state ∷ status ∷ 0 ∷ []) ⌝ }
 {
-    put_byte(put_byte(put(0, 2, kind), 7, destination), 7, source)
+    let addresses = put_byte(put_byte(put(0, 2, kind), 7, destination), 7, source);
+    put(
+        put_byte(put_byte(put_bit(addresses, request), 2, state), 4, status),
+        9,
+        0,
+    )
 }
 
-// The word that says a telegram.
+// The word that says a telegram. Of a number that does not fit its field the lowest bits are taken.
 pub fn write_telegram(telegram: Telegram) -> u64
     ensures { λ r. ⌜ r ≡ telegramWord telegram ⌝ }
 {
@@ -145,34 +143,25 @@ pub fn write_telegram(telegram: Telegram) -> u64
         Telegram::Token {
             destination,
             source,
-        } => put(addresses(0, destination, source), 16, 0),
-        Telegram::ShortConfirmation => put(put(0, 2, 1), 30, 0),
+        } => put_fields(0, destination, source, false, 0, 0),
+        Telegram::ShortConfirmation => put_fields(1, 0, 0, false, 0, 0),
         Telegram::Request {
             destination,
             source,
             status_request,
-        } => put(
-            put_bit(addresses(2, destination, source), status_request),
-            15,
-            0,
-        ),
+        } => put_fields(2, destination, source, status_request, 0, 0),
         Telegram::Response {
             destination,
             source,
             state,
             status,
-        } => put(
-            put_byte(
-                put_byte(
-                    put(addresses(3, destination, source), 1, 0),
-                    2,
-                    response_state_number(state),
-                ),
-                4,
-                status,
-            ),
-            9,
-            0,
+        } => put_fields(
+            3,
+            destination,
+            source,
+            false,
+            response_state_number(state),
+            status,
         ),
     }
 }

@@ -48,13 +48,13 @@ fn main() {
     let mut space = io::large_buffer();
     let n = io::read_full(STDIN_FILENO, &mut space);
     let Created::Accepted(p) = Parameters::new(space[0], 6) else {
-        io::write_all(STDOUT_FILENO, b"poll_runs: the first byte is no address\n");
+        io::write_all(STDOUT_FILENO, b"run_polls: the first byte is no address\n");
         return;
     };
     let Started::Accepted(fresh) = Station::new(p, space[1]) else {
         io::write_all(
             STDOUT_FILENO,
-            b"poll_runs: the second byte is no number of applications\n",
+            b"run_polls: the second byte is no number of applications\n",
         );
         return;
     };

@@ -62,8 +62,8 @@ outside-number low v high n = by (leb low v && leb v high)
 -- The first refusal of a list.
 
 -- where there is none, the rule at its head refuses nothing, and none of the rest does
-pub none-first : (n : ℕ) (rest : List ℕ) → firstOf (n ∷ rest) ≡ 0 → (n ≡ 0) × (firstOf rest ≡ 0)
-none-first n rest e = cases (eqb n 0) (λ t. (eqb-true n 0 t, rw t at e)) (λ f. absurd (eqb-false n 0 f (rw f at e)))
+pub none-refuses : (n : ℕ) (rest : List ℕ) → firstOf (n ∷ rest) ≡ 0 → (n ≡ 0) × (firstOf rest ≡ 0)
+none-refuses n rest e = cases (eqb n 0) (λ t. (eqb-true n 0 t, rw t at e)) (λ f. absurd (eqb-false n 0 f (rw f at e)))
 
 -- numbers that are at most k have a first that is at most k
 pub first-small : (k n : ℕ) (rest : List ℕ) → n ≤ k → firstOf rest ≤ k → firstOf (n ∷ rest) ≤ k

@@ -37,7 +37,7 @@ withTokenTime now = record { «token_time» = now; «first_app» = optionApplica
 unfoldable pub toListenToken : Core → Core
 toListenToken c = withState c (ListenToken optionAddress.None 0)
 
--- State::transition_active_idle: it clears request, predecessor and collisions
+-- State::transition_active_idle: it clears request, predecessor and collisions. A remembered predecessor is cleared only here
 unfoldable pub toActiveIdle : Core → Core
 toActiveIdle c = withState c (ActiveIdle optionAddress.None optionAddress.None 0)
 
@@ -99,7 +99,7 @@ pauseOf p a now = waitedOf a now (timeOf (record { 0 = 33 }) (p .baudrate))
 unfoldable pub sentAt : Parameters → Micros → ℕ → Activity
 sentAt p now bytes = activity.At (record { 0 = now .0 + timeOf (record { 0 = 11 * bytes }) (p .baudrate) .0 })
 
--- check_for_bus_activity
+-- check_for_bus_activity: fewer pending bytes than were known change nothing
 unfoldable pub busActivityOf : Core → Micros → ℕ → Core
 busActivityOf c now pending =
     cond (ltb (c .«pending_bytes») pending) (withPending (withActivity c (markedAt (c .«last_bus_activity») now)) pending) c

@@ -25,7 +25,8 @@ resendOf p c ring now First = passTokenOf p (toPassToken c false Second) ring no
 resendOf p c ring now Second = passTokenOf p (toPassToken c false Third) ring now false Third
 resendOf p c ring now Third = passTokenOf p (toPassToken c false First) (removeOf ring (nextOf ring)) now false First
 
--- do_check_token_pass: telegrams lead to ActiveIdle and are handled there
+-- do_check_token_pass: telegrams lead to ActiveIdle and are handled there. The Rust marks the first reception before; the two touch
+-- different fields
 unfoldable pub checkReceived : Parameters → Core → Ring → Micros → List ℕ → ℕ → ℕ → RingStep
 checkReceived p c ring now bytes n count =
     cond (ltb 0 count) (consumedAll (receivedAll p (toActiveIdle c) ring now false bytes n count) count)

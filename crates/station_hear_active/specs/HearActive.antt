@@ -1,5 +1,5 @@
--- One telegram heard in ActiveIdle, in the order of active.rs: handle_telegram. request (status_request), previous
--- (new_previous_station) and collisions are the fields of c's state, last whether the telegram is the last of its poll.
+-- One telegram heard in ActiveIdle, in the order of active.rs: handle_telegram. request (status_request),
+-- newPreviousStation (new_previous_station) and collisions are the fields of c's state, last whether the telegram is the last of its poll.
 use Prim.Native.Nat.{ℕ}
 use mathlib.Core.Bool.{Bool, false, cond}
 use lib.Dec.{eqb}
@@ -35,7 +35,8 @@ unfoldable pub acceptedOf : Core → Ring → Micros → Heard
 acceptedOf c ring now = heardOf (toUseToken c (withTokenTime now)) ring outcome.Delay
 
 -- handle_telegram: a token to us, last of its poll: accepted from the previous station or the remembered one (only the
--- remembered one's pass is witnessed); from any other its sender is remembered
+-- remembered one's pass is witnessed); from any other its sender is remembered. Previous is the ring's at this telegram, after the
+-- poll's earlier tokens
 unfoldable pub tokenToUs : Core → Ring → Micros → OptionAddress → OptionAddress → ℕ → ℕ → Heard
 tokenToUs c ring now request newPreviousStation destination source =
     cond (eqb source (prevOf ring)) (acceptedOf c ring now)

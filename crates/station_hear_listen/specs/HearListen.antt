@@ -18,7 +18,8 @@ use Rattle.station.specs.Parts.{withState, freshCore}
 use Rattle.station.specs.declared.Heard.{Heard}
 use Rattle.station.specs.Steps.{heardOf, lastRequestToUs}
 
--- do_listen_token: a telegram with our own source: the first is counted, the second makes a fresh station, offline
+-- do_listen_token: a telegram with our own source: the first is counted, the second makes a fresh station, offline.
+-- A request is none here: a noted one blocks consuming
 unfoldable pub collided : Parameters → Core → Ring → OptionAddress → ℕ → Heard
 collided p c ring request collisions =
     cond (eqb collisions 0) (heardOf (withState c (ListenToken request 1)) ring outcome.Bus)

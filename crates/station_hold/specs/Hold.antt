@@ -65,7 +65,8 @@ unfoldable pub turnOf : ℕ → ℕ → ℕ
 turnOf a n = cond (ltb (a + 1) n) (a + 1) 0
 
 -- apps_transmit_telegram: who is asked and who sends (the send itself is useAppsAfter). Asking goes on for k turns at most; it
--- ends where one sends, or where the cycle is completed
+-- ends where one sends, or where the cycle is completed. The turn moves only where one declines, so the first to decline is the
+-- one that was asked first
 unfoldable pub askedFrom : ℕ → List ℕ → ℕ → ℕ → OptionApplication → Bool → Asked
 askedFrom zero bytes n a first high = record { application = a; «first_app» = first; sends = false }
 askedFrom (suc k) bytes n a first high =
@@ -86,6 +87,7 @@ holdLess p (Waiting count) = zeroTime
 holdLess p (DoPoll address) = timeOf (record { 0 = p .«slot_bits» + 100 }) (p .baudrate)
 
 -- do_use_token: a new token time sets the end of hold to the last token time + rotation time, less the gap poll's
+-- (the same time as the last one's is found only in later polls of one hold)
 unfoldable pub holdEndOf : Parameters → Core → Micros → Core
 holdEndOf p c token =
     cond (eqb (c .«last_token_time» .0) (token .0)) c
@@ -122,7 +124,7 @@ unfoldable pub useTokenTimed : Parameters → Core → Micros → UseTokenData �
 useTokenTimed p c now held cycled bytes n =
     useTokenAfter p c now held cycled bytes n (pauseOf p (c .«last_bus_activity») now)
 
--- do_use_token
+-- do_use_token: the end of hold is set before the pause is asked for
 unfoldable pub useTokenOf : Parameters → Core → Micros → UseTokenData → Bool → List ℕ → ℕ → Step
 useTokenOf p c now held cycled bytes n = useTokenTimed p (holdEndOf p c (held .«token_time»)) now held cycled bytes n
 
@@ -134,7 +136,7 @@ validResponse (telegram.Request destination source asks) address own = false
 validResponse (telegram.Response destination source state status) address own =
     cond (eqb source address) (eqb destination own) false
 
--- do_await_data_response: a reply is told to the application that sent; anything else leads to ActiveIdle
+-- do_await_data_response: a reply is told to the application that sent; anything else leads to ActiveIdle, and nobody is told
 unfoldable pub receivedOf : Parameters → Core → Micros → ℕ → UseTokenData → Telegram → Step
 receivedOf p c now address held t =
     cond (validResponse t address (p .address))

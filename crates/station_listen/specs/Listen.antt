@@ -33,7 +33,8 @@ use Rattle.station.specs.declared.Heard.{Heard}
 unfoldable pub lostTokenOf : Parameters → Core → Ring → Micros → RingStep
 lostTokenOf p c ring now = claimTokenOf p (toClaimToken c) ring now true
 
--- do_listen_token: without token exactly if ready and asked by the previous station, else not ready
+-- do_listen_token: without token exactly if ready and asked by the previous station, else not ready. Alone, previous is own, so
+-- every asker hears "not ready"
 unfoldable pub responseState : Ring → ℕ → ResponseState
 responseState ring source = cond (ring .ready) (cond (eqb source (prevOf ring)) MasterWithoutToken MasterNotReady) MasterNotReady
 

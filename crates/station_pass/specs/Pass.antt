@@ -18,7 +18,8 @@ use Rattle.station.specs.declared.RingStep.{RingStep}
 use Rattle.station.specs.Parts.{withActivity, withGap}
 use Rattle.station.specs.Steps.{toUseToken, toCheckTokenPass, toAwaitStatusResponse, withTokenTime, pauseOf, doneOf, transmitOf}
 
--- do_pass_token: the gap's turn: a count above the settings' starts a walk from own, a walk goes on from where it is
+-- do_pass_token: the gap's turn: a count above the settings' starts a walk from own, a walk goes on from
+-- where it is. The pass that ends a walk is not counted
 unfoldable pub gapAdvanced : Parameters → Ring → GapState → GapState
 gapAdvanced p ring (Waiting count) =
     cond (ltb (p .«gap_wait_rotations») count) (gapOf ring (p .address) (p .«highest_station_address»)) (Waiting (count + 1))
@@ -32,7 +33,8 @@ passSent p c now attempt next witnessed =
     (record { step = transmitOf p (toUseToken c (withTokenTime now)) now (sent.Token next); ring = witnessed })
     (record { step = transmitOf p (toCheckTokenPass c attempt) now (sent.Token next); ring = witnessed })
 
--- do_pass_token: the token is sent to the next station
+-- do_pass_token: the token is sent to the next station, which is asked for before the pass is witnessed and again after, as in the
+-- Rust (for a sound ring both are the same)
 unfoldable pub passSend : Parameters → Core → Ring → Micros → PassTokenAttempt → RingStep
 passSend p c ring now attempt = passSent p c now attempt (nextOf ring) (witnessOf ring (p .address) (nextOf ring))
 

@@ -4,7 +4,6 @@ use Rattle.theorem_determined.specs.Claim.{Determined}
 use Rattle.codec_telegrams.proofs.response_state.Reads as response-state-reads
 use Rattle.codec_telegrams.proofs.response_state_number.Reads as response-state-number-reads
 use Rattle.codec_telegrams.proofs.read_telegram.Reads as read-telegram-reads
-use Rattle.codec_telegrams.proofs.zero_or_14.Reads as zero-or-14-reads
 use Rattle.codec_telegrams.proofs.telegram_refusal.Reads as telegram-refusal-reads
 use Rattle.codec_telegrams.proofs.write_telegram.Reads as write-telegram-reads
 
@@ -16,9 +15,6 @@ response-state-number κs a r₁ r₂ s₁ s₂ p q = p ∙ sym q
 
 pub read-telegram : Determined read-telegram-reads.Post
 read-telegram κs a r₁ r₂ s₁ s₂ p q = p ∙ sym q
-
-pub zero-or-14 : Determined zero-or-14-reads.Post
-zero-or-14 κs a r₁ r₂ s₁ s₂ p q = p ∙ sym q
 
 pub telegram-refusal : Determined telegram-refusal-reads.Post
 telegram-refusal κs a r₁ r₂ s₁ s₂ p q = p ∙ sym q

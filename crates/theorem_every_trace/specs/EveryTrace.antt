@@ -1,6 +1,6 @@
 -- The theorems on every trace, over the definitions of trace. That the call answers and ends on every trace and buffer is its contract.
-use Prim.Native.Nat.{ℕ, _+_, _-_, _*_, _/_, _%_, _^_, _<_, _≤_}
-use mathlib.Core.Path.{_≡_, refl, sym, ap, _∙_, subst}
+use Prim.Native.Nat.{ℕ, _-_, _*_, _/_, _%_, _<_, _≤_}
+use mathlib.Core.Path.{_≡_, sym, ap, _∙_}
 use mathlib.Core.List.{List, [], _∷_, _++_}
 use native.Mathlib.Omega.{arith}
 use native.Mathlib.Nat.{le-refl}
@@ -9,17 +9,15 @@ use lib.ListN.{length, take, drop, length-append, length-drop}
 use lib.Seq.{take-at, drop-at}
 use lib.Pow.{high, low}
 use lib.Dec.{eqb}
-use Rattle.codec_answers.specs.declared.Answer.{Answer}
 use Rattle.station.specs.declared.Station.{Station}
 use Rattle.station.specs.declared.Started.{Started}
 use Rattle.station.specs.declared.Started.the-variants as started
-use Rattle.station_poll.specs.Poll.{pollOf}
-use Rattle.station_command.specs.Command.{passiveOf}
 use Rattle.theorem_sound.specs.Unchanged.{poll-unchanged, passive-unchanged, online-refusal, offline-refusal}
-use Rattle.trace.specs.Trace.{startOf, Run, ended, answered, runFrom, runOf, Replay, ranOf, replayOn, replayOf, numberOf, written, bufferOf}
-use Rattle.trace.specs.Entries.{recordLength, entryOf}
-use Rattle.trace.specs.Laws.{precededBy, replay-started, replay-refused, run-none, run-more}
+use Rattle.trace.specs.Trace.{startOf, answered, runOf, ranOf, replayOn, replayOf, numberOf, written, bufferOf}
+use Rattle.trace.specs.Entries.{entryOf}
+use Rattle.trace.specs.Laws.{precededBy, replay-refused, run-none, run-more}
 use Rattle.theorem_every_trace.specs.Endings.{Small, start-small}
+use Rattle.theorem_every_trace.specs.Statement.{Entry, Whole, laid, along}
 use Rattle.theorem_every_trace.specs.Runs.{run-enough, run-on, run-ends, written-length}
 
 -- a refused header: the call returns its number, and writes nothing
@@ -89,26 +87,6 @@ buffer-keeps-its-length trace before =
     let r = replayOf trace (length before) in
     length-append (written (r .answers)) (drop (8 * length (r .answers)) before)
     ∙ rw (written-length (r .answers), length-drop) (omega (arith, answers-have-room trace before))
-
--- an entry of a trace: its first byte, and the record that follows it
-pub record Entry : Type 0 where
-  pub kind : ℕ
-  pub bytes : List ℕ
-
--- entries as a trace has them: each record is as long as its first byte says
-abbrev pub Whole : List Entry → Type 0
-Whole [] = Unit {0}
-Whole (e ∷ es) = (length (e .bytes) ≡ recordLength (e .kind)) × Whole es
-
--- their bytes, one entry after the other
-abbrev pub laid : List Entry → List ℕ
-laid [] = []
-laid (e ∷ es) = e .kind ∷ (e .bytes ++ laid es)
-
--- what they come to, by the station's definitions: each entry is answered from the station that the one before it left
-abbrev pub along : Station → List Entry → Run
-along s [] = ended s 0
-along s (e ∷ es) = answered (entryOf s (e .kind) (e .bytes) .answer) (along (entryOf s (e .kind) (e .bytes) .station) es)
 
 -- every entry that is whole and has room for its answer is answered, and by the station's definition on the entry
 pub each-entry-is-answered : (s : Station) (es : List Entry) (room : ℕ) → Whole es → 8 * length es ≤ room → runOf s (laid es) room ≡ along s es

@@ -1,4 +1,8 @@
--- Laws of runs and of how they end; the theorems on every trace are in EveryTrace.
+-- Demand 1 in one statement is in Statement, its proof in Theorem, and in Once that it leaves no choice. EveryTrace has its parts as
+-- theorems of their own and what else holds of every trace; Runs and Endings have the laws of runs and of how they end.
 pub mod Runs
 pub mod Endings
+pub mod Statement
+pub mod Theorem
+pub mod Once
 pub mod EveryTrace

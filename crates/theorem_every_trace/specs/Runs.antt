@@ -20,12 +20,12 @@ use Rattle.trace.specs.Trace.{Run, ended, answered, runFrom, runOf, written}
 use Rattle.trace.specs.Laws.{precededBy, run-none, run-cut, run-full, run-more}
 
 -- the three ways of an entry
-data Way (kind : ℕ) (rest : List ℕ) (room : ℕ) : Type 0 where
+pub data Way (kind : ℕ) (rest : List ℕ) (room : ℕ) : Type 0 where
   cuts : length rest < recordLength kind → Way kind rest room
   fills : recordLength kind ≤ length rest → room < 8 → Way kind rest room
   goes : recordLength kind ≤ length rest → 8 ≤ room → Way kind rest room
 
-way : (kind : ℕ) (rest : List ℕ) (room : ℕ) → Way kind rest room
+pub way : (kind : ℕ) (rest : List ℕ) (room : ℕ) → Way kind rest room
 way kind rest room =
     cases (ltb (length rest) (recordLength kind))
     (λ a. cuts (ltb-true _ _ a))
@@ -45,7 +45,7 @@ enough-step m n s kind rest room same (goes c f) =
     ∙ sym (run-more n s kind rest room c f)
 
 -- what follows an entry is shorter than what begins with it
-shorter : (kind m : ℕ) (rest : List ℕ) → suc (length rest) ≤ suc m → length (drop (recordLength kind) rest) ≤ m
+pub shorter : (kind m : ℕ) (rest : List ℕ) → suc (length rest) ≤ suc m → length (drop (recordLength kind) rest) ≤ m
 shorter kind m rest h = rw (length-drop (recordLength kind) rest) (omega (arith, h))
 
 -- the same for any list of entries, where m says how many the first run may take

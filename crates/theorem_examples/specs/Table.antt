@@ -1,9 +1,9 @@
 -- Document 01, "Proved examples": the rows of the table, what a row says, and the table.
-use Prim.Native.Nat.{ℕ, zero, suc, _+_, _*_, _^_}
-use mathlib.Core.Bool.{Bool, true, false}
+use Prim.Native.Nat.{ℕ, zero, suc, _+_, _*_, _/_, _%_, _^_}
+use mathlib.Core.Bool.{true, false}
 use mathlib.Core.Path.{_≡_}
 use mathlib.Core.List.{List, [], _∷_, _++_, map}
-use lib.ListN.{length, drop, replicate}
+use lib.ListN.{length}
 use Rattle.codec_fields.specs.Fields.{bytesOf}
 use Rattle.bit_times.specs.declared.Micros.{Micros}
 use Rattle.bit_times.specs.declared.Baud.the-variants.{B500000}
@@ -16,26 +16,51 @@ use Rattle.settings_watchdog.specs.declared.Factored.the-variants as factored
 use Rattle.settings_watchdog.specs.Watchdog.{factorsOf}
 use Rattle.settings.specs.declared.Parameters.{Parameters}
 use Rattle.settings.specs.Settings.{slotTimeOf, tokenLostOf}
-use Rattle.ring.specs.declared.Ring.{Ring}
 use Rattle.ring.specs.declared.GapState.{GapState}
 use Rattle.ring.specs.declared.GapState.the-variants.{Waiting, DoPoll}
-use Rattle.ring.specs.Ring.{freshOf, addOf, claimOf, gapOf}
+use Rattle.ring.specs.Ring.{freshOf, gapOf}
 use Rattle.codec_answers.specs.declared.Answer.{Answer}
 use Rattle.codec_answers.specs.declared.Sent.{Sent}
 use Rattle.codec_answers.specs.declared.Sent.the-variants as sent
 use Rattle.codec_answers.specs.Answers.{answerWord}
 use Rattle.station.specs.declared.OptionAddress.the-variants as optionAddress
+use Rattle.station.specs.declared.Activity.{Activity}
 use Rattle.station.specs.declared.Activity.the-variants as activity
 use Rattle.station.specs.declared.PassTokenAttempt.the-variants.{First}
-use Rattle.station.specs.declared.State.{State}
-use Rattle.station.specs.declared.State.the-variants.{ListenToken, PassToken}
-use Rattle.station.specs.declared.Core.{Core}
+use Rattle.station.specs.declared.State.the-variants.{Offline, ListenToken, PassToken}
 use Rattle.station.specs.declared.Station.{Station}
-use Rattle.station.specs.Parts.{withState, withActivity, withGap, withPending, withOnline, freshCore, freshStation}
-use Rattle.station_pass.specs.Pass.{passTokenOf}
+use Rattle.station.specs.declared.Started.{Started}
+use Rattle.station.specs.declared.Started.the-variants as started
+use Rattle.station.specs.Parts.{withGap, zeroTime}
 use Rattle.station_answer.specs.declared.Polled.{Polled}
 use Rattle.station_poll.specs.Poll.{pollOf}
-use Rattle.trace.specs.Trace.{replayOf}
+use Rattle.trace.specs.Entries.{entryOf}
+use Rattle.trace.specs.Trace.{startOf, replayOf}
+
+-- A trace, by its header and its entries: each entry's first byte, and its record.
+pub record TraceParts : Type 0 where
+  pub header : List ℕ
+  pub entries : List (ℕ × List ℕ)
+
+-- its bytes
+abbrev pub entryBytes : List (ℕ × List ℕ) → List ℕ
+entryBytes [] = []
+entryBytes ((kind, bytes) ∷ more) = kind ∷ bytes ++ entryBytes more
+
+abbrev pub traceBytes : TraceParts → List ℕ
+traceBytes trace = trace .header ++ entryBytes (trace .entries)
+
+-- the station that it leaves, entry by entry; none where its header is refused
+abbrev pub afterEntries : Station → List (ℕ × List ℕ) → Station
+afterEntries s [] = s
+afterEntries s ((kind, bytes) ∷ more) = afterEntries (entryOf s kind bytes .station) more
+
+abbrev pub leftOn : Started → List (ℕ × List ℕ) → Started
+leftOn (started.Accepted s) entries = started.Accepted (afterEntries s entries)
+leftOn (started.Refused n) entries = started.Refused n
+
+abbrev pub leftBy : TraceParts → Started
+leftBy trace = leftOn (startOf (traceBytes trace)) (trace .entries)
 
 -- A row, in the order of document 01.
 pub data Row : Type 0 where
@@ -46,41 +71,70 @@ pub data Row : Type 0 where
   -- (the sentence before the list) the slot time and the time after which the token counts as lost, in microseconds
   slot : ℕ → Row
   lost : ℕ → Row
-  -- (8) a station alone, HSA 126, walks from an address: what is polled, or that it waits
-  walk : ℕ → ℕ → GapState → Row
-  -- (9) a station alone: own address, gap wait, how many passes (the count begins at 0); what each sends, and the gap state after it
-  passes : ℕ → ℕ → ℕ → List (Sent × GapState) → Row
-  -- (10) polls in silence of a station that starts a token pass, with a neighbour, at these times; what each sends
-  silence : ℕ → List ℕ → List Sent → Row
-  -- (11) a poll in ListenToken after one collision, at a time, with telegrams; the whole station after it
-  collision : ℕ → List (List ℕ) → Station → Row
+  -- (8) a station alone, HSA 126, walks from an address: what is polled, or that it waits; and the same in a poll: the gap state
+  -- before it that walks from there, and what is sent
+  walk : ℕ → GapState → GapState → Sent → Row
+  -- (9) a trace and the station that it leaves, which is alone and passes the token, from a time on; what each pass sends, and the
+  -- gap state after it
+  passes : TraceParts → Station → ℕ → List (Sent × GapState) → Row
+  -- (10) a trace and the station that it leaves, then polls in silence at these times; what each sends
+  silence : TraceParts → Station → List ℕ → List Sent → Row
+  -- (11) a trace and the station that it leaves, then a poll; the whole station after it
+  collision : TraceParts → Station → List ℕ → Station → Row
   -- (12) a trace, and what the replay program prints: the answers, how many there are, and the ending number
-  replay : List ℕ → List ℕ → ℕ → ℕ → Row
+  replay : TraceParts → List ℕ → ℕ → ℕ → Row
 
 -- the settings of document 01's examples: address 5, code 6, slot 200, with the header's other fields as in example 12
 abbrev pub example : ℕ → Parameters
 example wait =
     record { «token_rotation_bits» = 0x7eb4; «slot_bits» = 200; address = 5; baudrate = B500000; «gap_wait_rotations» = wait; «highest_station_address» = 126; «max_retry_limit» = 1; «min_tsdr_bits» = 11; «watchdog_factors» = watchdog.None }
 
--- an online station's core in a state, with the last activity at time 0
-abbrev pub inState : State → Core
-inState state = withState (withActivity (withOnline freshCore true) (activity.At (record { 0 = 0 }))) state
+-- their header, with this gap wait and number of applications
+abbrev pub headed : ℕ → ℕ → List ℕ
+headed wait applications = 0x05 ∷ 0x06 ∷ 0x00 ∷ 0xc8 ∷ 0x00 ∷ 0x00 ∷ 0x7e ∷ 0xb4 ∷ wait ∷ 0x7e ∷ 0x01 ∷ 0x0b ∷ applications ∷ 0x00 ∷ 0x00 ∷ 0x00 ∷ []
 
--- a poll record for one application that declines: the clock, telegrams of 4 bytes each, and all else zero
+-- entries: the command online, and a poll of a record
+abbrev pub onlineEntry : ℕ × List ℕ
+onlineEntry = (0, [])
+
+abbrev pub pollEntry : List ℕ → ℕ × List ℕ
+pollEntry bytes = (length bytes, bytes)
+
+-- one list after the other
 abbrev pub joined : List (List ℕ) → List ℕ
 joined [] = []
 joined (t ∷ ts) = t ++ joined ts
 
-abbrev pub pollRecord : ℕ → List (List ℕ) → List ℕ
-pollRecord clock telegrams = (bytesOf (clock * 2 ^ 16 + length telegrams * 2 ^ 11) ++ replicate 6 0) ++ joined telegrams
+-- a poll record: the clock, the pending bytes, decisions of 3 bytes each, telegrams of 4
+abbrev pub recordBytes : ℕ → ℕ → List (List ℕ) → List (List ℕ) → List ℕ
+recordBytes clock pending decisions telegrams = bytesOf (clock * 2 ^ 16 + length telegrams * 2 ^ 11 + pending) ++ joined decisions ++ joined telegrams
 
--- a station alone passes the token n times, one second after the other (passTokenOf is given the state's data, so the state between
--- passes is not looked at)
-abbrev pub passesOf : ℕ → Parameters → Ring → ℕ → Core → List (Sent × GapState)
-passesOf zero p ring now c = []
-passesOf (suc n) p ring now c =
-    let step = passTokenOf p c ring (record { 0 = now }) true First in
-    (step .step .sent, step .step .core .«gap_state») ∷ passesOf n p (step .ring) (now + 1000000) (step .step .core)
+-- a decision that declines, and one that sends 9 bytes and expects a reply from 20
+abbrev pub declines : List ℕ
+declines = 0 ∷ 0 ∷ 0 ∷ []
+
+abbrev pub expectsReply : List ℕ
+expectsReply = 0xca ∷ 0x04 ∷ 0x80 ∷ []
+
+-- a token from source to destination
+abbrev pub token : ℕ → ℕ → List ℕ
+token source destination = destination / 2 ∷ ((destination % 2) * 128 + source) ∷ 0 ∷ 0 ∷ []
+
+-- a poll record for one application that declines: the clock, telegrams, and all else zero
+abbrev pub pollRecord : ℕ → List (List ℕ) → List ℕ
+pollRecord clock telegrams = recordBytes clock 0 (declines ∷ declines ∷ []) telegrams
+
+-- the same for two applications
+abbrev pub twoRecord : ℕ → List (List ℕ) → List ℕ
+twoRecord clock telegrams = recordBytes clock 0 (declines ∷ declines ∷ declines ∷ declines ∷ []) telegrams
+
+-- A station alone passes the token n times, from a time on: each pass is a poll, and in the poll 200 µs later the token, which has
+-- come back, is used: the application declines.
+abbrev pub passesOf : ℕ → ℕ → Station → List (Sent × GapState)
+passesOf zero clock s = []
+passesOf (suc n) clock s =
+    let pass = pollOf s (pollRecord clock []) in
+    (pass .answer .sent, pass .station .core .«gap_state») ∷ passesOf n (clock + 400) (pollOf (pass .station) (pollRecord (clock + 200) []) .station)
 
 -- what each of several silent polls sends
 abbrev pub sentAlong : Station → List ℕ → List Sent
@@ -92,10 +146,82 @@ abbrev pub timeAt : ℕ → Coded → Micros
 timeAt bits (Rate baud) = timeOf (record { 0 = bits }) baud
 timeAt bits Unknown = record { 0 = 0 }
 
--- the station of example 11 before the poll: in ListenToken after one collision, and fresh in nothing that a poll can change
+-- example 12's trace: the header, online, and five polls
+abbrev pub example12 : TraceParts
+example12 =
+    record { header = headed 10 1; entries = onlineEntry ∷ pollEntry (pollRecord 1000 []) ∷ pollEntry (pollRecord 7399 []) ∷ pollEntry (pollRecord 7400 []) ∷ pollEntry (pollRecord 7532 []) ∷ pollEntry (pollRecord 7598 []) ∷ [] }
+
+-- Example 9's trace: example 12's and one poll more, in which the application declines, so that a token pass starts. The station
+-- is alone, gap wait 10, count 0.
+abbrev pub example9 : TraceParts
+example9 = record { header = example12 .header; entries = example12 .entries ++ (pollEntry (pollRecord 7664 []) ∷ []) }
+
+abbrev pub aloneStation : Station
+aloneStation =
+    record {
+      core = record { «last_token_time» = record { 0 = 7532 }; «end_token_hold_time» = record { from = zeroTime; span = record { 0 = 64872 }; less = zeroTime }; «last_bus_activity» = activity.At (record { 0 = 7598 }); state = PassToken true First; «gap_state» = Waiting 0; «pending_bytes» = 0; «next_application» = 0; online = true };
+      «token_ring» = record { low = 2 ^ 5; high = 0; own = 5; laps = 0; ready = true };
+      p = example 10;
+      applications = 1;
+    }
+
+-- it with another gap state (for example 8; a walk begins at our own address when the count has come to 11)
+abbrev pub withGapState : Station → GapState → Station
+withGapState s x = record { core = withGap (s .core) x; «token_ring» = s .«token_ring»; p = s .p; applications = s .applications }
+
+-- Example 10's trace: a token from 9 to us is heard, then nothing; the token is claimed, sent twice and used. The station has the
+-- neighbour 9 and starts a token pass.
+abbrev pub example10 : TraceParts
+example10 =
+    record { header = headed 10 1; entries = onlineEntry ∷ pollEntry (pollRecord 1000 []) ∷ pollEntry (pollRecord 1100 (token 9 5 ∷ [])) ∷ pollEntry (pollRecord 7500 []) ∷ pollEntry (pollRecord 7700 []) ∷ pollEntry (pollRecord 7900 []) ∷ [] }
+
+abbrev pub neighbourStation : Station
+neighbourStation =
+    record {
+      core = record { «last_token_time» = record { 0 = 7700 }; «end_token_hold_time» = record { from = zeroTime; span = record { 0 = 64872 }; less = zeroTime }; «last_bus_activity» = activity.At (record { 0 = 7766 }); state = PassToken true First; «gap_state» = Waiting 0; «pending_bytes» = 0; «next_application» = 0; online = true };
+      «token_ring» = record { low = 2 ^ 5 + 2 ^ 9; high = 0; own = 5; laps = 1; ready = true };
+      p = example 10;
+      applications = 1;
+    }
+
+-- Example 11's trace, of a station with two applications and gap wait 1. It claims the token, sends it twice, passes it twice to
+-- itself and asks 6 in the third pass (8800). Nobody answers, so the token comes back to it (9400); the second application sends and
+-- expects a reply (9600). A token comes instead, so it stands back (9900). It sees the token go round twice between 9 and 12, and then
+-- two tokens with its own address, so it listens (10000). A third one is the first collision there (10100). Then 7 bytes are pending.
+abbrev pub example11 : TraceParts
+example11 =
+    record {
+      header = headed 1 2;
+      entries =
+          onlineEntry ∷ pollEntry (twoRecord 1000 []) ∷ pollEntry (twoRecord 7400 []) ∷ pollEntry (twoRecord 7600 []) ∷ pollEntry (twoRecord 7800 []) ∷ pollEntry (twoRecord 8000 []) ∷ pollEntry (twoRecord 8200 [])
+          ∷ pollEntry (twoRecord 8400 []) ∷ pollEntry (twoRecord 8600 []) ∷ pollEntry (twoRecord 8800 []) ∷ pollEntry (twoRecord 9400 [])
+          ∷ pollEntry (recordBytes 9600 0 (declines ∷ declines ∷ expectsReply ∷ declines ∷ []) [])
+          ∷ pollEntry (twoRecord 9900 (token 9 12 ∷ []))
+          ∷ pollEntry (twoRecord 10000 (token 9 12 ∷ token 12 9 ∷ token 9 12 ∷ token 12 9 ∷ token 5 3 ∷ token 5 3 ∷ []))
+          ∷ pollEntry (twoRecord 10100 (token 5 3 ∷ []))
+          ∷ pollEntry (recordBytes 10200 7 (declines ∷ declines ∷ declines ∷ declines ∷ []) [])
+          ∷ [];
+    }
+
+-- the station of example 11 before the poll: in ListenToken after one collision, and in nothing as a fresh one
 abbrev pub collidedOnce : Station
 collidedOnce =
-    record { core = withPending (withGap (inState (ListenToken optionAddress.None 1)) (Waiting 4)) 7; «token_ring» = claimOf (addOf (freshOf 5) 9); p = example 10; applications = 1 }
+    record {
+      core = record { «last_token_time» = record { 0 = 9400 }; «end_token_hold_time» = record { from = record { 0 = 8400 }; span = record { 0 = 64872 }; less = record { 0 = 600 } }; «last_bus_activity» = activity.At (record { 0 = 10200 }); state = ListenToken optionAddress.None 1; «gap_state» = DoPoll 6; «pending_bytes» = 7; «next_application» = 1; online = true };
+      «token_ring» = record { low = 2 ^ 5 + 2 ^ 9 + 2 ^ 12; high = 0; own = 5; laps = 2; ready = true };
+      p = example 1;
+      applications = 2;
+    }
+
+-- and after it: a fresh station, as document 01 has it, with this activity
+abbrev pub freshBut : Activity → Station
+freshBut last =
+    record {
+      core = record { «last_token_time» = zeroTime; «end_token_hold_time» = record { from = zeroTime; span = zeroTime; less = zeroTime }; «last_bus_activity» = last; state = Offline; «gap_state» = Waiting 0; «pending_bytes» = 0; «next_application» = 0; online = false };
+      «token_ring» = record { low = 2 ^ 5; high = 0; own = 5; laps = 0; ready = false };
+      p = example 1;
+      applications = 2;
+    }
 
 -- what a row says; 32,768 bytes are the replay program's buffer
 abbrev pub Holds : Row → Type 0
@@ -103,37 +229,16 @@ Holds (factors ms expected) = factorsOf ms ≡ expected
 Holds (time bits code micros) = timeAt bits (baudOf code) ≡ record { 0 = micros }
 Holds (slot micros) = slotTimeOf (example 10) ≡ record { 0 = micros }
 Holds (lost micros) = tokenLostOf (example 10) ≡ record { 0 = micros }
-Holds (walk own from expected) = gapOf (freshOf own) from 126 ≡ expected
-Holds (passes own wait n expected) = passesOf n (example wait) (freshOf own) 1000 (inState (PassToken true First)) ≡ expected
-Holds (silence neighbour clocks expected) =
-    sentAlong (record { core = inState (PassToken false First); «token_ring» = addOf (freshOf 5) neighbour; p = example 10; applications = 1 }) clocks
-    ≡ expected
-Holds (collision clock telegrams expected) =
-    pollOf collidedOnce (pollRecord clock telegrams) .station ≡ expected
-Holds (replay trace lines entries ending) =
-    (map answerWord (replayOf trace 32768 .answers) ≡ lines) × (length (replayOf trace 32768 .answers) ≡ entries) × (replayOf trace 32768 .ending ≡ ending)
+Holds (walk from before expected sends) = (gapOf (freshOf 5) from 126 ≡ expected) × (passesOf 1 7800 (withGapState aloneStation before) ≡ (sends, expected) ∷ [])
+Holds (passes trace left clock expected) = (leftBy trace ≡ started.Accepted left) × (passesOf (length expected) clock left ≡ expected)
+Holds (silence trace left clocks expected) = (leftBy trace ≡ started.Accepted left) × (sentAlong left clocks ≡ expected)
+Holds (collision trace left bytes expected) = (leftBy trace ≡ started.Accepted left) × (pollOf left bytes .station ≡ expected)
+Holds (replay trace lines entries ending) = let replayed = replayOf (traceBytes trace) 32768 in (map answerWord (replayed .answers) ≡ lines) × (length (replayed .answers) ≡ entries) × (replayed .ending ≡ ending)
 
 -- all rows of a table hold
 abbrev pub AllHold : List Row → Type 0
 AllHold [] = Unit {0}
 AllHold (row ∷ rows) = Holds row × AllHold rows
-
--- a token from our own address, and one from 9 to 3
-abbrev pub ourToken : List ℕ
-ourToken = 0x01 ∷ 0x85 ∷ 0x00 ∷ 0x00 ∷ []
-
-abbrev pub otherToken : List ℕ
-otherToken = 0x01 ∷ 0x89 ∷ 0x00 ∷ 0x00 ∷ []
-
--- example 12's trace: the header, online, and five polls
-abbrev pub example12 : List ℕ
-example12 =
-    (((((0x05 ∷ 0x06 ∷ 0x00 ∷ 0xc8 ∷ 0x00 ∷ 0x00 ∷ 0x7e ∷ 0xb4 ∷ 0x0a ∷ 0x7e ∷ 0x01 ∷ 0x0b ∷ 0x01 ∷ 0x00 ∷ 0x00 ∷ 0x00 ∷ 0 ∷ [])
-    ++ (14 ∷ pollRecord 1000 []))
-    ++ (14 ∷ pollRecord 7399 []))
-    ++ (14 ∷ pollRecord 7400 []))
-    ++ (14 ∷ pollRecord 7532 []))
-    ++ (14 ∷ pollRecord 7598 [])
 
 -- the table: the times of the sentence before the list (1 bit is 2 µs, slot 400, pause 66, lost 6,400), then examples 1 to 12
 abbrev pub table : List Row
@@ -149,15 +254,15 @@ table =
     ∷ factors 650250 (factored.Factors 255 255)
     ∷ factors 650260 (factored.Refused 9)
     ∷ time 33 10 2
-    ∷ walk 5 5 (DoPoll 6)
-    ∷ walk 5 125 (DoPoll 0)
-    ∷ walk 5 4 (Waiting 0)
-    ∷ passes 5 10 12
+    ∷ walk 5 (Waiting 11) (DoPoll 6) (sent.StatusRequest 6)
+    ∷ walk 125 (DoPoll 125) (DoPoll 0) (sent.StatusRequest 0)
+    ∷ walk 4 (DoPoll 4) (Waiting 0) (sent.Token 5)
+    ∷ passes example9 aloneStation 7800
     ((sent.Token 5, Waiting 1) ∷ (sent.Token 5, Waiting 2) ∷ (sent.Token 5, Waiting 3) ∷ (sent.Token 5, Waiting 4) ∷ (sent.Token 5, Waiting 5)
     ∷ (sent.Token 5, Waiting 6) ∷ (sent.Token 5, Waiting 7) ∷ (sent.Token 5, Waiting 8) ∷ (sent.Token 5, Waiting 9) ∷ (sent.Token 5, Waiting 10)
     ∷ (sent.Token 5, Waiting 11) ∷ (sent.StatusRequest 6, DoPoll 6) ∷ [])
-    ∷ silence 9 (66 ∷ 532 ∷ 998 ∷ 1464 ∷ []) (sent.Token 9 ∷ sent.Token 9 ∷ sent.Token 9 ∷ sent.Token 5 ∷ [])
-    ∷ collision 1000 (ourToken ∷ []) (freshStation (example 10) 1)
-    ∷ collision 1000 (ourToken ∷ otherToken ∷ []) (record { core = withActivity freshCore (activity.At (record { 0 = 1000 })); «token_ring» = freshOf 5; p = example 10; applications = 1 })
+    ∷ silence example10 neighbourStation (8000 ∷ 8466 ∷ 8932 ∷ 9398 ∷ []) (sent.Token 9 ∷ sent.Token 9 ∷ sent.Token 9 ∷ sent.Token 5 ∷ [])
+    ∷ collision example11 collidedOnce (twoRecord 10300 (token 5 3 ∷ [])) (freshBut activity.Unknown)
+    ∷ collision example11 collidedOnce (twoRecord 10300 (token 5 3 ∷ token 9 3 ∷ [])) (freshBut (activity.At (record { 0 = 10300 })))
     ∷ replay example12 (0x0000000000000014 ∷ 0x0310000000000014 ∷ 0x0310000000000014 ∷ 0x0242140030000014 ∷ 0x0232140030000014 ∷ 0x0230000000000014 ∷ []) 6 0
     ∷ []

@@ -1,14 +1,16 @@
 -- Every station that calls make meets the first two premises of Silence: accepted settings, and sound.
 use Prim.Native.Nat.{ℕ, _<_}
-use mathlib.Core.Bool.{Bool, true, false, cond, _&&_}
+use mathlib.Core.Bool.{Bool, true, false, cond}
 use mathlib.Core.Path.{_≡_, refl, sym, ap, subst, _∙_}
 use mathlib.Core.List.{List, [], _∷_}
 use native.Mathlib.Omega.{arith}
-use borrow.Author.Tests.{leb-true}
 use borrow.Table.Steps.{cases}
-use lib.Dec.{leb, eqb}
+use lib.Dec.{eqb}
 use Rattle.settings.specs.declared.Parameters.{Parameters}
+use Rattle.settings.specs.Rules.{addressRefusal, applicationsRefusal}
+use Rattle.settings.specs.RuleLaws.{outside-in}
 use Rattle.settings_build.specs.Build.{firstRefusal, plainOf}
+use Rattle.settings_build.specs.Passes.{passes}
 use Rattle.codec_records.specs.Records.{recordRefusal}
 use Rattle.station.specs.declared.PassTokenAttempt.the-variants.{First}
 use Rattle.station.specs.declared.State.the-variants.{PassToken}
@@ -24,7 +26,7 @@ use Rattle.theorem_sound.specs.Sound as call
 use Rattle.theorem_silence.specs.Silence.{Start, online, gapDue}
 
 -- no call changes the settings
-poll-settings : (s : Station) (bytes : List ℕ) → pollOf s bytes .station .p ≡ s .p
+pub poll-settings : (s : Station) (bytes : List ℕ) → pollOf s bytes .station .p ≡ s .p
 unfolding pollOf acceptedPoll acceptedAfter polledOf refusedPoll
 poll-settings s bytes = cases (eqb (recordRefusal bytes (s .applications)) 0) (λ e. rw e) (λ e. rw e)
 
@@ -43,18 +45,16 @@ run-settings (c ∷ cs) s = run-settings cs (after s c) ∙ after-settings s c
 -- what `new` accepts has the settings it was given
 new-settings : (p : Parameters) (n : ℕ) (s : Station) → newStation p n ≡ started.Accepted s → s .p ≡ p
 unfolding newStation freshStation
-new-settings p n s e = go (leb 1 n && leb n 8) e
+new-settings p n s e = go (eqb (applicationsRefusal n) 0) e
   where
-    go : (b : Bool) → cond b (started.Accepted (freshStation p n)) (started.Refused 11) ≡ started.Accepted s → s .p ≡ p
+    go : (b : Bool) → cond b (started.Accepted (freshStation p n)) (started.Refused (applicationsRefusal n)) ≡ started.Accepted s → s .p ≡ p
     go true a = let same : freshStation p n ≡ s = cc in rw (← same)
     go false a = let z : _≡_ {A = ℕ} 0 1 = cc in absurd (omega arith)
 
 -- accepted settings have an address up to 125
 address-low : (p : Parameters) → firstRefusal (plainOf p) ≡ 0 → p .address < 126
-unfolding firstRefusal plainOf
-address-low p e =
-    cases (leb (p .address) 125) (λ a. omega (arith, leb-true (p .address) 125 a))
-    (λ a. let z : _≡_ {A = ℕ} 1 0 = rw a at e in absurd (omega arith))
+unfolding plainOf addressRefusal
+address-low p e = omega (arith, outside-in 0 (p .address) 125 1 (omega arith) (passes (plainOf p) e .address) .1)
 
 -- a station that any list of polls and commands makes of one that `new` accepts with accepted settings
 pub record ByCalls (s : Station) : Type 0 where

@@ -1,11 +1,14 @@
--- The premises of Silence are met, and its bound is sharp, by stations with 0, 1, 2 and 125 others, each made by calls.
-use Prim.Native.Nat.{ℕ, zero, suc, _+_, _*_, _/_, _%_, _^_, _<_, _≤_}
-use mathlib.Core.Bool.{true, false}
-use mathlib.Core.Path.{_≡_, refl, ap}
+-- The premises of Silence are met, and its bound is sharp, for every number of others and with the gap flag both ways, by stations that
+-- calls make; and the letter's case by the clock.
+use Prim.Native.Nat.{ℕ, zero, suc, _+_, _*_, _^_, _<_, _≤_}
+use mathlib.Core.Bool.{Bool, true, false, _||_}
+use mathlib.Core.Path.{_≡_, refl, sym, ap, subst, _∙_}
 use mathlib.Core.List.{List, [], _∷_, _++_}
-use lib.ListN.{length}
+use lib.Dec.{eqb, leb}
 use native.Mathlib.Omega.{arith}
-use Rattle.codec_fields.specs.Fields.{fieldOf, beFrom, loadOf}
+use borrow.Author.Tests.{eq-eqb, ne-eqb, lt-leb, leb-true, leb-false}
+use borrow.Table.Steps.{cases}
+use Rattle.codec_fields.specs.Fields.{fieldOf, zerosOr14, beFrom, loadOf}
 use Rattle.bit_times.specs.declared.Baud.the-variants.{B500000}
 use Rattle.bit_times.specs.Times.{baudOf, rounded, timeOf}
 use Rattle.settings.specs.declared.Parameters.{Parameters}
@@ -14,13 +17,16 @@ use Rattle.settings.specs.Settings.{defaultOf, slotTimeOf, tokenLostOf, rotatio
 use Rattle.settings_build.specs.Build.{earlyRefusal, firstRefusal, plainOf}
 use Rattle.ring_addresses.specs.Set.{takeOut, walk, nearest, betweenOf, keeps, sameSet}
 use Rattle.ring_addresses.specs.Words.{bitOf, wordOf, hasIn}
-use Rattle.ring.specs.Ring.{has, make, others, removeOf, freshOf, roundOf, lapsOf, passed, witnessOf, claimOf, nextOf, prevOf}
+use Rattle.ring.specs.declared.Ring.{Ring}
+use Rattle.ring.specs.declared.GapState.{GapState}
+use Rattle.ring.specs.declared.GapState.the-variants.{Waiting, DoPoll}
+use Rattle.ring.specs.Ring.{has, make, others, removeOf, freshOf, roundOf, lapsOf, passed, witnessOf, claimOf, addOf, nextOf, prevOf}
+use Rattle.ring.specs.Laws.{SoundRing, claim-has, claim-own, add-has, add-own, fresh-has, fresh-made, witness-own, sound-claim, sound-witness}
 use Rattle.codec_telegrams.specs.Words as words
 use Rattle.codec_decisions.specs.Decisions as decisions
 use Rattle.codec_records.specs.declared.Head.{Head}
 use Rattle.codec_records.specs.Records as records
 use Rattle.codec_answers.specs.declared.Sent.the-variants.{Token, Application}
-use Rattle.station.specs.declared.Activity.the-variants as activity
 use Rattle.station.specs.declared.PassTokenAttempt.the-variants.{First}
 use Rattle.station.specs.declared.State.the-variants.{PassToken}
 use Rattle.station.specs.declared.Station.{Station}
@@ -36,76 +42,206 @@ use Rattle.station_claim.specs.Claim as claiming
 use Rattle.station_answer.specs.Answer as answering
 use Rattle.station_command.specs.Command as commands
 use Rattle.station_poll.specs.Poll as polling
-use Rattle.theorem_sound.specs.Sound.{Call, poll, after, run}
+use Rattle.theorem_sound.specs.Sound.{Call, after, run, SoundStation}
 use Rattle.theorem_sound.specs.Sound as call
-use Rattle.theorem_silence.specs.Silence.{Start, Quiet, AllQuiet, online, gapDue, slotAfter, counted, countedIn}
+use Rattle.theorem_silence.specs.Silence.{Start, Quiet, AllQuiet, gapDue, slotAfter, counted, countedIn}
 use Rattle.theorem_silence.specs.Letter.{sentIn}
-use Rattle.theorem_silence.specs.Calls.{ByCalls, settings-given, start-of-calls}
-use Rattle.theorem_silence.specs.Sharp.{Sharp, turnTime, sharp}
+use Rattle.theorem_silence.specs.Calls.{ByCalls, sound-of-calls, start-of-calls}
+use Rattle.theorem_silence.specs.Sharp.{turnTime, sharp}
+use Rattle.theorem_silence.specs.Scripts.{token, declines, sends-nine, recordOf, pollHearing, pollSilent, claims, lowest, hears-all, hears-cut, begins-look, others-look, responseOf1, answer-type, begins-question, others-question, asks-one, callsFor}
+use Rattle.theorem_silence.specs.Met.{Met, PremisesMet}
+use Rattle.theorem_silence.specs.Rings.{UpTo, others-up-to, cut-all, cut-added, one-out, one-asked}
+use Rattle.theorem_silence.specs.Made.{lowestWith, coreAt, pass-look, pass-question, awaits-one, pass-answered, calls-none, calls-on, begun-look, ring-all, ring-alone, begun-question, ring-but-one, first-runs, members, says-token, cut-heard, claimed, one-gets-asked, one-answers}
+
+-- with accepted settings `new` gives a station for one application, and calls make others of it
+one-new : (p : Parameters) → newStation p 1 ≡ started.Accepted (freshStation p 1)
+unfolding newStation applicationsRefusal refuseOutside
+one-new p = refl
+
+made-by : (p : Parameters) (cs : List Call) (s : Station) → firstRefusal (plainOf p) ≡ 0 → run (freshStation p 1) cs ≡ s → ByCalls s
+made-by p cs s e m = record { settings = p; applications = 1; accepted = e; fresh = freshStation p 1; is-new = one-new p; calls = cs; makes = m }
+
+lowest-accepted : firstRefusal (plainOf lowest) ≡ 0
+unfolding firstRefusal earlyRefusal plainOf refuseBelow refuseOutside addressRefusal baudRefusal slotBitsRefusal hsaRefusal rotationRefusal gapWaitRefusal retryRefusal minTsdrRefusal factorsRefusal baudOf
+lowest-accepted = refl
+
+-- 3k + 1 turns of such a station end well before the clock does
+room : (k last : ℕ) → k ≤ 125 → last ≤ 9000 → last + slotTimeOf lowest .0 + (3 * k + 1) * turnTime lowest < 2 ^ 48
+unfolding slotTimeOf timeOf rounded
+room k last h l = omega arith
+
+-- a core that starts a token pass, and a ring with the members 0, 1, .. k: the premises are met
+met-by : (k : ℕ) (gap : Bool) (time from last : ℕ) (turn : GapState) (r : Ring) (cs : List Call) → k ≤ 125 → last ≤ 9000 → run (freshStation lowest 1) cs ≡ lowestWith (coreAt time from 64872 last (PassToken gap First) turn) r → gapDue lowest (coreAt time from 64872 last (PassToken gap First) turn) r gap ≡ false → r .own ≡ 0 → UpTo r k → Met k gap
+met-by k gap time from last turn r cs h l makes due own members =
+    let s = lowestWith (coreAt time from 64872 last (PassToken gap First) turn) r in
+    let calls = made-by lowest cs s lowest-accepted makes in
+    let starts = start-of-calls s calls refl gap refl due in
+    let size = others-up-to r k own h members in
+    record { station = s; by-calls = calls; starts = starts; size = size; flag = refl; is-sharp = sharp s (record { 0 = last }) starts refl (rw size (room k last h l)) }
+
+-- With the look at the gap.
+
+-- the ring, once the others are heard
+abbrev ring-of : ℕ → Ring
+ring-of zero = freshOf 0
+ring-of (suc k) = witnessOf ring-all (suc k) 0
+
+-- its members and its own
+only-zero : (x : ℕ) → eqb x 0 ≡ leb x 0
+only-zero x = cases (leb x 0) (λ t. eq-eqb x 0 (omega (arith, leb-true x 0 t)) ∙ sym t) (λ f. ne-eqb x 0 (λ e. omega (arith, leb-false x 0 f)) ∙ sym f)
+
+members-look : (k : ℕ) → k ≤ 125 → UpTo (ring-of k) k
+members-look zero l x m = fresh-has 0 x m ∙ only-zero x
+members-look (suc k) l x m = cut-all ring-all (suc k) (members .own-all) (omega arith) l (members .all) x m
+
+own-of : (k : ℕ) → ring-of k .own ≡ 0
+own-of zero = fresh-made 0 .own-is
+own-of (suc k) = witness-own ring-all (suc k) 0 ∙ members .own-all
+
+-- claiming twice changes no member, and not own
+claimed-has : (r : Ring) (x : ℕ) → has (claimOf (claimOf r)) x ≡ has r x
+claimed-has r x = claim-has (claimOf r) x ∙ claim-has r x
+
+claimed-own : (r : Ring) → claimOf (claimOf r) .own ≡ r .own
+claimed-own r = claim-own (claimOf r) ∙ claim-own r
+
+-- the calls make this station
+made-look : (k : ℕ) → k ≤ 125 → run (freshStation lowest 1) (callsFor k true) ≡ lowestWith pass-look (claimOf (claimOf (ring-of k)))
+made-look k l = calls-on begins-look (others-look k ++ claims 3300) (freshStation lowest 1) ∙ ap (λ (s : Station). run s (others-look k ++ claims 3300)) (first-runs .look) ∙ go k l
+  where
+    go : (k : ℕ) → k ≤ 125 → run begun-look (others-look k ++ claims 3300) ≡ lowestWith pass-look (claimOf (claimOf (ring-of k)))
+    go zero l = claimed (freshOf 0) .look-none
+    go (suc k) l =
+        let cut = hears-cut 900 (suc k) ∷ [] in
+        calls-on (others-look (suc k)) (claims 3300) begun-look
+        ∙ ap (λ (s : Station). run s (claims 3300))
+        (calls-on (hears-all 100 1 7) cut begun-look
+        ∙ ap (λ (s : Station). run s cut) (first-runs .heard-all)
+        ∙ cut-heard _ 900 (suc k) (says-token (suc k) (omega arith) .0) (omega arith) 0 0 0 800 (Waiting 0) ring-all (omega arith) (omega arith))
+        ∙ claimed (witnessOf ring-all (suc k) 0) .look-heard
+
+-- no question is due: the count is 0
+no-question : (r : Ring) → gapDue lowest pass-look r true ≡ false
+unfolding gapDue passing.gapAdvanced
+no-question r = refl
+
+met-look : (k : ℕ) → k ≤ 125 → Met k true
+met-look k l =
+    let r = claimOf (claimOf (ring-of k)) in
+    met-by k true 3500 0 3566 (Waiting 0) r (callsFor k true) l (omega arith) (made-look k l) (no-question r) (claimed-own (ring-of k) ∙ own-of k)
+    (λ x m. claimed-has (ring-of k) x ∙ members-look k l x m)
+
+-- Without it: after a gap question.
+
+-- the ring, once the others but 1 are heard
+abbrev before-one : ℕ → Ring
+before-one zero = ring-alone
+before-one (suc zero) = ring-alone
+before-one (suc (suc k)) = witnessOf ring-but-one (suc (suc k)) 0
+
+-- its own, and that 1 is no member
+own-before : (k : ℕ) → before-one k .own ≡ 0
+own-before zero = members .own-alone
+own-before (suc zero) = members .own-alone
+own-before (suc (suc k)) = witness-own ring-but-one (suc (suc k)) 0 ∙ members .own-but-one
+
+one-absent : (k : ℕ) → k ≤ 125 → has (before-one k) 1 ≡ false
+one-absent zero l = members .alone 1 (omega arith)
+one-absent (suc zero) l = members .alone 1 (omega arith)
+one-absent (suc (suc k)) l = one-out ring-but-one (suc (suc k)) (omega arith) l (members .but-one 1 (omega arith))
+
+-- these rings are sound, as all that calls make
+sound-begun : SoundStation (run (freshStation lowest 1) begins-question)
+sound-begun = sound-of-calls (run (freshStation lowest 1) begins-question) (made-by lowest begins-question (run (freshStation lowest 1) begins-question) lowest-accepted refl)
+
+sound-heard : SoundRing ring-but-one
+sound-heard = call.sound (hears-all 4200 2 6) begun-question (subst SoundStation (first-runs .question) sound-begun) .ring-sound
+
+sound-before : (k : ℕ) → SoundRing (before-one k)
+sound-before zero = sound-begun .ring-sound
+sound-before (suc zero) = sound-begun .ring-sound
+sound-before (suc (suc k)) = sound-witness ring-but-one (suc (suc k)) 0 sound-heard
+
+-- the ring, once 1 has answered
+abbrev after-one : ℕ → Ring
+after-one zero = claimOf (claimOf (before-one zero))
+after-one (suc k) = addOf (claimOf (claimOf (before-one (suc k)))) 1
+
+-- its own and its members
+own-after : (k : ℕ) → after-one k .own ≡ 0
+own-after zero = claimed-own ring-alone ∙ members .own-alone
+own-after (suc k) = add-own (claimOf (claimOf (before-one (suc k)))) 1 ∙ claimed-own (before-one (suc k)) ∙ own-before (suc k)
+
+zero-and-one : (x : ℕ) → (eqb x 1 || eqb x 0) ≡ leb x 1
+zero-and-one zero = refl
+zero-and-one (suc zero) = refl
+zero-and-one (suc (suc x)) = rw (ne-eqb (suc (suc x)) 1 (λ e. omega arith), ne-eqb (suc (suc x)) 0 (λ e. omega arith), lt-leb (suc (suc x)) 1 (omega arith))
+
+members-question : (k : ℕ) → k ≤ 125 → UpTo (after-one k) k
+members-question zero l x m = claimed-has ring-alone x ∙ members .alone x m ∙ only-zero x
+members-question (suc k) l x m = add-has (claimOf (claimOf (before-one (suc k)))) 1 x (omega arith) m ∙ ap (λ (b : Bool). eqb x 1 || b) (claimed-has (before-one (suc k)) x) ∙ go k l
+  where
+    go : (k : ℕ) → suc k ≤ 125 → (eqb x 1 || has (before-one (suc k)) x) ≡ leb x (suc k)
+    go zero l = ap (λ (b : Bool). eqb x 1 || b) (members .alone x m) ∙ zero-and-one x
+    go (suc k) l = cut-added ring-but-one (suc (suc k)) (members .own-but-one) (omega arith) l (members .but-one) x m
+
+-- the calls make this station
+made-question : (k : ℕ) → k ≤ 125 → run (freshStation lowest 1) (callsFor k false) ≡ lowestWith pass-answered (after-one k)
+made-question k l =
+    let r = claimOf (claimOf (before-one k)) in
+    let pass = lowestWith pass-question r in
+    let question = one-asked r (sound-claim (claimOf (before-one k)) (sound-claim (before-one k) (sound-before k))) (claimed-own (before-one k) ∙ own-before k) (claimed-has (before-one k) 1 ∙ one-absent k l) in
+    calls-on begins-question (others-question k ++ (claims 7400 ++ asks-one k)) (freshStation lowest 1)
+    ∙ ap (λ (s : Station). run s (others-question k ++ (claims 7400 ++ asks-one k))) (first-runs .question)
+    ∙ calls-on (others-question k) (claims 7400 ++ asks-one k) begun-question
+    ∙ calls-on (claims 7400) (asks-one k) (run begun-question (others-question k))
+    ∙ ap (λ (s : Station). run s (asks-one k)) (claimed-for k l)
+    ∙ calls-on (pollSilent 8000 ∷ []) (pollHearing 8300 (responseOf1 (answer-type k) ∷ []) ∷ []) pass
+    ∙ ap (λ (s : Station). run s (pollHearing 8300 (responseOf1 (answer-type k) ∷ []) ∷ [])) (one-gets-asked r question)
+    ∙ answered-for k
+  where
+    claimed-for : (k : ℕ) → k ≤ 125 → run (run begun-question (others-question k)) (claims 7400) ≡ lowestWith pass-question (claimOf (claimOf (before-one k)))
+    claimed-for zero l = ap (λ (s : Station). run s (claims 7400)) (calls-none begun-question) ∙ claimed ring-alone .question-none
+    claimed-for (suc zero) l = ap (λ (s : Station). run s (claims 7400)) (calls-none begun-question) ∙ claimed ring-alone .question-none
+    claimed-for (suc (suc k)) l =
+        let cut = hears-cut 5000 (suc (suc k)) ∷ [] in
+        ap (λ (s : Station). run s (claims 7400))
+        (calls-on (hears-all 4200 2 6) cut begun-question
+        ∙ ap (λ (s : Station). run s cut) (first-runs .heard-but-one)
+        ∙ cut-heard _ 5000 (suc (suc k)) (says-token (suc (suc k)) (omega arith) .1) (omega arith) 3400 3000 64872 4900 (Waiting 2) ring-but-one (omega arith) (omega arith))
+        ∙ claimed (witnessOf ring-but-one (suc (suc k)) 0) .question-heard
+
+    answered-for : (k : ℕ) → run (lowestWith awaits-one (claimOf (claimOf (before-one k)))) (pollHearing 8300 (responseOf1 (answer-type k) ∷ []) ∷ []) ≡ lowestWith pass-answered (after-one k)
+    answered-for zero = one-answers (claimOf (claimOf ring-alone)) .not-ready
+    answered-for (suc k) = one-answers (claimOf (claimOf (before-one (suc k)))) .in-ring
+
+-- no question is due where the gap is not looked at
+no-look : (r : Ring) → gapDue lowest pass-answered r false ≡ false
+unfolding gapDue
+no-look r = refl
+
+met-question : (k : ℕ) → k ≤ 125 → Met k false
+met-question k l = met-by k false 7600 3400 8300 (DoPoll 1) (after-one k) (callsFor k false) l (omega arith) (made-question k l) (no-look (after-one k)) (own-after k) (members-question k l)
+
+-- for both flags
+pub premises-met : PremisesMet
+premises-met k l true = met-look k l
+premises-met k l false = met-question k l
+
+-- The letter's case, by the clock.
 
 -- document 01's example settings: address 5, code 6, slot 200; so a slot is 400 µs, a pause or a token 66 µs, a token is lost after
 -- 6,400 µs
 abbrev here : Parameters
 here = defaultOf 5 B500000
 
--- a token telegram from source to destination
-abbrev token : ℕ → ℕ → List ℕ
-token source destination = destination / 2 ∷ ((destination % 2) * 128 + source) ∷ 0 ∷ 0 ∷ []
+-- a station with the neighbour 9, which starts a token pass: online, a token from 9 to us is heard, then the bus is silent, and the
+-- station claims the token, sends it twice to itself, holds it, and its application declines
+abbrev letterCalls : List Call
+letterCalls = call.online ∷ pollSilent 0 ∷ pollHearing 100 (token 9 5 ∷ []) ∷ claims 6600
 
--- a decision that declines, and one that sends 9 bytes and expects no reply
-abbrev declines : List ℕ
-declines = 0 ∷ 0 ∷ 0 ∷ []
-
-abbrev sends-nine : List ℕ
-sends-nine = 128 ∷ 4 ∷ 128 ∷ []
-
--- one list after the other
-abbrev joined : List (List ℕ) → List ℕ
-joined [] = []
-joined (t ∷ more) = t ++ joined more
-
--- the record of one application at this clock (below 65536), with its normal decision and these telegrams
-abbrev recordOf : ℕ → List ℕ → List (List ℕ) → List ℕ
-recordOf clock normal telegrams = 0 ∷ 0 ∷ 0 ∷ 0 ∷ clock / 256 ∷ clock % 256 ∷ length telegrams * 8 ∷ 0 ∷ [] ++ normal ++ declines ++ joined telegrams
-
--- Calls that lead a new station to a token pass. It is put online and hears these telegrams, a list for each poll, 100 µs apart;
--- then the bus falls silent, and the station claims the token, sends it twice to itself, holds it, and its application declines.
-abbrev heard : ℕ → List (List (List ℕ)) → List Call
-heard clock [] = poll (recordOf (clock + 6400) declines []) ∷ poll (recordOf (clock + 6600) declines []) ∷ poll (recordOf (clock + 6800) declines []) ∷ []
-heard clock (telegrams ∷ more) = poll (recordOf clock declines telegrams) ∷ heard (clock + 100) more
-
-abbrev callsOf : List (List (List ℕ)) → List Call
-callsOf telegrams = call.online ∷ poll (recordOf 0 declines []) ∷ heard 100 telegrams
-
--- the station that these calls make
-abbrev made : List (List (List ℕ)) → Station
-made telegrams = run (freshStation here 1) (callsOf telegrams)
-
--- k tokens: from a to a + 1, from a + 2 to a + 3, and so on, 125 followed by 0
-abbrev pairs : ℕ → ℕ → List (List ℕ)
-pairs a zero = []
-pairs a (suc k) = token (a % 126) ((a + 1) % 126) ∷ pairs (a + 2) k
-
--- what is heard: nothing; a token from 9 to us; a token from 9 to 12; tokens of all stations but us, the last of them to us
-abbrev none-heard : List (List (List ℕ))
-none-heard = []
-
-abbrev one-heard : List (List (List ℕ))
-one-heard = (token 9 5 ∷ []) ∷ []
-
-abbrev two-heard : List (List (List ℕ))
-two-heard = (token 9 12 ∷ []) ∷ []
-
-abbrev all-heard : List (List (List ℕ))
-all-heard = pairs 6 8 ∷ pairs 22 8 ∷ pairs 38 8 ∷ pairs 54 8 ∷ pairs 70 8 ∷ pairs 86 8 ∷ pairs 102 8 ∷ pairs 118 7 ∷ []
-
--- a station with k others that starts a token pass, its last bus activity at this time
-record Shape (k last : ℕ) (s : Station) : Type 0 where
-  pub size : length (others (s .«token_ring»)) ≡ k
-  pub on : online s ≡ true
-  pub state : s .core .state ≡ PassToken true First
-  pub due : gapDue (s .p) (s .core) (s .«token_ring») true ≡ false
-  pub last-active : s .core .«last_bus_activity» ≡ activity.At (record { 0 = last })
+abbrev letterStation : Station
+letterStation = run (freshStation here 1) letterCalls
 
 -- a silent record, told by its first 64 bits
 quiet-at : {bytes : List ℕ} (clock : ℕ) → records.recordRefusal bytes 1 ≡ 0 → records.headOf bytes ≡ record { clock = clock; pending = 0; telegrams = 0; transmitting = false } → Quiet 1 bytes
@@ -120,58 +256,24 @@ five = recordOf 7266 declines [] ∷ recordOf 7732 declines [] ∷ recordOf 8198
 -- document 01's example 10 and the letter's case, by the clock: all five polls are counted; tokens go to 9, 9, 9 and 5, and then the
 -- application's telegram goes out
 pub record LetterRun : Type 0 where
-  pub neighbour : others (made one-heard .«token_ring») ≡ 9 ∷ []
+  pub starts : Start letterStation
+  pub neighbour : others (letterStation .«token_ring») ≡ 9 ∷ []
   pub quiet : AllQuiet 1 five
-  pub all-counted : countedIn (made one-heard) five ≡ 5
-  pub sent : sentIn (made one-heard) five ≡ Token 9 ∷ Token 9 ∷ Token 9 ∷ Token 5 ∷ Application 0 0 false 9 ∷ []
+  pub all-counted : countedIn letterStation five ≡ 5
+  pub sent : sentIn letterStation five ≡ Token 9 ∷ Token 9 ∷ Token 9 ∷ Token 5 ∷ Application 0 0 false 9 ∷ []
 
--- worked out from the definitions
-worked : Shape 0 6766 (made none-heard) × Shape 1 6866 (made one-heard) × Shape 2 6866 (made two-heard) × Shape 125 7566 (made all-heard) × LetterRun
-unfolding fieldOf beFrom loadOf rounded timeOf slotTimeOf tokenLostOf rotationTimeOf walk nearest betweenOf keeps sameSet roundOf lapsOf bitOf wordOf hasIn has make others freshOf passed witnessOf claimOf nextOf prevOf freshStation freshCore withState withActivity withGap withPending withTokenTimes withNextApplication withOnline after run words.zeroOr14 decisions.lengthRefusal words.responseStateOf decisions.decisionRefusal words.telegramRefusal words.telegramOf decisions.decisionOf records.headOf records.telegramAt records.decisionAt records.entryRefusal records.wordsRefusal records.recordRefusal steps.toListenToken steps.knownAt steps.elapsedOf steps.markedAt steps.busyOf steps.ongoingOf steps.pauseOf steps.sentAt steps.busActivityOf steps.rxOf steps.slotExpiredOf steps.tokenLostWaitOf steps.doneOf steps.transmitOf steps.heardOf hear.listenHeard hear.listenTelegramOn hear.listenTelegram listening.heardTelegram listening.heardAll listening.receivedAll listening.consumedAll listening.listenTokenOn listening.listenTokenAfter listening.listenTokenOf polling.connectedOn polling.connectedOf polling.dispatchOn polling.dispatchOf polling.pollOnline polling.pollInner answering.polledOf polling.acceptedAfter polling.acceptedPoll polling.pollOf commands.onlineOf steps.toClaimToken claiming.claimNext claiming.claimAfter claiming.claimTokenOf steps.toUseToken steps.withTokenTime steps.toPassToken listening.lostTokenOf holding.declinesOn holding.declinesAt holding.usePassOf holding.appTransmitOf holding.firstOr holding.turnOf holding.askedFrom holding.askedOf holding.holdLess holding.holdEndOf holding.holdsOf holding.useAppsAfter holding.useAppsOf holding.useTokenAfter holding.useTokenTimed holding.useTokenOf passing.gapAdvanced gapDue passing.passSent passing.passSend passing.passPollOn passing.passPoll passing.passAfter passing.passTokenOf checking.resendOf checking.checkReceived checking.checkAfter checking.checkTokenPassOf removeOf takeOut steps.toCheckTokenPass counted countedIn slotAfter sentIn answering.stepAnswer
-worked = (
-  record { size = refl; on = refl; state = refl; due = refl; last-active = refl },
-  record { size = refl; on = refl; state = refl; due = refl; last-active = refl },
-  record { size = refl; on = refl; state = refl; due = refl; last-active = refl },
-  record { size = refl; on = refl; state = refl; due = refl; last-active = refl },
-  record { neighbour = refl; quiet = (quiet-at 7266 refl refl, (quiet-at 7732 refl refl, (quiet-at 8198 refl refl, (quiet-at 8664 refl refl, (quiet-at 9130 refl refl, tt))))); all-counted = refl; sent = refl },
-)
-
--- the settings are accepted, and `new` gives the station that the calls start from
 here-accepted : firstRefusal (plainOf here) ≡ 0
 unfolding firstRefusal earlyRefusal plainOf refuseBelow refuseOutside addressRefusal baudRefusal slotBitsRefusal hsaRefusal rotationRefusal gapWaitRefusal retryRefusal minTsdrRefusal factorsRefusal baudOf
 here-accepted = refl
 
-here-new : newStation here 1 ≡ started.Accepted (freshStation here 1)
-unfolding newStation applicationsRefusal refuseOutside
-here-new = refl
-
--- A station with k others that calls make and that meets the premises of Silence; and runs of it that show that the bound is sharp.
-pub record Met (k : ℕ) : Type 0 where
-  pub station : Station
-  pub by-calls : ByCalls station
-  pub starts : Start station
-  pub size : length (others (station .«token_ring»)) ≡ k
-  pub is-sharp : Sharp station
-
--- 3k + 1 turns of such a station end well before the clock does
-room : (k last : ℕ) → k ≤ 125 → last ≤ 8000 → last + slotTimeOf here .0 + (3 * k + 1) * turnTime here < 2 ^ 48
-unfolding slotTimeOf timeOf rounded
-room k last h l = omega arith
-
-met-by : (k last : ℕ) (telegrams : List (List (List ℕ))) → k ≤ 125 → last ≤ 8000 → Shape k last (made telegrams) → Met k
-met-by k last telegrams h l g =
-    let s = made telegrams in
-    let calls : ByCalls s = record { settings = here; applications = 1; accepted = here-accepted; fresh = freshStation here 1; is-new = here-new; calls = callsOf telegrams; makes = refl } in
-    let starts = start-of-calls s calls (g .on) true (g .state) (g .due) in
-    record { station = s; by-calls = calls; starts = starts; size = g .size; is-sharp = sharp s (record { 0 = last }) starts (g .last-active) (rw (settings-given s calls, g .size) (room k last h l)) }
-
-pub met : Met 0 × Met 1 × Met 2 × Met 125
-met = (
-  met-by 0 6766 none-heard (omega arith) (omega arith) (worked .0),
-  met-by 1 6866 one-heard (omega arith) (omega arith) (worked .1),
-  met-by 2 6866 two-heard (omega arith) (omega arith) (worked .2),
-  met-by 125 7566 all-heard (omega arith) (omega arith) (worked .3),
-)
-
+-- worked out from the definitions
 pub letter-run : LetterRun
-letter-run = worked .4
+unfolding fieldOf beFrom loadOf rounded timeOf slotTimeOf tokenLostOf rotationTimeOf walk nearest betweenOf keeps sameSet roundOf lapsOf bitOf wordOf hasIn has make others freshOf passed witnessOf claimOf nextOf prevOf freshStation freshCore withState withActivity withGap withPending withTokenTimes withNextApplication withOnline after run zerosOr14 decisions.lengthRefusal words.responseStateOf decisions.decisionRefusal words.telegramRefusal words.telegramOf decisions.decisionOf records.headOf records.telegramAt records.decisionAt records.entryRefusal records.wordsRefusal records.recordRefusal steps.toListenToken steps.knownAt steps.elapsedOf steps.markedAt steps.busyOf steps.ongoingOf steps.pauseOf steps.sentAt steps.busActivityOf steps.rxOf steps.slotExpiredOf steps.tokenLostWaitOf steps.doneOf steps.transmitOf steps.heardOf hear.listenHeard hear.listenTelegramOn hear.listenTelegram listening.heardTelegram listening.heardAll listening.receivedAll listening.consumedAll listening.listenTokenOn listening.listenTokenAfter listening.listenTokenOf polling.connectedOn polling.connectedOf polling.dispatchOn polling.dispatchOf polling.pollOnline polling.pollInner answering.polledOf polling.acceptedAfter polling.acceptedPoll polling.pollOf commands.onlineOf steps.toClaimToken claiming.claimNext claiming.claimAfter claiming.claimTokenOf steps.toUseToken steps.withTokenTime steps.toPassToken listening.lostTokenOf holding.declinesOn holding.declinesAt holding.usePassOf holding.appTransmitOf holding.firstOr holding.turnOf holding.askedFrom holding.askedOf holding.holdLess holding.holdEndOf holding.holdsOf holding.useAppsAfter holding.useAppsOf holding.useTokenAfter holding.useTokenTimed holding.useTokenOf passing.gapAdvanced passing.passSent passing.passSend passing.passPollOn passing.passPoll passing.passAfter passing.passTokenOf checking.resendOf checking.checkReceived checking.checkAfter checking.checkTokenPassOf removeOf takeOut steps.toCheckTokenPass counted countedIn slotAfter sentIn answering.stepAnswer gapDue
+letter-run =
+    record {
+      starts = start-of-calls letterStation (made-by here letterCalls letterStation here-accepted refl) refl true refl refl;
+      neighbour = refl;
+      quiet = (quiet-at 7266 refl refl, (quiet-at 7732 refl refl, (quiet-at 8198 refl refl, (quiet-at 8664 refl refl, (quiet-at 9130 refl refl, tt)))));
+      all-counted = refl;
+      sent = refl;
+    }

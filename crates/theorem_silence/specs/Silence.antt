@@ -1,6 +1,7 @@
 -- Silence (demand 3), as a statement. Its proof is in Theorem.antt, over Times, Phases and OnePoll. Beside it: Calls (every station
--- that calls make meets the first two premises), Shown (stations with 0, 1, 2 and 125 others meet all), Sharp (the bound cannot be
--- smaller), Question (why no gap question may be due), Letter (the letter's own case). The mission's words:
+-- that calls make meets the first two premises), Met (for every number of others and both gap flags calls make a station that meets
+-- all), Sharp (the bound cannot be smaller), Question (why no gap question may be due), Letter (the letter's own case). The
+-- mission's words:
 --
 --   "Let a station that is not offline start a token pass on its first attempt, no gap question due, with k others in its ring.
 --   Let no command follow, and let all later polls be accepted and report no telegram, no pending byte and no transmission. Then,

@@ -7,11 +7,11 @@ use lib.Seq.{drop-append-add}
 use native.Mathlib.Omega.{arith}
 use native.Mathlib.Nat.{zero-add, suc-add}
 use borrow.Author.Tests.{eq-eqb, ne-eqb, le-ltb, lt-ltb}
-use Rattle.codec_fields.specs.Fields.{fieldOf, be, beFrom, loadOf, bytesOf}
+use Rattle.codec_fields.specs.Fields.{fieldOf, zerosOr14, be, beFrom, loadOf, bytesOf}
 use Rattle.codec_fields.specs.Laws.{be-bytes}
-use Rattle.codec_telegrams.specs.Words.{zeroOr14}
 use Rattle.codec_decisions.specs.Decisions.{decisionRefusal}
-use Rattle.codec_records.specs.Records.{headOf, countOf, decisionWordAt, entryRefusal, wordsRefusal, recordRefusal}
+use Rattle.codec_records.specs.Records.{headOf, countOf, decisionWordAt, entryRefusal, recordRefusal}
+use Rattle.codec_records.specs.Laws.{none-first}
 use Rattle.theorem_silence.specs.Silence.{Quiet}
 
 -- the record of n applications at this clock: the clock and 16 zero bits, then the decisions, all zero
@@ -53,13 +53,8 @@ zero-decision n clock i l =
 
 -- and none is refused
 zero-accepted : (n clock i : ℕ) → i < 2 * n → entryRefusal (silentAt n clock) n i ≡ 0
-unfolding entryRefusal decisionRefusal zeroOr14 fieldOf
+unfolding entryRefusal decisionRefusal zerosOr14 fieldOf
 zero-accepted n clock i l = rw (lt-ltb i (2 * n) l, zero-decision n clock i l)
-
-none-first : (g : ℕ → ℕ) (k : ℕ) → ((i : ℕ) → i < k → g i ≡ 0) → wordsRefusal g k ≡ 0
-unfolding wordsRefusal
-none-first g zero h = refl
-none-first g (suc k) h = rw (eq-eqb _ 0 (none-first g k (λ i l. h i (omega arith))), h k (omega arith))
 
 no-count : (n clock : ℕ) → clock < 2 ^ 48 → countOf (silentAt n clock) ≡ 0
 unfolding fieldOf

@@ -3,15 +3,13 @@ use Prim.Native.Nat.{ℕ, _+_, _*_, _<_, _≤_}
 use mathlib.Core.Bool.{true, false}
 use mathlib.Core.Path.{_≡_, refl, sym}
 use native.Mathlib.Omega.{arith}
-use native.Mathlib.Nat.{le-div-iff-mul-le, mul-le-mul-right}
-use lib.Ieee.Nearest.{div-mono}
-use borrow.Author.Tests.{le-leb, lt-leb, leb-true, eqb-true}
-use borrow.Table.Steps.{cases}
-use lib.Dec.{leb, eqb}
+use native.Mathlib.Nat.{le-div-iff-mul-le}
+use borrow.Author.Tests.{le-leb, lt-leb, leb-true}
+use lib.Dec.{leb}
 use Rattle.bit_times.specs.declared.Baud.{Baud}
 use Rattle.bit_times.specs.declared.Micros.{Micros}
 use Rattle.bit_times.specs.Times.{leastSlotBits, rateOf, rounded, timeOf}
-use Rattle.bit_times.specs.Laws.{listed}
+use Rattle.bit_times.specs.Laws.{listed, time-grows}
 use Rattle.settings.specs.declared.Parameters.{Parameters}
 use Rattle.ring_addresses.specs.SetLaws.{true≢false}
 use Rattle.station.specs.declared.Activity.{Activity}
@@ -19,28 +17,19 @@ use Rattle.station.specs.declared.Activity.the-variants as activity
 use Rattle.station.specs.Steps.{knownAt, elapsedOf, busyOf, pauseOf, slotExpiredOf}
 use Rattle.theorem_silence.specs.Silence.{slotAfter}
 use Rattle.settings.specs.Rules.{slotBitsRefusal}
-use Rattle.settings.specs.RuleLaws.{below-in, none-first}
+use Rattle.settings.specs.RuleLaws.{below-in}
 use Rattle.settings.specs.Settings.{slotTimeOf}
-use Rattle.settings_build.specs.Build.{earlyRefusal, firstRefusal, plainOf}
+use Rattle.settings_build.specs.Build.{firstRefusal, plainOf}
+use Rattle.settings_build.specs.Passes.{passes}
 
 -- accepted settings have at least the rate's least slot bits
 pub slot-bits-least : (p : Parameters) → firstRefusal (plainOf p) ≡ 0 → leastSlotBits (p .baudrate) ≤ p .«slot_bits»
-unfolding firstRefusal earlyRefusal plainOf slotBitsRefusal
-slot-bits-least p e =
-    let early = none-first _ _ e .0 in
-    let slot = none-first _ _ (none-first _ _ (none-first _ _ early .1) .1) .0 in
-    below-in _ _ 2 (omega arith) (rw (listed (p .baudrate) .back) at slot)
+unfolding plainOf slotBitsRefusal
+slot-bits-least p e = below-in _ _ 2 (omega arith) (rw (listed (p .baudrate) .back) at (passes (plainOf p) e .slot-bits))
 
 -- the time of the pause
 abbrev pub pauseTime : Parameters → ℕ
 pauseTime p = timeOf (record { 0 = 33 }) (p .baudrate) .0
-
--- more bits take no less time
-time-grows : (a b : ℕ) (baud : Baud) → a ≤ b → timeOf (record { 0 = a }) baud .0 ≤ timeOf (record { 0 = b }) baud .0
-unfolding timeOf rounded
-time-grows a b baud l =
-    let some : 0 < rateOf baud = omega (arith, listed baud .slowest) in
-    div-mono (a * 1000000) (rateOf baud) (b * 1000000) (rateOf baud) some some (mul-le-mul-right (rateOf baud) (omega arith))
 
 -- a hundred bits take some time
 time-some : (a : ℕ) (baud : Baud) → 100 ≤ a → 1 ≤ timeOf (record { 0 = a }) baud .0

@@ -1,15 +1,15 @@
 -- An answer fits its 64 bits: every answer of a sound station lies within document 01's ranges (Fits), so `pack` cuts nothing off, and
 -- what `unpack` reads from the answer's word is the answer.
 use Prim.Native.Nat.{ℕ, zero, suc, _^_, _*_, _<_, _≤_}
-use mathlib.Core.Bool.{Bool, true, false}
-use mathlib.Core.List.{List}
+use mathlib.Core.Bool.{Bool, true, false, cond}
+use mathlib.Core.List.{List, [], _∷_}
 use mathlib.Core.Path.{_≡_, refl}
 use native.Mathlib.Omega.{arith}
 use borrow.Author.Tests.{eqb-true}
 use borrow.Table.Steps.{cases}
 use lib.ListN.{length}
 use lib.Dec.{ltb, leb, eqb, lit<, lit≤}
-use Rattle.codec_fields.specs.Fields.{fieldOf, bitAt}
+use Rattle.codec_fields.specs.Fields.{fieldOf, bitAt, zerosOr14}
 use Rattle.bit_times.specs.declared.Micros.{Micros}
 use Rattle.settings.specs.declared.Parameters.{Parameters}
 use Rattle.ring.specs.declared.Ring.{Ring}
@@ -22,17 +22,17 @@ use Rattle.codec_decisions.specs.declared.Decision.the-variants as decision
 use Rattle.codec_telegrams.specs.declared.Telegram.{Telegram}
 use Rattle.codec_telegrams.specs.declared.Telegram.the-variants as telegram
 use Rattle.codec_decisions.specs.Decisions.{DecisionFits, lengthRefusal, decisionRefusal}
-use Rattle.codec_telegrams.specs.Words.{zeroOr14, telegramRefusal}
+use Rattle.codec_telegrams.specs.Words.{telegramRefusal}
 use Rattle.codec_records.specs.Records.{headOf, countOf, decisionAt, entryRefusal, wordsRefusal, recordRefusal}
 use Rattle.codec_records.specs.Laws.{good, good-decision}
 use Rattle.codec_answers.specs.declared.Outcome.{Outcome}
+use Rattle.codec_answers.specs.declared.Outcome.the-variants as outcome
 use Rattle.codec_answers.specs.declared.Sent.{Sent}
 use Rattle.codec_answers.specs.declared.Notice.{Notice}
 use Rattle.codec_answers.specs.declared.Answer.{Answer}
 use Rattle.codec_answers.specs.declared.Unpacked.the-variants.{Is}
 use Rattle.codec_answers.specs.Answers.{lastState, answerWord, refusalKnown, unpackOf, SentFits, NoticeFits, Fits}
 use Rattle.codec_answers.specs.Laws.{refused-fits, answer-unpacks}
-use Rattle.station.specs.declared.Activity.the-variants as activity
 use Rattle.station.specs.declared.OptionAddress.{OptionAddress}
 use Rattle.station.specs.declared.OptionAddress.the-variants as optionAddress
 use Rattle.station.specs.declared.PassTokenAttempt.{PassTokenAttempt}
@@ -45,8 +45,8 @@ use Rattle.station.specs.declared.Station.{Station}
 use Rattle.station.specs.declared.Waited.{Waited}
 use Rattle.station.specs.declared.Step.{Step}
 use Rattle.station.specs.declared.RingStep.{RingStep}
-use Rattle.station.specs.Parts.{withState, withActivity, withGap, withNextApplication, stateNumber}
-use Rattle.station.specs.Steps.{ongoingOf, pauseOf, slotExpiredOf, tokenLostWaitOf, doneOf, transmitOf}
+use Rattle.station.specs.Parts.{withState, withActivity, withGap, withNextApplication, withOnline, freshCore, stateNumber}
+use Rattle.station.specs.Steps.{ongoingOf, busActivityOf, pauseOf, slotExpiredOf, tokenLostWaitOf, doneOf, transmitOf}
 use Rattle.station_claim.specs.Claim.{claimAfter, claimTokenOf}
 use Rattle.station_hold.specs.declared.Asked.{Asked}
 use Rattle.station_hold.specs.Hold.{validResponse, holdsOf, askedOf, appTransmitOf, usePassOf, useAppsAfter, useAppsOf, useTokenAfter, useTokenTimed, useTokenOf, receivedOf, withNotice, timeoutOf, awaitDataAfter, awaitDataOf}
@@ -55,13 +55,16 @@ use Rattle.station_listen.specs.Listen.{lostTokenOf, listenResponseAfter, liste
 use Rattle.station_pass.specs.Pass.{passSent, passSend, passPollOn, passPoll, passAfter, passTokenOf}
 use Rattle.station_await_status.specs.AwaitStatus.{statusAnswered, statusUnexpected, statusReceived, statusTimeout, awaitStatusAfter, awaitStatusOf}
 use Rattle.station_check_pass.specs.CheckPass.{resendOf, checkReceived, checkAfter, checkTokenPassOf}
-use Rattle.station_poll.specs.Poll.{dispatchOn, dispatchOf, pollOnline, pollInner, acceptedAfter, acceptedPoll, pollOf}
+use Rattle.station_poll.specs.Poll.{connectedOf, dispatchOn, dispatchOf, pollOnline, pollInner, acceptedAfter, acceptedPoll, pollOf}
 use Rattle.station_answer.specs.Answer.{stepAnswer, polledOf, refusedPoll}
 use Rattle.station_command.specs.Command.{onlineOf, offlineOf, passiveOf}
-use Rattle.theorem_sound.specs.Keeps.{Low, Addressed, GapAddressed, RingGood, CoreGood, RingStepGood, either, again-good, remove-good, waited-good, state-good, online-good, again-core-good, done-good, bus-good}
-use Rattle.theorem_sound.specs.Hold.{AskedGood, asked-good, hold-good}
+use Rattle.theorem_sound.specs.Moves.{Low, Clock, GapAddressed}
+use Rattle.theorem_sound.specs.Lines.{Addressed, SoundCore}
+use Rattle.theorem_sound.specs.Kept.{hold-next, moves-keep}
+use Rattle.theorem_sound.specs.Keeps.{RingGood, either, again-good, remove-good}
+use Rattle.theorem_sound.specs.Hold.{AskedGood, asked-good}
 use Rattle.theorem_sound.specs.Pass.{advanced-good}
-use Rattle.theorem_sound.specs.Sound.{SoundStation, Call, poll, online, offline, passive, connected-good, poll-inner-good, part-core, part-ring}
+use Rattle.theorem_sound.specs.Sound.{SoundStation, Call, poll, online, offline, passive, clock-fits, dispatched, inner-made, part-ring}
 
 -- what a step sends, consumes and tells fits
 record StepFits (s : Step) : Type 0 where
@@ -92,8 +95,8 @@ record Given (p : Parameters) (n : ℕ) (bytes : List ℕ) (count : ℕ) : Type 
 
 module _ (p : Parameters) (n : ℕ) (bytes : List ℕ) (count : ℕ) (now : Micros) (k : Given p n bytes count) where
   -- the next application has three bits
-  next-fits : (c : Core) → CoreGood n c → c .«next_application» < 2 ^ 3
-  next-fits c b = omega (arith, b .next-below, k .eight)
+  next-fits : (c : Core) → c .«next_application» < n → c .«next_application» < 2 ^ 3
+  next-fits c b = omega (arith, b, k .eight)
 
   -- do_claim_token
   claim-fits : (c : Core) (r : Ring) (first : Bool) → Fit (claimTokenOf p c r now first)
@@ -119,25 +122,24 @@ module _ (p : Parameters) (n : ℕ) (bytes : List ℕ) (count : ℕ) (now : Micr
   apps-after-fits c held high a g =
       either StepFits (a .sends) _ _ (app-fits _ _ _ high (k .decisions _ high (g .asked)) (g .asked)) (use-pass-fits _)
 
-  apps-fits : (c : Core) (held : UseTokenData) (high : Bool) → CoreGood n c → StepFits (useAppsOf p c now held bytes n high)
+  apps-fits : (c : Core) (held : UseTokenData) (high : Bool) → c .«next_application» < n → StepFits (useAppsOf p c now held bytes n high)
   unfolding useAppsOf askedOf
-  apps-fits c held high b = apps-after-fits c held high _ (asked-good n bytes n _ _ high (b .next-below))
+  apps-fits c held high b = apps-after-fits c held high _ (asked-good n bytes n _ _ high (b))
 
-  use-after-fits : (c : Core) (held : UseTokenData) (cycled : Bool) (w : Waited) → CoreGood n c → StepFits (useTokenAfter p c now held cycled bytes n w)
-  unfolding useTokenAfter
+  use-after-fits : (c : Core) (held : UseTokenData) (cycled : Bool) (w : Waited) → c .«next_application» < n → StepFits (useTokenAfter p c now held cycled bytes n w)
+  unfolding useTokenAfter withActivity
   use-after-fits c held cycled w b =
-      let q = waited-good n c _ b in
       either StepFits (w .over) _ _
-      (either StepFits (holdsOf now (withActivity c (activity.At (w .last)) .«end_token_hold_time»)) _ _ (apps-fits _ held false q)
-      (either StepFits cycled _ _ (use-pass-fits _) (apps-fits _ held true q)))
+      (either StepFits (holdsOf now (c .«end_token_hold_time»)) _ _ (apps-fits _ held false b)
+      (either StepFits cycled _ _ (use-pass-fits _) (apps-fits _ held true b)))
       (done-fits _ _)
 
-  use-token-fits : (c : Core) (held : UseTokenData) (cycled : Bool) → CoreGood n c → StepFits (useTokenOf p c now held cycled bytes n)
+  use-token-fits : (c : Core) (held : UseTokenData) (cycled : Bool) → c .«next_application» < n → StepFits (useTokenOf p c now held cycled bytes n)
   unfolding useTokenOf useTokenTimed
-  use-token-fits c held cycled b = use-after-fits _ held cycled _ (hold-good p n c _ b)
+  use-token-fits c held cycled b = use-after-fits _ held cycled _ (rw hold-next b)
 
   -- do_await_data_response
-  received-fits : (c : Core) (a : ℕ) (held : UseTokenData) (t : Telegram) → a < 128 → CoreGood n c → StepFits (receivedOf p c now a held t)
+  received-fits : (c : Core) (a : ℕ) (held : UseTokenData) (t : Telegram) → a < 128 → c .«next_application» < n → StepFits (receivedOf p c now a held t)
   unfolding receivedOf
   received-fits c a held t l b =
       either StepFits (validResponse t a (p .address)) _ _ (record { sent-fits = tt; consumed-fits = lit≤ tt; notice-fits = (next-fits c b, l) })
@@ -147,15 +149,15 @@ module _ (p : Parameters) (n : ℕ) (bytes : List ℕ) (count : ℕ) (now : Micr
   unfolding withNotice
   noticed-fits s x f g = record { sent-fits = g .sent-fits; consumed-fits = g .consumed-fits; notice-fits = f }
 
-  timeout-fits : (c : Core) (a : ℕ) (held : UseTokenData) → a < 128 → CoreGood n c → StepFits (timeoutOf p c now a held bytes n)
-  unfolding timeoutOf
-  timeout-fits c a held l b = noticed-fits _ _ (next-fits c b, l) (use-token-fits _ held true (state-good n c _ tt b))
+  timeout-fits : (c : Core) (a : ℕ) (held : UseTokenData) → a < 128 → c .«next_application» < n → StepFits (timeoutOf p c now a held bytes n)
+  unfolding timeoutOf withState
+  timeout-fits c a held l b = noticed-fits _ _ (next-fits c b, l) (use-token-fits _ held true b)
 
-  await-after-fits : (c : Core) (a : ℕ) (held : UseTokenData) (w : Waited) → a < 128 → CoreGood n c → StepFits (awaitDataAfter p c now a held bytes n w)
-  unfolding awaitDataAfter
-  await-after-fits c a held w l b = either StepFits (w .over) _ _ (timeout-fits _ a held l (waited-good n c _ b)) (done-fits _ _)
+  await-after-fits : (c : Core) (a : ℕ) (held : UseTokenData) (w : Waited) → a < 128 → c .«next_application» < n → StepFits (awaitDataAfter p c now a held bytes n w)
+  unfolding awaitDataAfter withActivity
+  await-after-fits c a held w l b = either StepFits (w .over) _ _ (timeout-fits _ a held l b) (done-fits _ _)
 
-  await-data-fits : (c : Core) (a : ℕ) (held : UseTokenData) → a < 128 → CoreGood n c → StepFits (awaitDataOf p c now a held bytes n count)
+  await-data-fits : (c : Core) (a : ℕ) (held : UseTokenData) → a < 128 → c .«next_application» < n → StepFits (awaitDataOf p c now a held bytes n count)
   unfolding awaitDataOf
   await-data-fits c a held l b = either StepFits (ltb 0 count) _ _ (received-fits c a held _ l b) (await-after-fits c a held _ l b)
 
@@ -260,7 +262,7 @@ module _ (p : Parameters) (n : ℕ) (bytes : List ℕ) (count : ℕ) (now : Micr
       (either Fit (ltb 0 count) _ _ (all-fits _) (record { step-fits = done-fits _ _ }))
 
   -- poll_inner
-  dispatch-fits : (x : State) (c : Core) (r : Ring) → Addressed x → CoreGood n c → RingGood p r → Fit (dispatchOn x p c r now bytes n count)
+  dispatch-fits : (x : State) (c : Core) (r : Ring) → Addressed x → c .«next_application» < n → RingGood p r → Fit (dispatchOn x p c r now bytes n count)
   unfolding dispatchOn
   dispatch-fits Offline c r l b g = record { step-fits = done-fits _ _ }
   dispatch-fits (ListenToken q m) c r l b g = listen-fits c r q m l
@@ -272,16 +274,18 @@ module _ (p : Parameters) (n : ℕ) (bytes : List ℕ) (count : ℕ) (now : Micr
   dispatch-fits (CheckTokenPass a) c r l b g = check-fits c r a g
   dispatch-fits (AwaitStatusResponse a) c r l b g = await-status-fits c r a g
 
-  poll-online-fits : (c : Core) (r : Ring) (t : Bool) (pending : ℕ) → CoreGood n c → RingGood p r → Fit (pollOnline p c r now t pending bytes n count)
+  poll-online-fits : (c : Core) (r : Ring) (t : Bool) (pending : ℕ) → SoundCore p n (busActivityOf c now pending) → RingGood p r → Fit (pollOnline p c r now t pending bytes n count)
   unfolding pollOnline dispatchOf
-  poll-online-fits c r t pending b g =
-      let q = bus-good n c now pending b in
-      either Fit (ongoingOf (c .«last_bus_activity») now t) _ _ (record { step-fits = done-fits _ _ }) (dispatch-fits _ _ r (q .addressed) q g)
+  poll-online-fits c r t pending w g =
+      either Fit (ongoingOf (c .«last_bus_activity») now t) _ _ (record { step-fits = done-fits _ _ }) (dispatch-fits _ _ r (w .addresses) (w .next-one) g)
 
-  poll-inner-fits : (c : Core) (r : Ring) (t : Bool) (pending : ℕ) → CoreGood n c → RingGood p r → Fit (pollInner p c r now t pending bytes n count)
+  poll-inner-fits : (c : Core) (r : Ring) (t : Bool) (pending : ℕ) → Clock now → SoundCore p n c → RingGood p r → Fit (pollInner p c r now t pending bytes n count)
   unfolding pollInner
-  poll-inner-fits c r t pending b g =
-      either Fit (c .online) _ _ (poll-online-fits _ r t pending (connected-good n c b) g) (record { step-fits = done-fits _ _ })
+  poll-inner-fits c r t pending l w g = go (c .online) refl
+    where
+      go : (b : Bool) → c .online ≡ b → Fit (cond b (pollOnline p (connectedOf c) r now t pending bytes n count) (record { step = doneOf c outcome.Offline; ring = r }))
+      go true o = poll-online-fits _ r t pending (dispatched p n now c pending l o w) g
+      go false o = record { step-fits = done-fits _ _ }
 
 -- a state's number is one of document 01's
 state-known : (x : State) → stateNumber x ≤ lastState
@@ -296,9 +300,9 @@ state-known (CheckTokenPass a) = lit≤ tt
 state-known (AwaitStatusResponse a) = lit≤ tt
 
 -- the answer of an entry that is not refused
-polled-fits : (p : Parameters) (n : ℕ) (x : RingStep) → n ≤ 8 → RingStepGood p n x → Fit x → Fits (polledOf p n x .answer)
+polled-fits : (p : Parameters) (n : ℕ) (x : RingStep) → n ≤ 8 → x .step .core .«next_application» < n → RingGood p (x .ring) → Fit x → Fits (polledOf p n x .answer)
 unfolding polledOf stepAnswer refusalKnown
-polled-fits p n x e g f =
+polled-fits p n x e l g f =
     record {
       refusal = refl;
       plain = λ z. absurd (z refl);
@@ -306,15 +310,15 @@ polled-fits p n x e g f =
       sent = f .step-fits .sent-fits;
       consumed = f .step-fits .consumed-fits;
       notice = f .step-fits .notice-fits;
-      application = omega (arith, g .good-step .step-core .next-below);
-      station = omega (arith, next-low (x .ring) (g .good-ring .sound));
+      application = omega arith;
+      station = omega (arith, next-low (x .ring) (g .sound));
     }
 
 -- the answer of a refused entry
 refused-poll-fits : (s : Station) (k : ℕ) → SoundStation s → refusalKnown k ≡ true → Fits (refusedPoll s k .answer)
 unfolding refusedPoll
 refused-poll-fits s k w e =
-    refused-fits k _ _ _ e (state-known (s .core .state)) (omega (arith, w .next-one, w .eight)) (omega (arith, next-low (s .«token_ring») (w .ring-sound)))
+    refused-fits k _ _ _ e (state-known (s .core .state)) (omega (arith, w .core-sound .next-one, w .eight)) (omega (arith, next-low (s .«token_ring») (w .ring-sound)))
 
 -- a record's refusal is none or one of a record's: 12 to 15
 abbrev Known : ℕ → Type 0
@@ -340,9 +344,10 @@ known-15 : Known 15
 unfolding refusalKnown
 known-15 = refl
 
-zero-known : (bits : ℕ) → Known (zeroOr14 bits)
-unfolding zeroOr14
-zero-known bits = either Known (eqb bits 0) _ _ none-known known-14
+zeros-known : (vs : List ℕ) → Known (zerosOr14 vs)
+unfolding zerosOr14
+zeros-known [] = none-known
+zeros-known (v ∷ vs) = either Known (eqb v 0) _ _ (zeros-known vs) known-14
 
 length-known : (l : ℕ) → Known (lengthRefusal l)
 unfolding lengthRefusal
@@ -352,10 +357,10 @@ telegram-known : (w : ℕ) → Known (telegramRefusal w)
 unfolding telegramRefusal
 telegram-known w =
     either Known (leb (2 ^ 32) w) _ _ known-14
-    (either Known (eqb (fieldOf w 30 2) 0) _ _ (zero-known _)
-    (either Known (eqb (fieldOf w 30 2) 1) _ _ (zero-known _)
-    (either Known (eqb (fieldOf w 30 2) 2) _ _ (zero-known _)
-    (either Known (bitAt w 15) _ _ known-14 (zero-known _)))))
+    (either Known (eqb (fieldOf w 30 2) 0) _ _ (zeros-known (fieldOf w 15 1 ∷ fieldOf w 13 2 ∷ fieldOf w 9 4 ∷ fieldOf w 0 9 ∷ []))
+    (either Known (eqb (fieldOf w 30 2) 1) _ _ (zeros-known (fieldOf w 23 7 ∷ fieldOf w 16 7 ∷ fieldOf w 15 1 ∷ fieldOf w 13 2 ∷ fieldOf w 9 4 ∷ fieldOf w 0 9 ∷ []))
+    (either Known (eqb (fieldOf w 30 2) 2) _ _ (zeros-known (fieldOf w 13 2 ∷ fieldOf w 9 4 ∷ fieldOf w 0 9 ∷ []))
+    (zeros-known (fieldOf w 15 1 ∷ fieldOf w 0 9 ∷ [])))))
 
 decision-known : (w : ℕ) → Known (decisionRefusal w)
 unfolding decisionRefusal
@@ -365,7 +370,7 @@ decision-known w =
     (either Known (eqb (fieldOf w 0 7) 0) _ _
     (either Known (bitAt w 22) _ _ (length-known _) (either Known (eqb (fieldOf w 15 7) 0) _ _ (length-known _) known-14))
     known-14)
-    (zero-known _))
+    (zeros-known (fieldOf w 22 1 ∷ fieldOf w 15 7 ∷ fieldOf w 7 8 ∷ fieldOf w 0 7 ∷ [])))
 
 entry-known : (bytes : List ℕ) (n i : ℕ) → Known (entryRefusal bytes n i)
 unfolding entryRefusal
@@ -397,10 +402,11 @@ given s bytes w z =
 accepted-fits : (s : Station) (bytes : List ℕ) → SoundStation s → recordRefusal bytes (s .applications) ≡ 0 → Fits (acceptedPoll s bytes .answer)
 unfolding acceptedPoll acceptedAfter
 accepted-fits s bytes w z =
-    let b = part-core s w in
     let g = part-ring s w in
-    polled-fits (s .p) (s .applications) _ (w .eight) (poll-inner-good (s .p) (s .applications) (s .core) (s .«token_ring») _ _ _ bytes _ b g)
-    (poll-inner-fits (s .p) (s .applications) bytes _ _ (given s bytes w z) (s .core) (s .«token_ring») _ _ b g)
+    let l = clock-fits bytes in
+    let m = inner-made s bytes _ _ _ w in
+    polled-fits (s .p) (s .applications) _ (w .eight) (moves-keep l _ _ (m .made-step .moves) (w .core-sound) .next-one) (m .made-ring)
+    (poll-inner-fits (s .p) (s .applications) bytes _ _ (given s bytes w z) (s .core) (s .«token_ring») _ _ l (w .core-sound) g)
 
 -- The theorem, call by call: the answers of a sound station fit.
 pub poll-fits : (s : Station) (bytes : List ℕ) → SoundStation s → Fits (pollOf s bytes .answer)
@@ -411,18 +417,14 @@ poll-fits s bytes w =
     (λ e. rw e (refused-poll-fits s (recordRefusal bytes (s .applications)) w (record-known bytes (s .applications))))
 
 pub online-fits : (s : Station) → SoundStation s → Fits (onlineOf s .answer)
-unfolding onlineOf
+unfolding onlineOf withOnline doneOf
 online-fits s w =
-    polled-fits (s .p) (s .applications) _ (w .eight)
-    (record { good-step = done-good _ _ _ (online-good _ (s .core) true (part-core s w)); good-ring = part-ring s w })
-    (record { step-fits = done-fits _ _ })
+    polled-fits (s .p) (s .applications) _ (w .eight) (w .core-sound .next-one) (part-ring s w) (record { step-fits = done-fits _ _ })
 
 pub offline-fits : (s : Station) → SoundStation s → Fits (offlineOf s .answer)
-unfolding offlineOf
+unfolding offlineOf freshCore doneOf
 offline-fits s w =
-    polled-fits (s .p) (s .applications) _ (w .eight)
-    (record { good-step = done-good _ _ _ (again-core-good _ (s .core) (part-core s w)); good-ring = again-good (s .p) (s .«token_ring») (part-ring s w) })
-    (record { step-fits = done-fits _ _ })
+    polled-fits (s .p) (s .applications) _ (w .eight) (omega (arith, w .some)) (again-good (s .p) (s .«token_ring») (part-ring s w)) (record { step-fits = done-fits _ _ })
 
 pub passive-fits : (s : Station) → SoundStation s → Fits (passiveOf s .answer)
 unfolding passiveOf refusalKnown

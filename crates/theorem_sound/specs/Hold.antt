@@ -1,6 +1,7 @@
--- What the steps of station_hold keep: the next application stays one of the applications, and the awaited address is low.
+-- What the steps of station_hold come to.
 use Prim.Native.Nat.{ℕ, zero, suc, _+_, _<_}
 use mathlib.Core.Bool.{Bool, true, false}
+use mathlib.Core.Path.{_≡_, refl}
 use mathlib.Core.List.{List}
 use native.Mathlib.Omega.{arith}
 use borrow.Author.Tests.{ltb-true}
@@ -12,22 +13,33 @@ use Rattle.codec_decisions.specs.declared.Decision.{Decision}
 use Rattle.codec_decisions.specs.declared.Decision.the-variants as decision
 use Rattle.codec_telegrams.specs.declared.Telegram.{Telegram}
 use Rattle.codec_answers.specs.declared.Notice.{Notice}
-use Rattle.station.specs.declared.Activity.the-variants as activity
+use Rattle.station.specs.declared.OptionAddress.the-variants as optionAddress
+use Rattle.station.specs.declared.PassTokenAttempt.the-variants.{First}
 use Rattle.station.specs.declared.OptionApplication.{OptionApplication}
+use Rattle.station.specs.declared.OptionApplication.the-variants as optionApplication
 use Rattle.station.specs.declared.UseTokenData.{UseTokenData}
+use Rattle.station.specs.declared.State.{State}
+use Rattle.station.specs.declared.State.the-variants.{ActiveIdle, UseToken, AwaitDataResponse, PassToken}
 use Rattle.station.specs.declared.Core.{Core}
 use Rattle.station.specs.declared.Step.{Step}
-use Rattle.station.specs.declared.Waited.{Waited}
-use Rattle.station.specs.Parts.{withActivity, withTokenTimes, withNextApplication}
+use Rattle.station.specs.Parts.{withState, withActivity, withNextApplication}
+use Rattle.station.specs.Steps.{pauseOf, slotExpiredOf}
 use Rattle.station_hold.specs.declared.Asked.{Asked}
-use Rattle.station_hold.specs.Hold.{declinesAt, firstOr, validResponse, holdsOf, turnOf, askedFrom, askedOf, appTransmitOf, usePassOf, holdEndOf, useAppsAfter, useAppsOf, useTokenAfter, useTokenTimed, useTokenOf, receivedOf, withNotice, timeoutOf, awaitDataAfter, awaitDataOf}
-use Rattle.theorem_sound.specs.Keeps.{ReplyLow, CoreGood, StepGood, either, decision-low, waited-good, state-good, rx-good, idle-good, await-data-good, pass-good, done-good, transmit-good}
+use Rattle.station_hold.specs.Hold.{declinesAt, firstOr, validResponse, holdsOf, turnOf, askedFrom, askedOf, appTransmitOf, usePassOf, useAppsAfter, useAppsOf, useTokenAfter, useTokenTimed, useTokenOf, receivedOf, withNotice, timeoutOf, awaitDataAfter, awaitDataOf}
+use Rattle.theorem_sound.specs.Moves.{OneOf}
+use Rattle.theorem_sound.specs.Kept.{hold-last}
+use Rattle.theorem_sound.specs.Keeps.{DecisionLow, either, decision-low}
+use Rattle.theorem_sound.specs.Walk.{Came, Made, sound-at, held-at, paused, slotted, rx, rx-known, hold-set-at, turned, cycle-done, to-idle, to-await-data, to-pass, to-use-again, done-made, transmit-made}
 
--- what asking ends with is one of the n applications
+-- what asking ends with: one of the n applications
 pub record AskedGood (n : ℕ) (a : Asked) : Type 0 where
   pub asked : a .application < n
 
-turn-good : (a n : ℕ) → a < n → turnOf a n < n
+-- and a first application that is one of them
+record FirstGood (n : ℕ) (a : Asked) : Type 0 where
+  pub asked-first : OneOf n (a .«first_app»)
+
+pub turn-good : (a n : ℕ) → a < n → turnOf a n < n
 unfolding turnOf
 turn-good a n l = cases (ltb (a + 1) n) (λ e. rw e (ltb-true (a + 1) n e)) (λ e. rw e (omega arith))
 
@@ -35,74 +47,87 @@ pub asked-good : (k : ℕ) (bytes : List ℕ) (n a : ℕ) (first : OptionApplica
 unfolding askedFrom
 asked-good zero bytes n a first high l = record { asked = l }
 asked-good (suc k) bytes n a first high l =
+    let t = turn-good a n l in
     either (AskedGood n) (declinesAt bytes n a high) _ _
-    (either (AskedGood n) (eqb (turnOf a n) (firstOr first a)) _ _ (record { asked = turn-good a n l }) (asked-good k bytes n (turnOf a n) _ high (turn-good a n l)))
+    (either (AskedGood n) (eqb (turnOf a n) (firstOr first a)) _ _ (record { asked = t }) (asked-good k bytes n (turnOf a n) _ high t))
     (record { asked = l })
 
--- do_use_token
-use-pass-good : (n : ℕ) (c : Core) → CoreGood n c → StepGood n (usePassOf c)
-unfolding usePassOf
-use-pass-good n c b = done-good n _ _ (pass-good n c _ _ b)
+pub first-or-good : (n : ℕ) (first : OptionApplication) (a : ℕ) → OneOf n first → a < n → firstOr first a < n
+unfolding firstOr
+first-or-good n optionApplication.None a f l = l
+first-or-good n (optionApplication.Some b) a f l = f
 
-app-good : (p : Parameters) (n : ℕ) (c : Core) (now : Micros) (held : UseTokenData) (d : Decision) (high : Bool) → ReplyLow d → CoreGood n c → StepGood n (appTransmitOf p c now held d high)
-unfolding appTransmitOf
-app-good p n c now held decision.Decline high l b = use-pass-good n c b
-app-good p n c now held (decision.Send length) high l b = transmit-good p n c now _ b
-app-good p n c now held (decision.SendExpectReply address length) high l b =
-    transmit-good p n _ now _ (await-data-good n c address held l b)
+first-good : (k : ℕ) (bytes : List ℕ) (n a : ℕ) (first : OptionApplication) (high : Bool) → a < n → OneOf n first → FirstGood n (askedFrom k bytes n a first high)
+unfolding askedFrom
+first-good zero bytes n a first high l f = record { asked-first = f }
+first-good (suc k) bytes n a first high l f =
+    let o = first-or-good n first a f l in
+    either (FirstGood n) (declinesAt bytes n a high) _ _
+    (either (FirstGood n) (eqb (turnOf a n) (firstOr first a)) _ _ (record { asked-first = o }) (first-good k bytes n (turnOf a n) _ high (turn-good a n l) o))
+    (record { asked-first = f })
 
-turned-good : (n : ℕ) (c : Core) (a : ℕ) → a < n → CoreGood n c → CoreGood n (withNextApplication c a)
-unfolding withNextApplication
-turned-good n c a l b = record { next-below = l; addressed = b .addressed; gap-addressed = b .gap-addressed }
+-- where a step with the token in hand may end: it goes on with it, awaits a reply, or passes the token on
+pub record HoldEnds (E : State → Type 0) : Type 0 where
+  pub ends-use : (held : UseTokenData) (cycled : Bool) → E (UseToken held cycled)
+  pub ends-await : (a : ℕ) (held : UseTokenData) → E (AwaitDataResponse a held)
+  pub ends-pass : E (PassToken true First)
 
-apps-after-good : (p : Parameters) (n : ℕ) (c : Core) (now : Micros) (held : UseTokenData) (bytes : List ℕ) (high : Bool) (a : Asked) → AskedGood n a → CoreGood n c → StepGood n (useAppsAfter p c now held bytes n high a)
-unfolding useAppsAfter
-apps-after-good p n c now held bytes high a g b =
-    let q = state-good n (withNextApplication c (a .application)) _ tt (turned-good n c (a .application) (g .asked) b) in
-    either (StepGood n) (a .sends) _ _ (app-good p n _ now _ _ high (decision-low bytes n _ high) q) (use-pass-good n _ q)
+module _ {p : Parameters} {n : ℕ} {now : Micros} {c₀ : Core} {E : State → Type 0} where
+  -- do_use_token
+  use-pass-made : {held : UseTokenData} {cycled : Bool} {c : Core} → HoldEnds E → Came p n now c₀ (UseToken held cycled) c → Made p n now c₀ E (usePassOf c)
+  unfolding usePassOf
+  use-pass-made o k = done-made _ (to-pass true First refl k) (o .ends-pass)
 
-apps-good : (p : Parameters) (n : ℕ) (c : Core) (now : Micros) (held : UseTokenData) (bytes : List ℕ) (high : Bool) → CoreGood n c → StepGood n (useAppsOf p c now held bytes n high)
-unfolding useAppsOf askedOf
-apps-good p n c now held bytes high b = apps-after-good p n c now held bytes high _ (asked-good n bytes n _ _ high (b .next-below)) b
+  app-made : {held : UseTokenData} {c : Core} (d : Decision) (high : Bool) → DecisionLow d → held .«token_time» .0 ≡ c .«last_token_time» .0 → HoldEnds E → Came p n now c₀ (UseToken held true) c → Made p n now c₀ E (appTransmitOf p c now held d high)
+  unfolding appTransmitOf
+  app-made decision.Decline high l t o k = use-pass-made o k
+  app-made (decision.Send length) high l t o k = transmit-made _ l k (o .ends-use _ _)
+  app-made {held} (decision.SendExpectReply address length) high l t o k =
+      transmit-made _ (l .1) (to-await-data address held refl (l .0) (held-at k) t k) (o .ends-await _ _)
 
-pub hold-good : (p : Parameters) (n : ℕ) (c : Core) (token : Micros) → CoreGood n c → CoreGood n (holdEndOf p c token)
-unfolding holdEndOf withTokenTimes
-hold-good p n c token b = either (CoreGood n) (eqb (c .«last_token_time» .0) (token .0)) _ _ b (record { next-below = b .next-below; addressed = b .addressed; gap-addressed = b .gap-addressed })
+  apps-after-made : {held : UseTokenData} {cycled : Bool} {c : Core} (bytes : List ℕ) (high : Bool) (a : Asked) → AskedGood n a → FirstGood n a → held .«token_time» .0 ≡ c .«last_token_time» .0 → HoldEnds E → Came p n now c₀ (UseToken held cycled) c → Made p n now c₀ E (useAppsAfter p c now held bytes n high a)
+  unfolding useAppsAfter withState withNextApplication
+  apps-after-made bytes high a g f t o k =
+      let q = cycle-done _ (record { token-time = held-at k .token-time; first-one = f .asked-first }) t (turned (a .application) (g .asked) k) in
+      either (Made p n now c₀ E) (a .sends) _ _ (app-made _ high (decision-low bytes n _ high) t o q) (use-pass-made o q)
 
-use-after-good : (p : Parameters) (n : ℕ) (c : Core) (now : Micros) (held : UseTokenData) (cycled : Bool) (bytes : List ℕ) (w : Waited) → CoreGood n c → StepGood n (useTokenAfter p c now held cycled bytes n w)
-unfolding useTokenAfter
-use-after-good p n c now held cycled bytes w b =
-    let q = waited-good n c _ b in
-    either (StepGood n) (w .over) _ _
-    (either (StepGood n) (holdsOf now (withActivity c (activity.At (w .last)) .«end_token_hold_time»)) _ _ (apps-good p n _ now held bytes false q)
-    (either (StepGood n) cycled _ _ (use-pass-good n _ q) (apps-good p n _ now held bytes true q)))
-    (done-good n _ _ q)
+  apps-made : {held : UseTokenData} {cycled : Bool} {c : Core} (bytes : List ℕ) (high : Bool) → held .«token_time» .0 ≡ c .«last_token_time» .0 → HoldEnds E → Came p n now c₀ (UseToken held cycled) c → Made p n now c₀ E (useAppsOf p c now held bytes n high)
+  unfolding useAppsOf askedOf
+  apps-made bytes high t o k =
+      let l = sound-at k .next-one in
+      apps-after-made bytes high _ (asked-good n bytes n _ _ high l) (first-good n bytes n _ _ high l (held-at k .first-one)) t o k
 
-pub use-token-good : (p : Parameters) (n : ℕ) (c : Core) (now : Micros) (held : UseTokenData) (cycled : Bool) (bytes : List ℕ) → CoreGood n c → StepGood n (useTokenOf p c now held cycled bytes n)
-unfolding useTokenOf useTokenTimed
-use-token-good p n c now held cycled bytes b = use-after-good p n _ now held cycled bytes _ (hold-good p n c _ b)
+  use-timed-made : {held : UseTokenData} {c : Core} (cycled : Bool) (bytes : List ℕ) → held .«token_time» .0 ≡ c .«last_token_time» .0 → HoldEnds E → Came p n now c₀ (UseToken held cycled) c → Made p n now c₀ E (useTokenTimed p c now held cycled bytes n)
+  unfolding useTokenTimed useTokenAfter withActivity
+  use-timed-made {c = c} cycled bytes t o k =
+      let q = paused k in
+      either (Made p n now c₀ E) (pauseOf p (c .«last_bus_activity») now .over) _ _
+      (either (Made p n now c₀ E) (holdsOf now (c .«end_token_hold_time»)) _ _ (apps-made bytes false t o q)
+      (either (Made p n now c₀ E) cycled _ _ (use-pass-made o q) (apps-made bytes true t o q)))
+      (done-made _ q (o .ends-use _ _))
 
--- do_await_data_response
-received-good : (p : Parameters) (n : ℕ) (c : Core) (now : Micros) (address : ℕ) (held : UseTokenData) (t : Telegram) → CoreGood n c → StepGood n (receivedOf p c now address held t)
-unfolding receivedOf
-received-good p n c now address held t b =
-    either (StepGood n) (validResponse t address (p .address)) _ _ (record { step-core = state-good n _ _ tt (rx-good n c now b) }) (record { step-core = idle-good n _ (rx-good n c now b) })
+  pub use-token-made : {held : UseTokenData} {c : Core} (cycled : Bool) (bytes : List ℕ) → HoldEnds E → Came p n now c₀ (UseToken held cycled) c → Made p n now c₀ E (useTokenOf p c now held cycled bytes n)
+  unfolding useTokenOf
+  use-token-made {held} {c} cycled bytes o k = use-timed-made cycled bytes (hold-last p c (held .«token_time»)) o (hold-set-at k)
 
-notice-good : (n : ℕ) (s : Step) (x : Notice) → StepGood n s → StepGood n (withNotice s x)
-unfolding withNotice
-notice-good n s x g = record { step-core = g .step-core }
+  -- do_await_data_response
+  received-made : {address : ℕ} {held : UseTokenData} {c : Core} (t : Telegram) → HoldEnds E → E (ActiveIdle optionAddress.None optionAddress.None 0) → Came p n now c₀ (AwaitDataResponse address held) c → Made p n now c₀ E (receivedOf p c now address held t)
+  unfolding receivedOf
+  received-made {address} {c = c} t o i k =
+      let u = to-use-again (rx k) in
+      let d = to-idle refl (rx-known c now) (rx k) in
+      either (Made p n now c₀ E) (validResponse t address (p .address)) _ _ (record { moves = u .by; ends = rw (u .is) (o .ends-use _ _) }) (record { moves = d .by; ends = rw (d .is) i })
 
-timeout-good : (p : Parameters) (n : ℕ) (c : Core) (now : Micros) (address : ℕ) (held : UseTokenData) (bytes : List ℕ) → CoreGood n c → StepGood n (timeoutOf p c now address held bytes n)
-unfolding timeoutOf
-timeout-good p n c now address held bytes b = notice-good n _ _ (use-token-good p n _ now held true bytes (state-good n c _ tt b))
+  notice-made : (s : Step) (x : Notice) → Made p n now c₀ E s → Made p n now c₀ E (withNotice s x)
+  unfolding withNotice
+  notice-made s x g = record { moves = g .moves; ends = g .ends }
 
-await-after-good : (p : Parameters) (n : ℕ) (c : Core) (now : Micros) (address : ℕ) (held : UseTokenData) (bytes : List ℕ) (w : Waited) → CoreGood n c → StepGood n (awaitDataAfter p c now address held bytes n w)
-unfolding awaitDataAfter
-await-after-good p n c now address held bytes w b =
-    let q = waited-good n c _ b in
-    either (StepGood n) (w .over) _ _ (timeout-good p n _ now address held bytes q) (done-good n _ _ q)
+  timeout-made : {address : ℕ} {held : UseTokenData} {c : Core} (bytes : List ℕ) → HoldEnds E → Came p n now c₀ (AwaitDataResponse address held) c → Made p n now c₀ E (timeoutOf p c now address held bytes n)
+  unfolding timeoutOf
+  timeout-made bytes o k = notice-made _ _ (use-token-made true bytes o (to-use-again k))
 
-pub await-data-step-good : (p : Parameters) (n : ℕ) (c : Core) (now : Micros) (address : ℕ) (held : UseTokenData) (bytes : List ℕ) (count : ℕ) → CoreGood n c → StepGood n (awaitDataOf p c now address held bytes n count)
-unfolding awaitDataOf
-await-data-step-good p n c now address held bytes count b =
-    either (StepGood n) (ltb 0 count) _ _ (received-good p n c now address held _ b) (await-after-good p n c now address held bytes _ b)
+  pub await-data-made : {address : ℕ} {held : UseTokenData} {c : Core} (bytes : List ℕ) (count : ℕ) → HoldEnds E → E (ActiveIdle optionAddress.None optionAddress.None 0) → Came p n now c₀ (AwaitDataResponse address held) c → Made p n now c₀ E (awaitDataOf p c now address held bytes n count)
+  unfolding awaitDataOf awaitDataAfter
+  await-data-made {c = c} bytes count o i k =
+      either (Made p n now c₀ E) (ltb 0 count) _ _ (received-made _ o i k)
+      (either (Made p n now c₀ E) (slotExpiredOf p (c .«last_bus_activity») now .over) _ _ (timeout-made bytes o (slotted k)) (done-made _ (slotted k) (o .ends-await _ _)))

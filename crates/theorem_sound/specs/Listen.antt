@@ -1,8 +1,10 @@
--- What the steps of the two hearing crates, station_listen and station_claim keep.
+-- What the steps of the two hearing crates, station_listen and station_claim come to.
 use Prim.Native.Nat.{ℕ, zero, suc, _<_}
 use mathlib.Core.Bool.{Bool, true, false}
+use mathlib.Core.Path.{_≡_, refl, sym}
 use mathlib.Core.List.{List}
-use lib.Dec.{eqb}
+use native.Mathlib.Omega.{arith}
+use lib.Dec.{eqb, lit≤}
 use Rattle.bit_times.specs.declared.Micros.{Micros}
 use Rattle.settings.specs.declared.Parameters.{Parameters}
 use Rattle.ring.specs.declared.Ring.{Ring}
@@ -10,206 +12,227 @@ use Rattle.ring.specs.Ring.{prevOf}
 use Rattle.codec_telegrams.specs.declared.Telegram.{Telegram}
 use Rattle.codec_telegrams.specs.declared.Telegram.the-variants as telegram
 use Rattle.codec_telegrams.specs.Words.{TelegramFits}
-use Rattle.codec_answers.specs.declared.Outcome.{Outcome}
+use Rattle.codec_answers.specs.declared.Outcome.the-variants as outcome
+use Rattle.codec_answers.specs.declared.Sent.{Sent}
+use Rattle.codec_answers.specs.declared.Sent.the-variants as sent
 use Rattle.station.specs.declared.OptionAddress.{OptionAddress}
 use Rattle.station.specs.declared.OptionAddress.the-variants as optionAddress
+use Rattle.station.specs.declared.UseTokenData.{UseTokenData}
 use Rattle.station.specs.declared.State.{State}
 use Rattle.station.specs.declared.State.the-variants.{Offline, ListenToken, ActiveIdle, UseToken, ClaimToken, AwaitDataResponse, PassToken, CheckTokenPass, AwaitStatusResponse}
 use Rattle.station.specs.declared.Core.{Core}
-use Rattle.station.specs.declared.Waited.{Waited}
-use Rattle.station.specs.declared.Heard.{Heard}
+use Rattle.station.specs.Parts.{stateNumber}
+use Rattle.station.specs.Steps.{pauseOf, tokenLostWaitOf, transmitOf, heardOf}
+use Rattle.station_claim.specs.Claim.{claimNext, claimAfter, claimTokenOf}
 use Rattle.station_hear_active.specs.HearActive.{remembers, activeCollided, acceptedOf, tokenToUs, tokenWitnessed, tokenHeard, activeRequested, activeHeard, handleTelegramOn, handleTelegram}
-use Rattle.station.specs.Steps.{heardOf}
 use Rattle.station_listen.specs.Listen.{lostTokenOf, listenAnswered, listenResponseAfter, listenResponse, heardTelegram, heardAll, receivedAll, consumedAll, listenTokenOn, listenTokenAfter, listenTokenOf, activeResponseAfter, activeResponse, activeIdleOn, activeIdleAfter, activeIdleOf}
 use Rattle.station_hear_listen.specs.HearListen.{collided, listened, listenHeard, listenTelegramOn, listenTelegram}
-use Rattle.theorem_sound.specs.Keeps.{Low, Addressed, RingGood, CoreGood, RingStepGood, either, telegram-low, again-good, witness-good, waited-good, state-good, rx-good, listen-good, idle-good, use-good, claiming-good, again-core-good, done-good, transmit-good, claim-token-good}
+use Rattle.theorem_sound.specs.Moves.{lists, claimTokenFrom, Known}
+use Rattle.theorem_sound.specs.Kept.{not-true}
+use Rattle.theorem_sound.specs.Keeps.{RingGood, either, telegram-low, again-good, claim-good, witness-good}
+use Rattle.theorem_sound.specs.Walk.{Came, Made, RingMade, HeardMade, arrived, addressed-at, collided-at, online-here, new-token, paused, lost-asked, waited-known, rx, listen-fields, idle-fields, claim-again, to-listen, to-idle, to-use, to-claim, to-fresh, done-made, transmit-made, heard-made}
 
--- what the telegrams of a poll keep
-pub record HeardGood (p : Parameters) (n : ℕ) (h : Heard) : Type 0 where
-  pub heard-core : CoreGood n (h .core)
-  pub heard-ring : RingGood p (h .ring)
+-- no state but Offline has the number 0
+no-zero : {k : ℕ} → suc k ≡ 0 → ⊥
+no-zero e = omega arith
 
-heard-good : (p : Parameters) (n : ℕ) (c : Core) (r : Ring) (o : Outcome) → CoreGood n c → RingGood p r → HeardGood p n (heardOf c r o)
-unfolding heardOf
-heard-good p n c r o b g = record { heard-core = b; heard-ring = g }
+-- where hearing may end: if listening in ListenToken or by a second collision in Offline; else in ActiveIdle, by a token accepted in
+-- UseToken, or by a second collision in ListenToken
+pub record ListenEnds (E : State → Type 0) : Type 0 where
+  pub ends-offline : E Offline
+  pub ends-listen : (q : OptionAddress) (k : ℕ) → E (ListenToken q k)
 
-lost-good : (p : Parameters) (n : ℕ) (c : Core) (r : Ring) (now : Micros) → CoreGood n c → RingGood p r → RingStepGood p n (lostTokenOf p c r now)
-unfolding lostTokenOf
-lost-good p n c r now b g = claim-token-good p n _ r now true (claiming-good n c b) g
+pub record ActiveEnds (E : State → Type 0) : Type 0 where
+  pub ends-idle : (q m : OptionAddress) (k : ℕ) → E (ActiveIdle q m k)
+  pub ends-accepted : (held : UseTokenData) → E (UseToken held false)
+  pub ends-left : E (ListenToken optionAddress.None 0)
 
--- do_listen_token
-answered-good : (n : ℕ) (c : Core) (r : Ring) (k : ℕ) → CoreGood n c → CoreGood n (listenAnswered c r k)
-unfolding listenAnswered
-answered-good n c r k b = either (CoreGood n) (r .ready) _ _ (idle-good n c b) (state-good n c _ tt b)
+abbrev HearEnds : (State → Type 0) → Bool → Type 0
+HearEnds E true = ListenEnds E
+HearEnds E false = ActiveEnds E
 
-response-after-good : (p : Parameters) (n : ℕ) (c : Core) (r : Ring) (now : Micros) (source k : ℕ) (w : Waited) → CoreGood n c → RingGood p r → RingStepGood p n (listenResponseAfter p c r now source k w)
-unfolding listenResponseAfter
-response-after-good p n c r now source k w b g =
-    let q = waited-good n c _ b in
-    either (RingStepGood p n) (w .over) _ _
-    (record { good-step = transmit-good p n _ now _ (answered-good n _ r k q); good-ring = g })
-    (record { good-step = done-good n _ _ q; good-ring = g })
+-- where do_listen_token may end but for a claim: hearing telegrams, or, with a request noted, answering it
+abbrev pub ListenedEnds : (State → Type 0) → OptionAddress → ℕ → Type 0
+ListenedEnds E optionAddress.None k = ListenEnds E
+ListenedEnds E (optionAddress.Some source) k =
+    E (ListenToken (optionAddress.Some source) k) × E (ListenToken optionAddress.None k) × E (ActiveIdle optionAddress.None optionAddress.None 0)
 
-response-good : (p : Parameters) (n : ℕ) (c : Core) (r : Ring) (now : Micros) (source k : ℕ) → CoreGood n c → RingGood p r → RingStepGood p n (listenResponse p c r now source k)
-unfolding listenResponse
-response-good p n c r now source k b g = response-after-good p n c r now source k _ b g
+module _ {p : Parameters} {n : ℕ} {now : Micros} {c₀ : Core} {E : State → Type 0} where
+  -- do_claim_token
+  claim-next-made : {c : Core} (first : Bool) → ((f : Bool) → E (ClaimToken f)) → (first ≡ false → (held : UseTokenData) → E (UseToken held false)) → Came p n now c₀ (ClaimToken first) c → Made p n now c₀ E (transmitOf p (claimNext c now first) now 3 (sent.Token (p .address)))
+  unfolding claimNext
+  claim-next-made true e u k = transmit-made _ (lit≤ tt) (claim-again k) (e false)
+  claim-next-made false e u k = transmit-made _ (lit≤ tt) (to-use _ refl (new-token n now (k .clock)) k) (u refl _)
 
-collided-good : (p : Parameters) (n : ℕ) (c : Core) (r : Ring) (q : OptionAddress) (k : ℕ) → Low q → CoreGood n c → RingGood p r → HeardGood p n (collided p c r q k)
-unfolding collided
-collided-good p n c r q k l b g =
-    either (HeardGood p n) (eqb k 0) _ _ (heard-good p n _ r _ (state-good n c _ l b) g) (heard-good p n _ _ _ (again-core-good n c b) (again-good p r g))
+  pub claim-token-made : {first : Bool} {c : Core} (r : Ring) → ((f : Bool) → E (ClaimToken f)) → (first ≡ false → (held : UseTokenData) → E (UseToken held false)) → Came p n now c₀ (ClaimToken first) c → RingGood p r → RingMade p n now c₀ E (claimTokenOf p c r now first)
+  unfolding claimTokenOf claimAfter
+  claim-token-made {first} {c} r e u k g =
+      either (RingMade p n now c₀ E) (pauseOf p (c .«last_bus_activity») now .over) _ _
+      (record { made-step = claim-next-made first e u (paused k); made-ring = claim-good p r g })
+      (record { made-step = done-made _ (paused k) (e first); made-ring = g })
 
-listened-good : (p : Parameters) (n : ℕ) (c : Core) (r : Ring) (source k : ℕ) (noted : Bool) → source < 128 → CoreGood n c → RingGood p r → HeardGood p n (listened c r source k noted)
-unfolding listened
-listened-good p n c r source k noted l b g =
-    either (HeardGood p n) noted _ _ (heard-good p n _ r _ (state-good n c _ l b) g) (heard-good p n c r _ b g)
+  -- handle_lost_token
+  lost-made : {x : State} {c : Core} (r : Ring) → ((f : Bool) → E (ClaimToken f)) → lists claimTokenFrom (stateNumber x) ≡ true → Known (c .«last_bus_activity») → Came p n now c₀ x c → RingGood p r → RingMade p n now c₀ E (lostTokenOf p c r now)
+  unfolding lostTokenOf
+  lost-made r e i o k g = claim-token-made r e (λ z. not-true (sym z)) (to-claim i o k) g
 
-listen-heard-good : (p : Parameters) (n : ℕ) (c : Core) (r : Ring) (q : OptionAddress) (k : ℕ) (t : Telegram) (last : Bool) → Low q → TelegramFits t → CoreGood n c → RingGood p r → HeardGood p n (listenHeard p c r q k t last)
-unfolding listenHeard
-listen-heard-good p n c r q k (telegram.Token destination source) last l f b g =
-    either (HeardGood p n) (eqb source (p .address)) _ _ (collided-good p n c r q k l b g) (heard-good p n c _ _ b (witness-good p r source destination g))
-listen-heard-good p n c r q k telegram.ShortConfirmation last l f b g = heard-good p n c r _ b g
-listen-heard-good p n c r q k (telegram.Request destination source asks) last l f b g =
-    either (HeardGood p n) (eqb source (p .address)) _ _ (collided-good p n c r q k l b g) (listened-good p n c r source k _ (f .1) b g)
-listen-heard-good p n c r q k (telegram.Response destination source state status) last l f b g =
-    either (HeardGood p n) (eqb source (p .address)) _ _ (collided-good p n c r q k l b g) (heard-good p n c r _ b g)
+  -- do_listen_token
+  answered-made : {q : OptionAddress} {k : ℕ} {c : Core} (r : Ring) → E (ListenToken optionAddress.None k) → E (ActiveIdle optionAddress.None optionAddress.None 0) → Known (c .«last_bus_activity») → Came p n now c₀ (ListenToken q k) c → (s : Sent) → Made p n now c₀ E (transmitOf p (listenAnswered c r k) now 6 s)
+  unfolding listenAnswered
+  answered-made r e i o k s =
+      either (λ (d : Core). Made p n now c₀ E (transmitOf p d now s)) (r .ready) _ _ (transmit-made s (lit≤ tt) (to-idle refl o k) i)
+      (transmit-made s (lit≤ tt) (listen-fields _ _ tt (collided-at k) k) e)
 
-listen-on-good : (s : State) (p : Parameters) (n : ℕ) (c : Core) (r : Ring) (t : Telegram) (last : Bool) → Addressed s → TelegramFits t → CoreGood n c → RingGood p r → HeardGood p n (listenTelegramOn s p c r t last)
-unfolding listenTelegramOn
-listen-on-good Offline p n c r t last l f b g = heard-good p n c r _ b g
-listen-on-good (ListenToken q k) p n c r t last l f b g = listen-heard-good p n c r q k t last l f b g
-listen-on-good (ActiveIdle q m k) p n c r t last l f b g = heard-good p n c r _ b g
-listen-on-good (UseToken d k) p n c r t last l f b g = heard-good p n c r _ b g
-listen-on-good (ClaimToken first) p n c r t last l f b g = heard-good p n c r _ b g
-listen-on-good (AwaitDataResponse a d) p n c r t last l f b g = heard-good p n c r _ b g
-listen-on-good (PassToken x a) p n c r t last l f b g = heard-good p n c r _ b g
-listen-on-good (CheckTokenPass a) p n c r t last l f b g = heard-good p n c r _ b g
-listen-on-good (AwaitStatusResponse a) p n c r t last l f b g = heard-good p n c r _ b g
+  response-made : {k : ℕ} {c : Core} (r : Ring) (source : ℕ) → ListenedEnds E (optionAddress.Some source) k → Came p n now c₀ (ListenToken (optionAddress.Some source) k) c → RingGood p r → RingMade p n now c₀ E (listenResponse p c r now source k)
+  unfolding listenResponse listenResponseAfter
+  response-made {c = c} r source e k g =
+      either (RingMade p n now c₀ E) (pauseOf p (c .«last_bus_activity») now .over) _ _
+      (record { made-step = answered-made r (e .1) (e .2) (waited-known c _) (paused k) _; made-ring = g })
+      (record { made-step = done-made _ (paused k) (e .0); made-ring = g })
 
-listen-telegram-good : (p : Parameters) (n : ℕ) (c : Core) (r : Ring) (t : Telegram) (last : Bool) → TelegramFits t → CoreGood n c → RingGood p r → HeardGood p n (listenTelegram p c r t last)
-unfolding listenTelegram
-listen-telegram-good p n c r t last f b g = listen-on-good (c .state) p n c r t last (b .addressed) f b g
+  collided-made : {q : OptionAddress} {k : ℕ} {c : Core} (r : Ring) → ListenEnds E → Came p n now c₀ (ListenToken q k) c → RingGood p r → HeardMade p n now c₀ E (collided p c r q k)
+  unfolding collided
+  collided-made {q} {k} r e m g =
+      either (HeardMade p n now c₀ E) (eqb k 0) _ _ (heard-made r _ (listen-fields q 1 (addressed-at m) (lit≤ tt) m) (e .ends-listen _ _) g)
+      (heard-made _ _ (to-fresh m) (e .ends-offline) (again-good p r g))
 
--- handle_telegram
-active-collided-good : (p : Parameters) (n : ℕ) (c : Core) (r : Ring) (q m : OptionAddress) (k : ℕ) → Low q → Low m → CoreGood n c → RingGood p r → HeardGood p n (activeCollided c r q m k)
-unfolding activeCollided
-active-collided-good p n c r q m k l h b g =
-    either (HeardGood p n) (eqb k 0) _ _ (heard-good p n _ r _ (state-good n c _ (l, h) b) g) (heard-good p n _ r _ (listen-good n c b) g)
+  listened-made : {q : OptionAddress} {k : ℕ} {c : Core} (r : Ring) (source : ℕ) (noted : Bool) → source < 128 → ListenEnds E → Came p n now c₀ (ListenToken q k) c → RingGood p r → HeardMade p n now c₀ E (listened c r source k noted)
+  unfolding listened
+  listened-made {k = k} r source noted l e m g =
+      either (HeardMade p n now c₀ E) noted _ _ (heard-made r _ (listen-fields (optionAddress.Some source) k l (collided-at m) m) (e .ends-listen _ _) g) (heard-made r _ m (e .ends-listen _ _) g)
 
-accepted-good : (p : Parameters) (n : ℕ) (c : Core) (r : Ring) (now : Micros) → CoreGood n c → RingGood p r → HeardGood p n (acceptedOf c r now)
-unfolding acceptedOf
-accepted-good p n c r now b g = heard-good p n _ r _ (use-good n c _ b) g
+  listen-heard-made : {q : OptionAddress} {k : ℕ} {c : Core} (r : Ring) (t : Telegram) (last : Bool) → TelegramFits t → ListenEnds E → Came p n now c₀ (ListenToken q k) c → RingGood p r → HeardMade p n now c₀ E (listenHeard p c r q k t last)
+  unfolding listenHeard
+  listen-heard-made r (telegram.Token destination source) last f e m g =
+      either (HeardMade p n now c₀ E) (eqb source (p .address)) _ _ (collided-made r e m g) (heard-made _ _ m (e .ends-listen _ _) (witness-good p r source destination g))
+  listen-heard-made r telegram.ShortConfirmation last f e m g = heard-made r _ m (e .ends-listen _ _) g
+  listen-heard-made r (telegram.Request destination source asks) last f e m g =
+      either (HeardMade p n now c₀ E) (eqb source (p .address)) _ _ (collided-made r e m g) (listened-made r source _ (f .1) e m g)
+  listen-heard-made r (telegram.Response destination source state status) last f e m g =
+      either (HeardMade p n now c₀ E) (eqb source (p .address)) _ _ (collided-made r e m g) (heard-made r _ m (e .ends-listen _ _) g)
 
-to-us-good : (p : Parameters) (n : ℕ) (c : Core) (r : Ring) (now : Micros) (q m : OptionAddress) (d s : ℕ) → Low q → s < 128 → CoreGood n c → RingGood p r → HeardGood p n (tokenToUs c r now q m d s)
-unfolding tokenToUs
-to-us-good p n c r now q m d s l f b g =
-    either (HeardGood p n) (eqb s (prevOf r)) _ _ (accepted-good p n c r now b g)
-    (either (HeardGood p n) (remembers m s) _ _ (accepted-good p n c _ now b (witness-good p r s d g)) (heard-good p n _ r _ (state-good n c _ (l, f) b) g))
+  listen-on-made : (x : State) {c : Core} (r : Ring) (t : Telegram) (last : Bool) → TelegramFits t → ListenEnds E → Came p n now c₀ x c → E x → RingGood p r → HeardMade p n now c₀ E (listenTelegramOn x p c r t last)
+  unfolding listenTelegramOn
+  listen-on-made Offline r t last f e m y g = heard-made r _ m y g
+  listen-on-made (ListenToken q k) r t last f e m y g = listen-heard-made r t last f e m g
+  listen-on-made (ActiveIdle q s k) r t last f e m y g = heard-made r _ m y g
+  listen-on-made (UseToken d k) r t last f e m y g = heard-made r _ m y g
+  listen-on-made (ClaimToken first) r t last f e m y g = heard-made r _ m y g
+  listen-on-made (AwaitDataResponse a d) r t last f e m y g = heard-made r _ m y g
+  listen-on-made (PassToken x a) r t last f e m y g = heard-made r _ m y g
+  listen-on-made (CheckTokenPass a) r t last f e m y g = heard-made r _ m y g
+  listen-on-made (AwaitStatusResponse a) r t last f e m y g = heard-made r _ m y g
 
-witnessed-good : (p : Parameters) (n : ℕ) (c : Core) (r : Ring) (q m : OptionAddress) (d s : ℕ) → Low q → Low m → CoreGood n c → RingGood p r → HeardGood p n (tokenWitnessed c r q m d s)
-unfolding tokenWitnessed
-witnessed-good p n c r q m d s l h b g = heard-good p n _ _ _ (state-good n c _ (l, h) b) (witness-good p r s d g)
+  -- handle_telegram
+  active-collided-made : {q s : OptionAddress} {k : ℕ} {c : Core} (r : Ring) → ActiveEnds E → Came p n now c₀ (ActiveIdle q s k) c → RingGood p r → HeardMade p n now c₀ E (activeCollided c r q s k)
+  unfolding activeCollided
+  active-collided-made {q} {s} {k} r e m g =
+      either (HeardMade p n now c₀ E) (eqb k 0) _ _ (heard-made r _ (idle-fields q s 1 (addressed-at m .0) (addressed-at m .1) (lit≤ tt) m) (e .ends-idle _ _ _) g)
+      (heard-made r _ (to-listen refl (online-here m no-zero) m) (e .ends-left) g)
 
-token-good : (p : Parameters) (n : ℕ) (c : Core) (r : Ring) (now : Micros) (q m : OptionAddress) (k d s : ℕ) (last : Bool) → Low q → Low m → s < 128 → CoreGood n c → RingGood p r → HeardGood p n (tokenHeard p c r now q m k d s last)
-unfolding tokenHeard
-token-good p n c r now q m k d s last l h f b g =
-    either (HeardGood p n) (eqb s (p .address)) _ _ (active-collided-good p n c r q m k l h b g)
-    (either (HeardGood p n) (eqb d (p .address)) _ _
-    (either (HeardGood p n) last _ _ (to-us-good p n c r now q m d s l f b g) (witnessed-good p n c r q m d s l h b g))
-    (witnessed-good p n c r q m d s l h b g))
+  accepted-made : {q s : OptionAddress} {k : ℕ} {c : Core} (r : Ring) → ActiveEnds E → Came p n now c₀ (ActiveIdle q s k) c → RingGood p r → HeardMade p n now c₀ E (acceptedOf c r now)
+  unfolding acceptedOf
+  accepted-made r e m g = heard-made r _ (to-use _ refl (new-token n now (m .clock)) m) (e .ends-accepted _) g
 
-requested-good : (p : Parameters) (n : ℕ) (c : Core) (r : Ring) (m : OptionAddress) (k s : ℕ) (noted : Bool) → Low m → s < 128 → CoreGood n c → RingGood p r → HeardGood p n (activeRequested c r m k s noted)
-unfolding activeRequested
-requested-good p n c r m k s noted h f b g =
-    either (HeardGood p n) noted _ _ (heard-good p n _ r _ (state-good n c _ (f, h) b) g) (heard-good p n c r _ b g)
+  to-us-made : {q s : OptionAddress} {k : ℕ} {c : Core} (r : Ring) (destination source : ℕ) → source < 128 → ActiveEnds E → Came p n now c₀ (ActiveIdle q s k) c → RingGood p r → HeardMade p n now c₀ E (tokenToUs c r now q s destination source)
+  unfolding tokenToUs
+  to-us-made {q} {s} r destination source l e m g =
+      either (HeardMade p n now c₀ E) (eqb source (prevOf r)) _ _ (accepted-made r e m g)
+      (either (HeardMade p n now c₀ E) (remembers s source) _ _ (accepted-made _ e m (witness-good p r source destination g))
+      (heard-made r _ (idle-fields q (optionAddress.Some source) 0 (addressed-at m .0) l (lit≤ tt) m) (e .ends-idle _ _ _) g))
 
-active-heard-good : (p : Parameters) (n : ℕ) (c : Core) (r : Ring) (now : Micros) (q m : OptionAddress) (k : ℕ) (t : Telegram) (last : Bool) → Low q → Low m → TelegramFits t → CoreGood n c → RingGood p r → HeardGood p n (activeHeard p c r now q m k t last)
-unfolding activeHeard
-active-heard-good p n c r now q m k (telegram.Token destination source) last l h f b g = token-good p n c r now q m k destination source last l h (f .1) b g
-active-heard-good p n c r now q m k telegram.ShortConfirmation last l h f b g = heard-good p n c r _ b g
-active-heard-good p n c r now q m k (telegram.Request destination source asks) last l h f b g = requested-good p n c r m k source _ h (f .1) b g
-active-heard-good p n c r now q m k (telegram.Response destination source state status) last l h f b g = heard-good p n c r _ b g
+  witnessed-made : {q s : OptionAddress} {k : ℕ} {c : Core} (r : Ring) (destination source : ℕ) → ActiveEnds E → Came p n now c₀ (ActiveIdle q s k) c → RingGood p r → HeardMade p n now c₀ E (tokenWitnessed c r q s destination source)
+  unfolding tokenWitnessed
+  witnessed-made {q} {s} r destination source e m g =
+      heard-made _ _ (idle-fields q s 0 (addressed-at m .0) (addressed-at m .1) (lit≤ tt) m) (e .ends-idle _ _ _) (witness-good p r source destination g)
 
-handle-on-good : (s : State) (p : Parameters) (n : ℕ) (c : Core) (r : Ring) (now : Micros) (t : Telegram) (last : Bool) → Addressed s → TelegramFits t → CoreGood n c → RingGood p r → HeardGood p n (handleTelegramOn s p c r now t last)
-unfolding handleTelegramOn
-handle-on-good Offline p n c r now t last l f b g = heard-good p n c r _ b g
-handle-on-good (ListenToken q k) p n c r now t last l f b g = heard-good p n c r _ b g
-handle-on-good (ActiveIdle q m k) p n c r now t last l f b g = active-heard-good p n c r now q m k t last (l .0) (l .1) f b g
-handle-on-good (UseToken d k) p n c r now t last l f b g = heard-good p n c r _ b g
-handle-on-good (ClaimToken first) p n c r now t last l f b g = heard-good p n c r _ b g
-handle-on-good (AwaitDataResponse a d) p n c r now t last l f b g = heard-good p n c r _ b g
-handle-on-good (PassToken x a) p n c r now t last l f b g = heard-good p n c r _ b g
-handle-on-good (CheckTokenPass a) p n c r now t last l f b g = heard-good p n c r _ b g
-handle-on-good (AwaitStatusResponse a) p n c r now t last l f b g = heard-good p n c r _ b g
+  token-made : {q s : OptionAddress} {k : ℕ} {c : Core} (r : Ring) (destination source : ℕ) (last : Bool) → source < 128 → ActiveEnds E → Came p n now c₀ (ActiveIdle q s k) c → RingGood p r → HeardMade p n now c₀ E (tokenHeard p c r now q s k destination source last)
+  unfolding tokenHeard
+  token-made r destination source last l e m g =
+      either (HeardMade p n now c₀ E) (eqb source (p .address)) _ _ (active-collided-made r e m g)
+      (either (HeardMade p n now c₀ E) (eqb destination (p .address)) _ _
+      (either (HeardMade p n now c₀ E) last _ _ (to-us-made r destination source l e m g) (witnessed-made r destination source e m g))
+      (witnessed-made r destination source e m g))
 
-handle-good : (p : Parameters) (n : ℕ) (c : Core) (r : Ring) (now : Micros) (t : Telegram) (last : Bool) → TelegramFits t → CoreGood n c → RingGood p r → HeardGood p n (handleTelegram p c r now t last)
-unfolding handleTelegram
-handle-good p n c r now t last f b g = handle-on-good (c .state) p n c r now t last (b .addressed) f b g
+  requested-made : {q s : OptionAddress} {k : ℕ} {c : Core} (r : Ring) (source : ℕ) (noted : Bool) → source < 128 → ActiveEnds E → Came p n now c₀ (ActiveIdle q s k) c → RingGood p r → HeardMade p n now c₀ E (activeRequested c r s k source noted)
+  unfolding activeRequested
+  requested-made {s = s} {k = k} r source noted l e m g =
+      either (HeardMade p n now c₀ E) noted _ _ (heard-made r _ (idle-fields (optionAddress.Some source) s k l (addressed-at m .1) (collided-at m) m) (e .ends-idle _ _ _) g) (heard-made r _ m (e .ends-idle _ _ _) g)
 
--- receive_all_telegrams
-heard-telegram-good : (p : Parameters) (n : ℕ) (h : Heard) (now : Micros) (listening : Bool) (t : Telegram) (last : Bool) → TelegramFits t → HeardGood p n h → HeardGood p n (heardTelegram p h now listening t last)
-unfolding heardTelegram
-heard-telegram-good p n h now listening t last f g =
-    let b = rx-good n (h .core) now (g .heard-core) in
-    either (HeardGood p n) listening _ _ (listen-telegram-good p n _ _ t last f b (g .heard-ring)) (handle-good p n _ _ now t last f b (g .heard-ring))
+  active-heard-made : {q s : OptionAddress} {k : ℕ} {c : Core} (r : Ring) (t : Telegram) (last : Bool) → TelegramFits t → ActiveEnds E → Came p n now c₀ (ActiveIdle q s k) c → RingGood p r → HeardMade p n now c₀ E (activeHeard p c r now q s k t last)
+  unfolding activeHeard
+  active-heard-made r (telegram.Token destination source) last f e m g = token-made r destination source last (f .1) e m g
+  active-heard-made r telegram.ShortConfirmation last f e m g = heard-made r _ m (e .ends-idle _ _ _) g
+  active-heard-made r (telegram.Request destination source asks) last f e m g = requested-made r source _ (f .1) e m g
+  active-heard-made r (telegram.Response destination source state status) last f e m g = heard-made r _ m (e .ends-idle _ _ _) g
 
-heard-all-good : (p : Parameters) (n : ℕ) (h : Heard) (now : Micros) (listening : Bool) (bytes : List ℕ) (m count i : ℕ) → HeardGood p n h → HeardGood p n (heardAll p h now listening bytes m count i)
-unfolding heardAll
-heard-all-good p n h now listening bytes m count zero g = g
-heard-all-good p n h now listening bytes m count (suc i) g =
-    heard-telegram-good p n _ now listening _ _ (telegram-low bytes m i) (heard-all-good p n h now listening bytes m count i g)
+  handle-on-made : (x : State) {c : Core} (r : Ring) (t : Telegram) (last : Bool) → TelegramFits t → ActiveEnds E → Came p n now c₀ x c → E x → RingGood p r → HeardMade p n now c₀ E (handleTelegramOn x p c r now t last)
+  unfolding handleTelegramOn
+  handle-on-made Offline r t last f e m y g = heard-made r _ m y g
+  handle-on-made (ListenToken q k) r t last f e m y g = heard-made r _ m y g
+  handle-on-made (ActiveIdle q s k) r t last f e m y g = active-heard-made r t last f e m g
+  handle-on-made (UseToken d k) r t last f e m y g = heard-made r _ m y g
+  handle-on-made (ClaimToken first) r t last f e m y g = heard-made r _ m y g
+  handle-on-made (AwaitDataResponse a d) r t last f e m y g = heard-made r _ m y g
+  handle-on-made (PassToken x a) r t last f e m y g = heard-made r _ m y g
+  handle-on-made (CheckTokenPass a) r t last f e m y g = heard-made r _ m y g
+  handle-on-made (AwaitStatusResponse a) r t last f e m y g = heard-made r _ m y g
 
-pub received-all-good : (p : Parameters) (n : ℕ) (c : Core) (r : Ring) (now : Micros) (listening : Bool) (bytes : List ℕ) (m count : ℕ) → CoreGood n c → RingGood p r → HeardGood p n (receivedAll p c r now listening bytes m count)
-unfolding receivedAll
-received-all-good p n c r now listening bytes m count b g =
-    heard-all-good p n _ now listening bytes m count count (heard-good p n c r _ b g)
+  -- receive_all_telegrams
+  listened-telegram-made : {x : State} {c : Core} (r : Ring) (t : Telegram) (last : Bool) → TelegramFits t → ListenEnds E → Came p n now c₀ x c → E x → RingGood p r → HeardMade p n now c₀ E (heardTelegram p (heardOf c r outcome.Bus) now true t last)
+  unfolding heardTelegram listenTelegram heardOf
+  listened-telegram-made r t last f e k y g = listen-on-made _ r t last f e (arrived (rx k)) (rw (rx k .is) y) g
 
-pub consumed-good : (p : Parameters) (n : ℕ) (h : Heard) (count : ℕ) → HeardGood p n h → RingStepGood p n (consumedAll h count)
-unfolding consumedAll
-consumed-good p n h count g = record { good-step = record { step-core = g .heard-core }; good-ring = g .heard-ring }
+  handled-telegram-made : {x : State} {c : Core} (r : Ring) (t : Telegram) (last : Bool) → TelegramFits t → ActiveEnds E → Came p n now c₀ x c → E x → RingGood p r → HeardMade p n now c₀ E (heardTelegram p (heardOf c r outcome.Bus) now false t last)
+  unfolding heardTelegram handleTelegram heardOf
+  handled-telegram-made r t last f e k y g = handle-on-made _ r t last f e (arrived (rx k)) (rw (rx k .is) y) g
 
--- do_listen_token
-listen-token-on-good : (q : OptionAddress) (p : Parameters) (n : ℕ) (c : Core) (r : Ring) (now : Micros) (k : ℕ) (bytes : List ℕ) (m count : ℕ) → CoreGood n c → RingGood p r → RingStepGood p n (listenTokenOn q p c r now k bytes m count)
-unfolding listenTokenOn
-listen-token-on-good optionAddress.None p n c r now k bytes m count b g =
-    consumed-good p n _ count (received-all-good p n c r now true bytes m count b g)
-listen-token-on-good (optionAddress.Some source) p n c r now k bytes m count b g = response-good p n c r now source k b g
+  heard-all-made : {x : State} {c : Core} (r : Ring) (listening : Bool) (bytes : List ℕ) (count i : ℕ) → HearEnds E listening → Came p n now c₀ x c → E x → RingGood p r → HeardMade p n now c₀ E (heardAll p (heardOf c r outcome.Bus) now listening bytes n count i)
+  unfolding heardAll heardTelegram heardOf
+  heard-all-made r listening bytes count zero e k y g = record { heard-moves = k .by; heard-ends = rw (k .is) y; heard-ring = g }
+  heard-all-made r true bytes count (suc i) e k y g =
+      let h = heard-all-made r true bytes count i e k y g in
+      listened-telegram-made _ _ _ (telegram-low bytes n i) e (record { clock = k .clock; start = k .start; by = h .heard-moves; is = refl }) (h .heard-ends) (h .heard-ring)
+  heard-all-made r false bytes count (suc i) e k y g =
+      let h = heard-all-made r false bytes count i e k y g in
+      handled-telegram-made _ _ _ (telegram-low bytes n i) e (record { clock = k .clock; start = k .start; by = h .heard-moves; is = refl }) (h .heard-ends) (h .heard-ring)
 
-listen-after-good : (p : Parameters) (n : ℕ) (c : Core) (r : Ring) (now : Micros) (q : OptionAddress) (k : ℕ) (bytes : List ℕ) (m count : ℕ) (w : Waited) → CoreGood n c → RingGood p r → RingStepGood p n (listenTokenAfter p c r now q k bytes m count w)
-unfolding listenTokenAfter
-listen-after-good p n c r now q k bytes m count w b g =
-    let x = waited-good n c _ b in
-    either (RingStepGood p n) (w .over) _ _ (lost-good p n _ r now x g) (listen-token-on-good q p n _ r now k bytes m count x g)
+  received-made : {x : State} {c : Core} (r : Ring) (listening : Bool) (bytes : List ℕ) (count : ℕ) → HearEnds E listening → Came p n now c₀ x c → E x → RingGood p r → RingMade p n now c₀ E (consumedAll (receivedAll p c r now listening bytes n count) count)
+  unfolding receivedAll consumedAll
+  received-made r listening bytes count e k y g =
+      let h = heard-all-made r listening bytes count count e k y g in
+      record { made-step = record { moves = h .heard-moves; ends = h .heard-ends }; made-ring = h .heard-ring }
 
-pub listen-token-good : (p : Parameters) (n : ℕ) (c : Core) (r : Ring) (now : Micros) (q : OptionAddress) (k : ℕ) (bytes : List ℕ) (m count : ℕ) → CoreGood n c → RingGood p r → RingStepGood p n (listenTokenOf p c r now q k bytes m count)
-unfolding listenTokenOf
-listen-token-good p n c r now q k bytes m count b g = listen-after-good p n c r now q k bytes m count _ b g
+  pub handled-made : {x : State} {c : Core} (r : Ring) (bytes : List ℕ) (count : ℕ) → ActiveEnds E → Came p n now c₀ x c → E x → RingGood p r → RingMade p n now c₀ E (consumedAll (receivedAll p c r now false bytes n count) count)
+  handled-made r bytes count e k y g = received-made r false bytes count e k y g
 
--- do_active_idle
-active-after-good : (p : Parameters) (n : ℕ) (c : Core) (r : Ring) (now : Micros) (source : ℕ) (m : OptionAddress) (k : ℕ) (w : Waited) → Low m → CoreGood n c → RingGood p r → RingStepGood p n (activeResponseAfter p c r now source m k w)
-unfolding activeResponseAfter
-active-after-good p n c r now source m k w l b g =
-    let q = waited-good n c _ b in
-    either (RingStepGood p n) (w .over) _ _
-    (record { good-step = transmit-good p n _ now _ (state-good n _ _ (tt, l) q); good-ring = g })
-    (record { good-step = done-good n _ _ q; good-ring = g })
+  -- do_listen_token
+  listen-token-on-made : {k : ℕ} {c : Core} (q : OptionAddress) (r : Ring) (bytes : List ℕ) (count : ℕ) → ListenedEnds E q k → Came p n now c₀ (ListenToken q k) c → RingGood p r → RingMade p n now c₀ E (listenTokenOn q p c r now k bytes n count)
+  unfolding listenTokenOn
+  listen-token-on-made optionAddress.None r bytes count e m g = received-made r true bytes count e m (e .ends-listen _ _) g
+  listen-token-on-made (optionAddress.Some source) r bytes count e m g = response-made r source e m g
 
-active-response-good : (p : Parameters) (n : ℕ) (c : Core) (r : Ring) (now : Micros) (source : ℕ) (m : OptionAddress) (k : ℕ) → Low m → CoreGood n c → RingGood p r → RingStepGood p n (activeResponse p c r now source m k)
-unfolding activeResponse
-active-response-good p n c r now source m k l b g = active-after-good p n c r now source m k _ l b g
+  pub listen-token-made : {q : OptionAddress} {k : ℕ} {c : Core} (r : Ring) (bytes : List ℕ) (count : ℕ) → ((f : Bool) → E (ClaimToken f)) → ListenedEnds E q k → Came p n now c₀ (ListenToken q k) c → RingGood p r → RingMade p n now c₀ E (listenTokenOf p c r now q k bytes n count)
+  unfolding listenTokenOf listenTokenAfter
+  listen-token-made {q} {c = c} r bytes count f e m g =
+      either (RingMade p n now c₀ E) (tokenLostWaitOf p (c .«last_bus_activity») now .over) _ _ (lost-made r f refl (waited-known c _) (lost-asked m) g)
+      (listen-token-on-made q r bytes count e (lost-asked m) g)
 
-active-on-good : (q : OptionAddress) (p : Parameters) (n : ℕ) (c : Core) (r : Ring) (now : Micros) (m : OptionAddress) (k : ℕ) (bytes : List ℕ) (a count : ℕ) → Low m → CoreGood n c → RingGood p r → RingStepGood p n (activeIdleOn q p c r now m k bytes a count)
-unfolding activeIdleOn
-active-on-good optionAddress.None p n c r now m k bytes a count l b g =
-    consumed-good p n _ count (received-all-good p n c r now false bytes a count b g)
-active-on-good (optionAddress.Some source) p n c r now m k bytes a count l b g = active-response-good p n c r now source m k l b g
+  -- do_active_idle
+  active-response-made : {q s : OptionAddress} {k : ℕ} {c : Core} (r : Ring) (source : ℕ) → ActiveEnds E → Came p n now c₀ (ActiveIdle q s k) c → RingGood p r → RingMade p n now c₀ E (activeResponse p c r now source s k)
+  unfolding activeResponse activeResponseAfter
+  active-response-made {s = s} {k = k} {c = c} r source e m g =
+      either (RingMade p n now c₀ E) (pauseOf p (c .«last_bus_activity») now .over) _ _
+      (record { made-step = transmit-made _ (lit≤ tt) (idle-fields optionAddress.None s k tt (addressed-at m .1) (collided-at m) (paused m)) (e .ends-idle _ _ _); made-ring = g })
+      (record { made-step = done-made _ (paused m) (e .ends-idle _ _ _); made-ring = g })
 
-idle-after-good : (p : Parameters) (n : ℕ) (c : Core) (r : Ring) (now : Micros) (q m : OptionAddress) (k : ℕ) (bytes : List ℕ) (a count : ℕ) (w : Waited) → Low m → CoreGood n c → RingGood p r → RingStepGood p n (activeIdleAfter p c r now q m k bytes a count w)
-unfolding activeIdleAfter
-idle-after-good p n c r now q m k bytes a count w l b g =
-    let x = waited-good n c _ b in
-    either (RingStepGood p n) (w .over) _ _ (lost-good p n _ r now x g) (active-on-good q p n _ r now m k bytes a count l x g)
+  active-idle-on-made : {s : OptionAddress} {k : ℕ} {c : Core} (q : OptionAddress) (r : Ring) (bytes : List ℕ) (count : ℕ) → ActiveEnds E → Came p n now c₀ (ActiveIdle q s k) c → RingGood p r → RingMade p n now c₀ E (activeIdleOn q p c r now s k bytes n count)
+  unfolding activeIdleOn
+  active-idle-on-made optionAddress.None r bytes count e m g = received-made r false bytes count e m (e .ends-idle _ _ _) g
+  active-idle-on-made (optionAddress.Some source) r bytes count e m g = active-response-made r source e m g
 
-pub active-idle-good : (p : Parameters) (n : ℕ) (c : Core) (r : Ring) (now : Micros) (q m : OptionAddress) (k : ℕ) (bytes : List ℕ) (a count : ℕ) → Low m → CoreGood n c → RingGood p r → RingStepGood p n (activeIdleOf p c r now q m k bytes a count)
-unfolding activeIdleOf
-active-idle-good p n c r now q m k bytes a count l b g = idle-after-good p n c r now q m k bytes a count _ l b g
+  pub active-idle-made : {q s : OptionAddress} {k : ℕ} {c : Core} (r : Ring) (bytes : List ℕ) (count : ℕ) → ((f : Bool) → E (ClaimToken f)) → ActiveEnds E → Came p n now c₀ (ActiveIdle q s k) c → RingGood p r → RingMade p n now c₀ E (activeIdleOf p c r now q s k bytes n count)
+  unfolding activeIdleOf activeIdleAfter
+  active-idle-made {q} {c = c} r bytes count f e m g =
+      either (RingMade p n now c₀ E) (tokenLostWaitOf p (c .«last_bus_activity») now .over) _ _ (lost-made r f refl (waited-known c _) (lost-asked m) g)
+      (active-idle-on-made q r bytes count e (lost-asked m) g)

@@ -1,28 +1,37 @@
--- What the steps of station_pass, station_await_status and station_check_pass keep.
+-- What the steps of station_pass, station_await_status and station_check_pass come to.
 use Prim.Native.Nat.{ℕ}
-use mathlib.Core.Bool.{Bool, false}
+use mathlib.Core.Bool.{Bool, true, false}
+use mathlib.Core.Path.{_≡_, refl}
 use mathlib.Core.List.{List}
 use native.Mathlib.Omega.{arith}
-use lib.Dec.{ltb, eqb}
+use borrow.Author.Tests.{ltb-false}
+use lib.Dec.{ltb, eqb, lit≤}
 use Rattle.bit_times.specs.declared.Micros.{Micros}
 use Rattle.settings.specs.declared.Parameters.{Parameters}
 use Rattle.ring.specs.declared.Ring.{Ring}
 use Rattle.ring.specs.declared.GapState.{GapState}
 use Rattle.ring.specs.declared.GapState.the-variants.{Waiting, DoPoll}
-use Rattle.ring.specs.Ring.{nextOf}
+use Rattle.ring.specs.Ring.{nextOf, candidateOf, polls, gapOf}
 use Rattle.codec_telegrams.specs.declared.ResponseState.{ResponseState}
 use Rattle.codec_telegrams.specs.declared.ResponseState.the-variants.{Slave, MasterNotReady, MasterWithoutToken, MasterInRing}
 use Rattle.codec_telegrams.specs.declared.Telegram.{Telegram}
 use Rattle.codec_telegrams.specs.declared.Telegram.the-variants as telegram
+use Rattle.station.specs.declared.OptionAddress.the-variants as optionAddress
+use Rattle.station.specs.declared.UseTokenData.{UseTokenData}
 use Rattle.station.specs.declared.PassTokenAttempt.{PassTokenAttempt}
 use Rattle.station.specs.declared.PassTokenAttempt.the-variants.{First, Second, Third}
+use Rattle.station.specs.declared.State.{State}
+use Rattle.station.specs.declared.State.the-variants.{ActiveIdle, UseToken, PassToken, CheckTokenPass, AwaitStatusResponse}
 use Rattle.station.specs.declared.Core.{Core}
-use Rattle.station.specs.declared.Waited.{Waited}
+use Rattle.station.specs.Parts.{withState, withActivity}
+use Rattle.station.specs.Steps.{toPassToken, knownAt, pauseOf, slotExpiredOf}
 use Rattle.station_pass.specs.Pass.{gapAdvanced, passSent, passSend, passPollOn, passPoll, passAfter, passTokenOf}
 use Rattle.station_await_status.specs.AwaitStatus.{statusRingOn, statusRing, statusAnswered, statusUnexpected, statusReceived, statusTimeout, awaitStatusAfter, awaitStatusOf}
 use Rattle.station_check_pass.specs.CheckPass.{resendOf, checkReceived, checkAfter, checkTokenPassOf}
-use Rattle.theorem_sound.specs.Keeps.{GapAddressed, RingGood, CoreGood, RingStepGood, either, gap-low, add-good, remove-good, witness-good, waited-good, gap-good, rx-good, idle-good, use-good, pass-good, check-good, await-status-good, done-good, transmit-good}
-use Rattle.theorem_sound.specs.Listen.{received-all-good, consumed-good}
+use Rattle.theorem_sound.specs.Moves.{GapAddressed, GapCounted}
+use Rattle.theorem_sound.specs.Keeps.{RingGood, either, decided, gap-low, add-good, remove-good, witness-good}
+use Rattle.theorem_sound.specs.Walk.{Came, RingMade, sound-at, known-here, new-token, paused, slotted, waited-known, rx, gap-turned, to-idle, to-use, to-pass, to-check, to-await-status, done-made, transmit-made}
+use Rattle.theorem_sound.specs.Listen.{ActiveEnds, handled-made}
 
 -- do_pass_token: the gap's turn
 pub advanced-good : (p : Parameters) (r : Ring) (s : GapState) → RingGood p r → GapAddressed (gapAdvanced p r s)
@@ -30,41 +39,17 @@ unfolding gapAdvanced
 advanced-good p r (Waiting count) g = either GapAddressed (ltb (p .«gap_wait_rotations») count) _ _ (gap-low r _ _ (g .sound)) tt
 advanced-good p r (DoPoll current) g = gap-low r _ _ (g .sound)
 
--- do_pass_token
-sent-good : (p : Parameters) (n : ℕ) (c : Core) (now : Micros) (k : PassTokenAttempt) (next : ℕ) (r : Ring) → CoreGood n c → RingGood p r → RingStepGood p n (passSent p c now k next r)
-unfolding passSent
-sent-good p n c now k next r b g =
-    either (RingStepGood p n) (eqb (nextOf r) (p .address)) _ _
-    (record { good-step = transmit-good p n _ now _ (use-good n c _ b); good-ring = g })
-    (record { good-step = transmit-good p n _ now _ (check-good n c k b); good-ring = g })
+gap-counted : (p : Parameters) (r : Ring) (a hsa : ℕ) → GapCounted p (gapOf r a hsa)
+unfolding gapOf
+gap-counted p r a hsa = either (GapCounted p) (polls r (candidateOf a hsa)) _ _ tt (omega arith)
 
-send-good : (p : Parameters) (n : ℕ) (c : Core) (r : Ring) (now : Micros) (k : PassTokenAttempt) → CoreGood n c → RingGood p r → RingStepGood p n (passSend p c r now k)
-unfolding passSend
-send-good p n c r now k b g = sent-good p n c now k _ _ b (witness-good p r _ _ g)
+advanced-counted : (p : Parameters) (r : Ring) (s : GapState) → GapCounted p (gapAdvanced p r s)
+unfolding gapAdvanced
+advanced-counted p r (Waiting count) =
+    decided (GapCounted p) (ltb (p .«gap_wait_rotations») count) _ _ (λ e. gap-counted p r _ _) (λ e. omega (arith, ltb-false (p .«gap_wait_rotations») count e))
+advanced-counted p r (DoPoll current) = gap-counted p r _ _
 
-poll-on-good : (s : GapState) (p : Parameters) (n : ℕ) (c : Core) (r : Ring) (now : Micros) (k : PassTokenAttempt) → GapAddressed s → CoreGood n c → RingGood p r → RingStepGood p n (passPollOn s p c r now k)
-unfolding passPollOn
-poll-on-good (Waiting count) p n c r now k l b g = send-good p n c r now k b g
-poll-on-good (DoPoll current) p n c r now k l b g =
-    record { good-step = transmit-good p n _ now _ (await-status-good n c current (omega arith) b); good-ring = g }
-
-poll-good : (p : Parameters) (n : ℕ) (c : Core) (r : Ring) (now : Micros) (k : PassTokenAttempt) → CoreGood n c → RingGood p r → RingStepGood p n (passPoll p c r now k)
-unfolding passPoll
-poll-good p n c r now k b g = poll-on-good (c .«gap_state») p n c r now k (b .gap-addressed) b g
-
-after-good : (p : Parameters) (n : ℕ) (c : Core) (r : Ring) (now : Micros) (gap : Bool) (k : PassTokenAttempt) (w : Waited) → CoreGood n c → RingGood p r → RingStepGood p n (passAfter p c r now gap k w)
-unfolding passAfter
-after-good p n c r now gap k w b g =
-    let q = waited-good n c _ b in
-    either (RingStepGood p n) (w .over) _ _
-    (either (RingStepGood p n) gap _ _ (poll-good p n _ r now k (gap-good n _ _ (advanced-good p r (c .«gap_state») g) q) g) (send-good p n _ r now k q g))
-    (record { good-step = done-good n _ _ q; good-ring = g })
-
-pub pass-token-good : (p : Parameters) (n : ℕ) (c : Core) (r : Ring) (now : Micros) (gap : Bool) (k : PassTokenAttempt) → CoreGood n c → RingGood p r → RingStepGood p n (passTokenOf p c r now gap k)
-unfolding passTokenOf
-pass-token-good p n c r now gap k b g = after-good p n c r now gap k _ b g
-
--- do_await_status_response
+-- do_await_status_response: the ring
 status-on-good : (s : ResponseState) (p : Parameters) (r : Ring) (a : ℕ) → RingGood p r → RingGood p (statusRingOn s r a)
 unfolding statusRingOn
 status-on-good Slave p r a g = g
@@ -76,58 +61,80 @@ status-ring-good : (p : Parameters) (r : Ring) (a : ℕ) (s : ResponseState) (st
 unfolding statusRing
 status-ring-good p r a s status g = either (RingGood p) (eqb status 0) _ _ (status-on-good s p r a g) g
 
-answered-good : (p : Parameters) (n : ℕ) (c : Core) (r : Ring) → CoreGood n c → RingGood p r → RingStepGood p n (statusAnswered c r)
-unfolding statusAnswered
-answered-good p n c r b g = record { good-step = record { step-core = pass-good n c _ _ b }; good-ring = g }
+-- where a token pass may end: with the token, if alone; checking the pass; with a gap question, if it looks at the gap; and where it was,
+-- if the pause is not over
+pub record PassEnds (E : State → Type 0) (gap : Bool) : Type 0 where
+  pub ends-alone : (held : UseTokenData) → E (UseToken held false)
+  pub ends-check : (attempt : PassTokenAttempt) → E (CheckTokenPass attempt)
+  pub ends-asking : gap ≡ true → (a : ℕ) → E (AwaitStatusResponse a)
 
-unexpected-good : (p : Parameters) (n : ℕ) (c : Core) (r : Ring) → CoreGood n c → RingGood p r → RingStepGood p n (statusUnexpected c r)
-unfolding statusUnexpected
-unexpected-good p n c r b g = record { good-step = record { step-core = idle-good n c b }; good-ring = g }
+module _ {p : Parameters} {n : ℕ} {now : Micros} {c₀ : Core} {E : State → Type 0} where
+  -- do_pass_token
+  send-made : {gap : Bool} {attempt : PassTokenAttempt} {c : Core} (r : Ring) → PassEnds E gap → Came p n now c₀ (PassToken gap attempt) c → RingGood p r → RingMade p n now c₀ E (passSend p c r now attempt)
+  unfolding passSend passSent
+  send-made {attempt = attempt} r e k g =
+      let w = witness-good p r (p .address) (nextOf r) g in
+      either (RingMade p n now c₀ E) (eqb (nextOf _) (p .address)) _ _
+      (record { made-step = transmit-made _ (lit≤ tt) (to-use _ refl (new-token n now (k .clock)) k) (e .ends-alone _); made-ring = w })
+      (record { made-step = transmit-made _ (lit≤ tt) (to-check attempt refl k) (e .ends-check _); made-ring = w })
 
-received-good : (p : Parameters) (n : ℕ) (c : Core) (r : Ring) (a : ℕ) (t : Telegram) → CoreGood n c → RingGood p r → RingStepGood p n (statusReceived p c r a t)
-unfolding statusReceived
-received-good p n c r a (telegram.Token destination source) b g = unexpected-good p n c r b g
-received-good p n c r a telegram.ShortConfirmation b g = unexpected-good p n c r b g
-received-good p n c r a (telegram.Request destination source asks) b g = unexpected-good p n c r b g
-received-good p n c r a (telegram.Response destination source state status) b g =
-    either (RingStepGood p n) (eqb source a) _ _
-    (either (RingStepGood p n) (eqb destination (p .address)) _ _ (answered-good p n c _ b (status-ring-good p r a state status g)) (unexpected-good p n c r b g))
-    (unexpected-good p n c r b g)
+  poll-on-made : {attempt : PassTokenAttempt} {c : Core} (s : GapState) (r : Ring) → GapAddressed s → PassEnds E true → Came p n now c₀ (PassToken true attempt) c → RingGood p r → RingMade p n now c₀ E (passPollOn s p c r now attempt)
+  unfolding passPollOn
+  poll-on-made (Waiting count) r l e k g = send-made r e k g
+  poll-on-made (DoPoll current) r l e k g =
+      record { made-step = transmit-made _ (lit≤ tt) (to-await-status current refl (omega arith) k) (e .ends-asking refl _); made-ring = g }
 
-timeout-good : (p : Parameters) (n : ℕ) (c : Core) (r : Ring) (now : Micros) → CoreGood n c → RingGood p r → RingStepGood p n (statusTimeout p c r now)
-unfolding statusTimeout
-timeout-good p n c r now b g = pass-token-good p n _ r now false First (pass-good n c _ _ b) g
+  pub pass-token-made : {attempt : PassTokenAttempt} {c : Core} (gap : Bool) (r : Ring) → PassEnds E gap → (pauseOf p (c .«last_bus_activity») now .over ≡ false → E (PassToken gap attempt)) → Came p n now c₀ (PassToken gap attempt) c → RingGood p r → RingMade p n now c₀ E (passTokenOf p c r now gap attempt)
+  unfolding passTokenOf passAfter passPoll
+  pass-token-made {c = c} true r e u k g =
+      let t = gap-turned _ (advanced-good p r (c .«gap_state») g) (advanced-counted p r (c .«gap_state»)) (paused k) in
+      decided (RingMade p n now c₀ E) (pauseOf p (c .«last_bus_activity») now .over) _ _ (λ o. poll-on-made _ r (sound-at t .gap-address) e t g)
+      (λ o. record { made-step = done-made _ (paused k) (u o); made-ring = g })
+  pass-token-made {c = c} false r e u k g =
+      decided (RingMade p n now c₀ E) (pauseOf p (c .«last_bus_activity») now .over) _ _ (λ o. send-made r e (paused k) g)
+      (λ o. record { made-step = done-made _ (paused k) (u o); made-ring = g })
 
-await-after-good : (p : Parameters) (n : ℕ) (c : Core) (r : Ring) (now : Micros) (w : Waited) → CoreGood n c → RingGood p r → RingStepGood p n (awaitStatusAfter p c r now w)
-unfolding awaitStatusAfter
-await-after-good p n c r now w b g =
-    let q = waited-good n c _ b in
-    either (RingStepGood p n) (w .over) _ _ (timeout-good p n _ r now q g) (record { good-step = done-good n _ _ q; good-ring = g })
+  -- do_await_status_response
+  answered-made : {a : ℕ} {c : Core} (r : Ring) → E (PassToken false First) → Came p n now c₀ (AwaitStatusResponse a) c → RingGood p r → RingMade p n now c₀ E (statusAnswered c r)
+  unfolding statusAnswered
+  answered-made r e k g =
+      let q = to-pass false First refl k in
+      record { made-step = record { moves = q .by; ends = rw (q .is) e }; made-ring = g }
 
-pub await-status-step-good : (p : Parameters) (n : ℕ) (c : Core) (r : Ring) (now : Micros) (a : ℕ) (bytes : List ℕ) (m count : ℕ) → CoreGood n c → RingGood p r → RingStepGood p n (awaitStatusOf p c r now a bytes m count)
-unfolding awaitStatusOf
-await-status-step-good p n c r now a bytes m count b g =
-    either (RingStepGood p n) (ltb 0 count) _ _ (received-good p n _ r a _ (rx-good n c now b) g) (await-after-good p n c r now _ b g)
+  unexpected-made : {a : ℕ} {c : Core} (r : Ring) → E (ActiveIdle optionAddress.None optionAddress.None 0) → Came p n now c₀ (AwaitStatusResponse a) c → RingGood p r → RingMade p n now c₀ E (statusUnexpected c r)
+  unfolding statusUnexpected
+  unexpected-made r e k g =
+      let q = to-idle refl (known-here k) k in
+      record { made-step = record { moves = q .by; ends = rw (q .is) e }; made-ring = g }
 
--- do_check_token_pass
-resend-good : (p : Parameters) (n : ℕ) (c : Core) (r : Ring) (now : Micros) (k : PassTokenAttempt) → CoreGood n c → RingGood p r → RingStepGood p n (resendOf p c r now k)
-unfolding resendOf
-resend-good p n c r now First b g = pass-token-good p n _ r now false Second (pass-good n c _ _ b) g
-resend-good p n c r now Second b g = pass-token-good p n _ r now false Third (pass-good n c _ _ b) g
-resend-good p n c r now Third b g = pass-token-good p n _ _ now false First (pass-good n c _ _ b) (remove-good p r (nextOf r) g)
+  status-made : {a : ℕ} {c : Core} (r : Ring) (t : Telegram) → E (PassToken false First) → E (ActiveIdle optionAddress.None optionAddress.None 0) → Came p n now c₀ (AwaitStatusResponse a) c → RingGood p r → RingMade p n now c₀ E (statusReceived p c r a t)
+  unfolding statusReceived
+  status-made r (telegram.Token destination source) e i k g = unexpected-made r i k g
+  status-made r telegram.ShortConfirmation e i k g = unexpected-made r i k g
+  status-made r (telegram.Request destination source asks) e i k g = unexpected-made r i k g
+  status-made {a} r (telegram.Response destination source state status) e i k g =
+      either (RingMade p n now c₀ E) (eqb source a) _ _
+      (either (RingMade p n now c₀ E) (eqb destination (p .address)) _ _ (answered-made _ e k (status-ring-good p r a state status g)) (unexpected-made r i k g))
+      (unexpected-made r i k g)
 
-check-received-good : (p : Parameters) (n : ℕ) (c : Core) (r : Ring) (now : Micros) (bytes : List ℕ) (m count : ℕ) → CoreGood n c → RingGood p r → RingStepGood p n (checkReceived p c r now bytes m count)
-unfolding checkReceived
-check-received-good p n c r now bytes m count b g =
-    either (RingStepGood p n) (ltb 0 count) _ _ (consumed-good p n _ count (received-all-good p n _ r now false bytes m count (idle-good n c b) g))
-    (record { good-step = done-good n c _ b; good-ring = g })
+  pub await-status-made : {a : ℕ} {c : Core} (r : Ring) (bytes : List ℕ) (count : ℕ) → PassEnds E false → E (PassToken false First) → E (ActiveIdle optionAddress.None optionAddress.None 0) → E (AwaitStatusResponse a) → Came p n now c₀ (AwaitStatusResponse a) c → RingGood p r → RingMade p n now c₀ E (awaitStatusOf p c r now a bytes n count)
+  unfolding awaitStatusOf awaitStatusAfter statusTimeout
+  await-status-made {c = c} r bytes count e f i y k g =
+      either (RingMade p n now c₀ E) (ltb 0 count) _ _ (status-made r _ f i (rx k) g)
+      (either (RingMade p n now c₀ E) (slotExpiredOf p (c .«last_bus_activity») now .over) _ _ (pass-token-made false r e (λ o. f) (to-pass false First refl (slotted k)) g)
+      (record { made-step = done-made _ (slotted k) y; made-ring = g }))
 
-check-after-good : (p : Parameters) (n : ℕ) (c : Core) (r : Ring) (now : Micros) (k : PassTokenAttempt) (bytes : List ℕ) (m count : ℕ) (w : Waited) → CoreGood n c → RingGood p r → RingStepGood p n (checkAfter p c r now k bytes m count w)
-unfolding checkAfter
-check-after-good p n c r now k bytes m count w b g =
-    let q = waited-good n c _ b in
-    either (RingStepGood p n) (w .over) _ _ (resend-good p n _ r now k q g) (check-received-good p n _ r now bytes m count q g)
+  -- do_check_token_pass
+  resend-made : {c : Core} (attempt : PassTokenAttempt) (r : Ring) → PassEnds E false → (pauseOf p (c .«last_bus_activity») now .over ≡ false → (k : PassTokenAttempt) → E (PassToken false k)) → Came p n now c₀ (CheckTokenPass attempt) c → RingGood p r → RingMade p n now c₀ E (resendOf p c r now attempt)
+  unfolding resendOf toPassToken withState
+  resend-made First r e u k g = pass-token-made false r e (λ o. u o Second) (to-pass false Second refl k) g
+  resend-made Second r e u k g = pass-token-made false r e (λ o. u o Third) (to-pass false Third refl k) g
+  resend-made Third r e u k g = pass-token-made false _ e (λ o. u o First) (to-pass false First refl k) (remove-good p r (nextOf r) g)
 
-pub check-token-good : (p : Parameters) (n : ℕ) (c : Core) (r : Ring) (now : Micros) (k : PassTokenAttempt) (bytes : List ℕ) (m count : ℕ) → CoreGood n c → RingGood p r → RingStepGood p n (checkTokenPassOf p c r now k bytes m count)
-unfolding checkTokenPassOf
-check-token-good p n c r now k bytes m count b g = check-after-good p n c r now k bytes m count _ b g
+  pub check-token-made : {c : Core} (attempt : PassTokenAttempt) (r : Ring) (bytes : List ℕ) (count : ℕ) → PassEnds E false → ActiveEnds E → (slotExpiredOf p (c .«last_bus_activity») now .over ≡ true → pauseOf p (c .«last_bus_activity») now .over ≡ false → (k : PassTokenAttempt) → E (PassToken false k)) → Came p n now c₀ (CheckTokenPass attempt) c → RingGood p r → RingMade p n now c₀ E (checkTokenPassOf p c r now attempt bytes n count)
+  unfolding checkTokenPassOf checkAfter checkReceived slotExpiredOf pauseOf knownAt withActivity
+  check-token-made {c} attempt r bytes count e h u k g =
+      let q = slotted k in
+      decided (RingMade p n now c₀ E) (slotExpiredOf p (c .«last_bus_activity») now .over) _ _ (λ o. resend-made attempt r e (u o) q g)
+      (λ o. either (RingMade p n now c₀ E) (ltb 0 count) _ _ (handled-made r bytes count h (to-idle refl (waited-known c (knownAt (c .«last_bus_activity») now)) q) (h .ends-idle _ _ _) g)
+      (record { made-step = done-made _ q (e .ends-check attempt); made-ring = g }))

@@ -2,18 +2,22 @@
 -- polls and commands makes of it.
 use Prim.Native.Nat.{ℕ, _<_, _≤_}
 use mathlib.Core.Bool.{Bool, true, false, cond}
-use mathlib.Core.Path.{_≡_, refl}
+use mathlib.Core.Path.{_≡_, refl, sym, subst}
+use mathlib.Core.Logic.{inl}
 use mathlib.Core.List.{List, [], _∷_}
 use native.Mathlib.Omega.{arith}
 use borrow.Author.Tests.{eqb-true}
-use lib.Dec.{eqb}
+use lib.Dec.{eqb, lit<}
 use Rattle.bit_times.specs.declared.Micros.{Micros}
 use Rattle.settings.specs.declared.Parameters.{Parameters}
 use Rattle.settings.specs.Rules.{applicationsRefusal}
 use Rattle.settings.specs.RuleLaws.{outside-in}
 use Rattle.ring.specs.declared.Ring.{Ring}
 use Rattle.ring.specs.Laws.{SoundRing}
-use Rattle.codec_records.specs.Records.{recordRefusal}
+use Rattle.codec_records.specs.Records.{headOf, recordRefusal}
+use Rattle.codec_records.specs.Laws.{clock-below}
+use Rattle.codec_answers.specs.declared.Outcome.the-variants as outcome
+use Rattle.station.specs.declared.OptionAddress.the-variants as optionAddress
 use Rattle.station.specs.declared.State.{State}
 use Rattle.station.specs.declared.State.the-variants.{Offline, ListenToken, ActiveIdle, UseToken, ClaimToken, AwaitDataResponse, PassToken, CheckTokenPass, AwaitStatusResponse}
 use Rattle.station.specs.declared.Core.{Core}
@@ -21,27 +25,35 @@ use Rattle.station.specs.declared.Station.{Station}
 use Rattle.station.specs.declared.Started.{Started}
 use Rattle.station.specs.declared.Started.the-variants as started
 use Rattle.station.specs.declared.RingStep.{RingStep}
-use Rattle.station.specs.Parts.{freshStation, newStation}
-use Rattle.station.specs.Steps.{ongoingOf}
+use Rattle.station.specs.Parts.{zeroTime, withOnline, freshCore, freshStation, newStation, stateNumber}
+use Rattle.station.specs.Steps.{ongoingOf, busActivityOf, doneOf}
 use Rattle.station_answer.specs.declared.Polled.{Polled}
 use Rattle.station_poll.specs.Poll.{connectedOn, connectedOf, dispatchOn, dispatchOf, pollOnline, pollInner, acceptedAfter, acceptedPoll, pollOf}
 use Rattle.station_answer.specs.Answer.{polledOf, refusedPoll}
 use Rattle.station_command.specs.Command.{onlineOf, offlineOf, passiveOf}
-use Rattle.theorem_sound.specs.Keeps.{Addressed, GapAddressed, RingGood, CoreGood, RingStepGood, either, fresh-good, again-good, waited-good, online-good, listen-good, fresh-core-good, again-core-good, done-good, bus-good, claim-token-good}
-use Rattle.theorem_sound.specs.Hold.{use-token-good, await-data-step-good}
-use Rattle.theorem_sound.specs.Listen.{listen-token-good, active-idle-good}
-use Rattle.theorem_sound.specs.Pass.{pass-token-good, await-status-step-good, check-token-good}
+use Rattle.theorem_sound.specs.Moves.{lists, Clock, Moves, none, then, goes-offline, goes-online}
+use Rattle.theorem_sound.specs.Lines.{SoundCore}
+use Rattle.theorem_sound.specs.Kept.{not-true, moves-keep}
+use Rattle.theorem_sound.specs.Follows.{reached, FirstAttempt, SlotCoversPause, Follows, covered}
+use Rattle.theorem_sound.specs.Keeps.{RingGood, either, fresh-good, again-good}
+use Rattle.theorem_sound.specs.Walk.{Came, RingMade, arrived, sound-at, marked, bus, to-listen, done-made}
+use Rattle.theorem_sound.specs.Hold.{use-token-made, await-data-made}
+use Rattle.theorem_sound.specs.Listen.{claim-token-made, listen-token-made, active-idle-made}
+use Rattle.theorem_sound.specs.Pass.{pass-token-made, await-status-made, check-token-made}
 
--- A sound station: its ring is sound and has the settings' address for its own, there are 1 to 8 applications, the next one to
--- be asked is one of them, the addresses that its state holds are below 128, and the one that its gap state polls is below 126.
+-- A sound station.
 pub record SoundStation (s : Station) : Type 0 where
+  -- its ring is sound
   pub ring-sound : SoundRing (s .«token_ring»)
+  -- and has the settings' address for its own
   pub own-is : s .«token_ring» .own ≡ s .p .address
+  -- there are 1 to 8 applications
   pub some : 1 ≤ s .applications
   pub eight : s .applications ≤ 8
-  pub next-one : s .core .«next_application» < s .applications
-  pub addresses : Addressed (s .core .state)
-  pub gap-address : GapAddressed (s .core .«gap_state»)
+  -- a token pass stands at its first attempt, where the slot is not shorter than the pause
+  pub first-attempt : SlotCoversPause (s .p) → FirstAttempt (s .core .state)
+  -- its core is sound: see SoundCore, in Lines.antt, for the lines
+  pub core-sound : SoundCore (s .p) (s .applications) (s .core)
 
 -- what `new` gives is a sound station or none
 abbrev pub SoundStarted : Started → Type 0
@@ -67,117 +79,222 @@ unfoldable pub run : Station → List Call → Station
 run s [] = s
 run s (c ∷ cs) = run (after s c) cs
 
+-- a record's clock is a time of a clock
+pub clock-fits : (bytes : List ℕ) → Clock (record { 0 = headOf bytes .clock })
+clock-fits bytes = clock-below bytes
+
+-- the clock of a call: a poll's, and none for a command
+abbrev pub clockOf : Call → Micros
+clockOf (poll bytes) = record { 0 = headOf bytes .clock }
+clockOf online = zeroTime
+clockOf offline = zeroTime
+clockOf passive = zeroTime
+
+-- a state that the table has
+goes : {p : Parameters} {x y : State} → lists (reached x) (stateNumber y) ≡ true → FirstAttempt y → Follows p x y
+goes i f = record { in-table = λ s. i; at-first = λ s. f }
+
 -- a poll's part of it
-connected-on-good : (x : State) (n : ℕ) (c : Core) → CoreGood n c → CoreGood n (connectedOn x c)
-unfolding connectedOn
-connected-on-good Offline n c b = listen-good n c b
-connected-on-good (ListenToken q k) n c b = b
-connected-on-good (ActiveIdle q m k) n c b = b
-connected-on-good (UseToken d k) n c b = b
-connected-on-good (ClaimToken f) n c b = b
-connected-on-good (AwaitDataResponse a d) n c b = b
-connected-on-good (PassToken x a) n c b = b
-connected-on-good (CheckTokenPass a) n c b = b
-connected-on-good (AwaitStatusResponse a) n c b = b
+module _ {p : Parameters} {n : ℕ} {now : Micros} {c₀ : Core} where
+  -- an online station leaves Offline before anything else
+  connected-came : (x : State) {c : Core} → c .online ≡ true → Came p n now c₀ x c → Came p n now c₀ (connectedOn x c .state) (connectedOn x c)
+  unfolding connectedOn
+  connected-came Offline o k = arrived (to-listen refl o k)
+  connected-came (ListenToken q i) o k = arrived k
+  connected-came (ActiveIdle q m i) o k = arrived k
+  connected-came (UseToken d i) o k = arrived k
+  connected-came (ClaimToken f) o k = arrived k
+  connected-came (AwaitDataResponse a d) o k = arrived k
+  connected-came (PassToken x a) o k = arrived k
+  connected-came (CheckTokenPass a) o k = arrived k
+  connected-came (AwaitStatusResponse a) o k = arrived k
 
-pub connected-good : (n : ℕ) (c : Core) → CoreGood n c → CoreGood n (connectedOf c)
+  -- what a poll comes to by what its dispatch does, from the state x
+  poll-online-made : {E : State → Type 0} {x : State} {c : Core} (r : Ring) (t : Bool) (pending : ℕ) (bytes : List ℕ) (count : ℕ) → E x → ((d : Core) → Came p n now c₀ x d → RingMade p n now c₀ E (dispatchOn x p d r now bytes n count)) → Came p n now c₀ x c → RingGood p r → RingMade p n now c₀ E (pollOnline p c r now t pending bytes n count)
+  unfolding pollOnline dispatchOf
+  poll-online-made {E} {x} {c} r t pending bytes count y dispatch k g =
+      let d = busActivityOf c now pending in
+      either (RingMade p n now c₀ E) (ongoingOf (c .«last_bus_activity») now t) _ _ (record { made-step = done-made _ (marked k) y; made-ring = g })
+      (subst (λ (z : State). RingMade p n now c₀ E (dispatchOn z p d r now bytes n count)) (sym (bus pending k .is)) (dispatch d (bus pending k)))
+
+  -- what a poll comes to, by the state before it
+  connected-made : (x : State) {c : Core} (r : Ring) (t : Bool) (pending : ℕ) (bytes : List ℕ) (count : ℕ) → (SlotCoversPause p → FirstAttempt x) → c .online ≡ true → Came p n now c₀ x c → RingGood p r → RingMade p n now c₀ (Follows p x) (pollOnline p (connectedOn x c) r now t pending bytes n count)
+  unfolding connectedOn dispatchOn
+  connected-made Offline r t pending bytes count f o k g =
+      poll-online-made r t pending bytes count (goes refl tt)
+      (λ d m. listen-token-made r bytes count (λ b. goes refl tt) (record { ends-offline = goes refl tt; ends-listen = λ q i. goes refl tt }) m g)
+      (to-listen refl o k) g
+  connected-made (ListenToken optionAddress.None i) r t pending bytes count f o k g =
+      poll-online-made r t pending bytes count (goes refl tt)
+      (λ d m. listen-token-made r bytes count (λ b. goes refl tt) (record { ends-offline = goes refl tt; ends-listen = λ q i. goes refl tt }) m g) k g
+  connected-made (ListenToken (optionAddress.Some a) i) r t pending bytes count f o k g =
+      poll-online-made r t pending bytes count (goes refl tt)
+      (λ d m. listen-token-made r bytes count (λ b. goes refl tt) (goes refl tt, goes refl tt, goes refl tt) m g) k g
+  connected-made (ActiveIdle q m i) r t pending bytes count f o k g =
+      poll-online-made r t pending bytes count (goes refl tt)
+      (λ d m. active-idle-made r bytes count (λ b. goes refl tt)
+      (record { ends-idle = λ q m i. goes refl tt; ends-accepted = λ held. goes refl tt; ends-left = goes refl tt }) m g)
+      k g
+  connected-made (UseToken d i) r t pending bytes count f o k g =
+      poll-online-made r t pending bytes count (goes refl tt)
+      (λ d m. record { made-step = use-token-made i bytes (record { ends-use = λ held cycled. goes refl tt; ends-await = λ a held. goes refl tt; ends-pass = goes refl refl }) m; made-ring = g }) k g
+  connected-made (ClaimToken b) r t pending bytes count f o k g =
+      poll-online-made r t pending bytes count (goes refl tt) (λ d m. claim-token-made r (λ b. goes refl tt) (λ e held. goes refl tt) m g) k g
+  connected-made (AwaitDataResponse a d) r t pending bytes count f o k g =
+      poll-online-made r t pending bytes count (goes refl tt)
+      (λ d m. record { made-step = await-data-made bytes count (record { ends-use = λ held cycled. goes refl tt; ends-await = λ a held. goes refl tt; ends-pass = goes refl refl }) (goes refl tt) m; made-ring = g })
+      k g
+  connected-made (PassToken gap a) r t pending bytes count f o k g =
+      poll-online-made r t pending bytes count (record { in-table = λ s. refl; at-first = f })
+      (λ d m. pass-token-made gap r
+      (record { ends-alone = λ held. goes refl tt; ends-check = λ j. goes refl tt; ends-asking = λ e a. goes refl tt })
+      (λ u. record { in-table = λ s. refl; at-first = f }) m g)
+      k g
+  connected-made (CheckTokenPass a) r t pending bytes count f o k g =
+      poll-online-made r t pending bytes count (goes refl tt)
+      (λ d m. check-token-made a r bytes count
+      (record { ends-alone = λ held. goes refl tt; ends-check = λ j. goes refl tt; ends-asking = λ e a. not-true e })
+      (record { ends-idle = λ q m i. goes refl tt; ends-accepted = λ held. goes refl tt; ends-left = goes refl tt })
+      (λ e u j. record { in-table = λ s. absurd (covered p _ now s e u); at-first = λ s. absurd (covered p _ now s e u) }) m g)
+      k g
+  connected-made (AwaitStatusResponse a) r t pending bytes count f o k g =
+      poll-online-made r t pending bytes count (goes refl tt)
+      (λ d m. await-status-made r bytes count
+      (record { ends-alone = λ held. goes refl tt; ends-check = λ j. goes refl tt; ends-asking = λ e a. not-true e }) (goes refl refl) (goes refl tt) (goes refl tt) m g)
+      k g
+
+-- a poll that changes nothing stays in the table
+stays-in-table : (x : State) → lists (reached x) (stateNumber x) ≡ true
+stays-in-table Offline = refl
+stays-in-table (ListenToken q i) = refl
+stays-in-table (ActiveIdle q m i) = refl
+stays-in-table (UseToken d i) = refl
+stays-in-table (ClaimToken f) = refl
+stays-in-table (AwaitDataResponse a d) = refl
+stays-in-table (PassToken x a) = refl
+stays-in-table (CheckTokenPass a) = refl
+stays-in-table (AwaitStatusResponse a) = refl
+
+-- where a poll of a sound core begins
+begins : {p : Parameters} {n : ℕ} {now : Micros} {c : Core} → Clock now → SoundCore p n c → Came p n now c (c .state) c
+begins l w = record { clock = l; start = w; by = none; is = refl }
+
+-- the core that the state's step is given: past connectedOf and check_for_bus_activity
+pub dispatched : (p : Parameters) (n : ℕ) (now : Micros) (c : Core) (pending : ℕ) → Clock now → c .online ≡ true → SoundCore p n c → SoundCore p n (busActivityOf (connectedOf c) now pending)
 unfolding connectedOf
-connected-good n c b = connected-on-good (c .state) n c b
+dispatched p n now c pending l o w = sound-at (bus pending (connected-came (c .state) o (begins l w)))
 
-dispatch-on-good : (x : State) (p : Parameters) (n : ℕ) (c : Core) (r : Ring) (now : Micros) (bytes : List ℕ) (count : ℕ) → Addressed x → CoreGood n c → RingGood p r → RingStepGood p n (dispatchOn x p c r now bytes n count)
-unfolding dispatchOn
-dispatch-on-good Offline p n c r now bytes count l b g = record { good-step = done-good n c _ b; good-ring = g }
-dispatch-on-good (ListenToken q k) p n c r now bytes count l b g = listen-token-good p n c r now q k bytes n count b g
-dispatch-on-good (ActiveIdle q m k) p n c r now bytes count l b g = active-idle-good p n c r now q m k bytes n count (l .1) b g
-dispatch-on-good (UseToken d k) p n c r now bytes count l b g = record { good-step = use-token-good p n c now d k bytes b; good-ring = g }
-dispatch-on-good (ClaimToken f) p n c r now bytes count l b g = claim-token-good p n c r now f b g
-dispatch-on-good (AwaitDataResponse a d) p n c r now bytes count l b g =
-    record { good-step = await-data-step-good p n c now a d bytes count b; good-ring = g }
-dispatch-on-good (PassToken x a) p n c r now bytes count l b g = pass-token-good p n c r now x a b g
-dispatch-on-good (CheckTokenPass a) p n c r now bytes count l b g = check-token-good p n c r now a bytes n count b g
-dispatch-on-good (AwaitStatusResponse a) p n c r now bytes count l b g = await-status-step-good p n c r now a bytes n count b g
+poll-inner-made : (p : Parameters) (n : ℕ) (now : Micros) (c : Core) (r : Ring) (t : Bool) (pending : ℕ) (bytes : List ℕ) (count : ℕ) → Clock now → SoundCore p n c → (SlotCoversPause p → FirstAttempt (c .state)) → RingGood p r → RingMade p n now c (Follows p (c .state)) (pollInner p c r now t pending bytes n count)
+unfolding pollInner connectedOf
+poll-inner-made p n now c r t pending bytes count l w f g = go (c .online) refl
+  where
+    go : (b : Bool) → c .online ≡ b → RingMade p n now c (Follows p (c .state)) (cond b (pollOnline p (connectedOn (c .state) c) r now t pending bytes n count) (record { step = doneOf c outcome.Offline; ring = r }))
+    go true o = connected-made (c .state) r t pending bytes count f o (begins l w) g
+    go false o = record { made-step = done-made _ (begins l w) (record { in-table = λ s. stays-in-table (c .state); at-first = f }); made-ring = g }
 
-dispatch-good : (p : Parameters) (n : ℕ) (c : Core) (r : Ring) (now : Micros) (bytes : List ℕ) (count : ℕ) → CoreGood n c → RingGood p r → RingStepGood p n (dispatchOf p c r now bytes n count)
-unfolding dispatchOf
-dispatch-good p n c r now bytes count b g = dispatch-on-good (c .state) p n c r now bytes count (b .addressed) b g
+-- A call's moves: the station after it has come there from a sound one by moves, and its ring is sound. The settings and the number of
+-- applications stay.
+pub record CallMade (s : Station) (now : Micros) (t : Station) : Type 0 where
+  pub moves : Moves (s .p) (s .applications) now (s .core) (t .core)
+  pub ring : RingGood (s .p) (t .«token_ring»)
+  pub first : SlotCoversPause (s .p) → FirstAttempt (t .core .state)
+  pub settings-stay : t .p ≡ s .p
+  pub applications-stay : t .applications ≡ s .applications
 
-poll-online-good : (p : Parameters) (n : ℕ) (c : Core) (r : Ring) (now : Micros) (t : Bool) (pending : ℕ) (bytes : List ℕ) (count : ℕ) → CoreGood n c → RingGood p r → RingStepGood p n (pollOnline p c r now t pending bytes n count)
-unfolding pollOnline
-poll-online-good p n c r now t pending bytes count b g =
-    either (RingStepGood p n) (ongoingOf (c .«last_bus_activity») now t) _ _ (record { good-step = done-good n _ _ (waited-good n c _ b); good-ring = g })
-    (dispatch-good p n _ r now bytes count (bus-good n c now pending b) g)
-
-pub poll-inner-good : (p : Parameters) (n : ℕ) (c : Core) (r : Ring) (now : Micros) (t : Bool) (pending : ℕ) (bytes : List ℕ) (count : ℕ) → CoreGood n c → RingGood p r → RingStepGood p n (pollInner p c r now t pending bytes n count)
-unfolding pollInner
-poll-inner-good p n c r now t pending bytes count b g =
-    either (RingStepGood p n) (c .online) _ _ (poll-online-good p n _ r now t pending bytes count (connected-good n c b) g)
-    (record { good-step = done-good n c _ b; good-ring = g })
-
--- a sound station's parts, and a sound station made of them
-pub part-core : (s : Station) → SoundStation s → CoreGood (s .applications) (s .core)
-part-core s w = record { next-below = w .next-one; addressed = w .addresses; gap-addressed = w .gap-address }
-
+-- a sound station's ring
 pub part-ring : (s : Station) → SoundStation s → RingGood (s .p) (s .«token_ring»)
 part-ring s w = record { sound = w .ring-sound; own = w .own-is }
 
-polled-sound : (s : Station) (x : RingStep) → SoundStation s → RingStepGood (s .p) (s .applications) x → SoundStation (polledOf (s .p) (s .applications) x .station)
+stays-made : (s : Station) (now : Micros) → SoundStation s → CallMade s now s
+stays-made s now w = record { moves = none; ring = part-ring s w; first = w .first-attempt; settings-stay = refl; applications-stay = refl }
+
+polled-made : (s : Station) (now : Micros) (x : RingStep) → RingMade (s .p) (s .applications) now (s .core) (λ (y : State). SlotCoversPause (s .p) → FirstAttempt y) x → CallMade s now (polledOf (s .p) (s .applications) x .station)
 unfolding polledOf
-polled-sound s x w g =
+polled-made s now x g = record { moves = g .made-step .moves; ring = g .made-ring; first = g .made-step .ends; settings-stay = refl; applications-stay = refl }
+
+refused-made : (s : Station) (now : Micros) (k : ℕ) → SoundStation s → CallMade s now (refusedPoll s k .station)
+unfolding refusedPoll
+refused-made s now k w = stays-made s now w
+
+-- the step of a poll whose record is not refused
+pub inner-made : (s : Station) (bytes : List ℕ) (t : Bool) (pending count : ℕ) → SoundStation s → RingMade (s .p) (s .applications) (clockOf (poll bytes)) (s .core) (Follows (s .p) (s .core .state)) (pollInner (s .p) (s .core) (s .«token_ring») (clockOf (poll bytes)) t pending bytes (s .applications) count)
+inner-made s bytes t pending count w =
+    poll-inner-made (s .p) (s .applications) _ (s .core) (s .«token_ring») t pending bytes count (clock-fits bytes) (w .core-sound) (w .first-attempt) (part-ring s w)
+
+accepted-made : (s : Station) (bytes : List ℕ) → SoundStation s → CallMade s (clockOf (poll bytes)) (acceptedPoll s bytes .station)
+unfolding acceptedPoll acceptedAfter
+accepted-made s bytes w =
+    let m = inner-made s bytes _ _ _ w in
+    polled-made s _ _ (record { made-step = record { moves = m .made-step .moves; ends = m .made-step .ends .at-first }; made-ring = m .made-ring })
+
+poll-made : (s : Station) (bytes : List ℕ) → SoundStation s → CallMade s (clockOf (poll bytes)) (pollOf s bytes .station)
+unfolding pollOf
+poll-made s bytes w =
+    either (λ (x : Polled). CallMade s (clockOf (poll bytes)) (x .station)) (eqb (recordRefusal bytes (s .applications)) 0) _ _ (accepted-made s bytes w) (refused-made s _ _ w)
+
+online-made : (s : Station) (now : Micros) → SoundStation s → CallMade s now (onlineOf s .station)
+unfolding onlineOf withOnline doneOf
+online-made s now w =
+    polled-made s now _ (record { made-step = record { moves = then none goes-online; ends = w .first-attempt }; made-ring = part-ring s w })
+
+offline-made : (s : Station) (now : Micros) → SoundStation s → CallMade s now (offlineOf s .station)
+unfolding offlineOf freshCore doneOf
+offline-made s now w = polled-made s now _ (record { made-step = record { moves = then none goes-offline; ends = λ z. tt }; made-ring = again-good (s .p) (s .«token_ring») (part-ring s w) })
+
+-- Every call of a sound station is made of moves, so each transition in it starts from a state that its `debug_assert_state!` names.
+pub call-made : (s : Station) (c : Call) → SoundStation s → CallMade s (clockOf c) (after s c)
+unfolding after passiveOf
+call-made s (poll bytes) w = poll-made s bytes w
+call-made s online w = online-made s _ w
+call-made s offline w = offline-made s _ w
+call-made s passive w = refused-made s _ 16 w
+
+-- the clock of a call is a time of a clock
+clock-of-fits : (c : Call) → Clock (clockOf c)
+clock-of-fits (poll bytes) = clock-fits bytes
+clock-of-fits online = lit< tt
+clock-of-fits offline = lit< tt
+clock-of-fits passive = lit< tt
+
+-- a call keeps a station sound
+made-sound : (s t : Station) (now : Micros) → Clock now → SoundStation s → CallMade s now t → SoundStation t
+made-sound s t now l w m =
     record {
-      ring-sound = g .good-ring .sound;
-      own-is = g .good-ring .own;
-      some = w .some;
-      eight = w .eight;
-      next-one = g .good-step .step-core .next-below;
-      addresses = g .good-step .step-core .addressed;
-      gap-address = g .good-step .step-core .gap-addressed;
+      ring-sound = m .ring .sound;
+      own-is = rw (m .settings-stay) (m .ring .own);
+      some = rw (m .applications-stay) (w .some);
+      eight = rw (m .applications-stay) (w .eight);
+      first-attempt = rw (m .settings-stay) (m .first);
+      core-sound = rw (m .settings-stay, m .applications-stay) (moves-keep l _ _ (m .moves) (w .core-sound));
     }
 
--- the calls keep a station sound
-record PolledGood (s : Station) (x : Polled) : Type 0 where
-  pub polled-station : SoundStation (x .station)
+pub call-sound : (s : Station) (c : Call) → SoundStation s → SoundStation (after s c)
+call-sound s c w = made-sound s _ _ (clock-of-fits c) w (call-made s c w)
 
-refused-good : (s : Station) (k : ℕ) → SoundStation s → PolledGood s (refusedPoll s k)
-unfolding refusedPoll
-refused-good s k w = record { polled-station = w }
-
-accepted-good : (s : Station) (bytes : List ℕ) → SoundStation s → PolledGood s (acceptedPoll s bytes)
-unfolding acceptedPoll acceptedAfter
-accepted-good s bytes w =
-    record { polled-station = polled-sound s _ w (poll-inner-good (s .p) (s .applications) (s .core) (s .«token_ring») _ _ _ bytes _ (part-core s w) (part-ring s w)) }
-
-pub poll-sound : (s : Station) (bytes : List ℕ) → SoundStation s → SoundStation (pollOf s bytes .station)
-unfolding pollOf
-poll-sound s bytes w = either (PolledGood s) (eqb (recordRefusal bytes (s .applications)) 0) _ _ (accepted-good s bytes w) (refused-good s _ w) .polled-station
-
-pub online-sound : (s : Station) → SoundStation s → SoundStation (onlineOf s .station)
-unfolding onlineOf
-online-sound s w =
-    polled-sound s _ w (record { good-step = done-good _ _ _ (online-good _ (s .core) true (part-core s w)); good-ring = part-ring s w })
-
-pub offline-sound : (s : Station) → SoundStation s → SoundStation (offlineOf s .station)
-unfolding offlineOf
-offline-sound s w =
-    polled-sound s _ w (record { good-step = done-good _ _ _ (again-core-good _ (s .core) (part-core s w)); good-ring = again-good (s .p) (s .«token_ring») (part-ring s w) })
-
-pub passive-sound : (s : Station) → SoundStation s → SoundStation (passiveOf s .station)
-unfolding passiveOf
-passive-sound s w = refused-good s 16 w .polled-station
+-- a fresh core is sound: it asks its first application next, holds no address, and has had no token
+pub fresh-core-sound : (p : Parameters) (n : ℕ) → 0 < n → SoundCore p n freshCore
+unfolding freshCore
+fresh-core-sound p n l =
+    record {
+      next-one = l;
+      addresses = tt;
+      gap-address = tt;
+      gap-count = omega arith;
+      offline = λ e. refl;
+      collided-once = tt;
+      activity-known = tt;
+      activity-fits = tt;
+      token-held = tt;
+      last-token = tt;
+      token-time = lit< tt;
+      hold-made = inl (record { no-last = refl; no-from = refl; no-span = refl; no-less = refl });
+    }
 
 fresh-sound : (p : Parameters) (n : ℕ) → p .address < 126 → 1 ≤ n → n ≤ 8 → SoundStation (freshStation p n)
-unfolding freshStation
+unfolding freshStation freshCore
 fresh-sound p n l one eight =
     let g = fresh-good p l in
-    let c = fresh-core-good n (omega arith) in
-    record {
-      ring-sound = g .sound;
-      own-is = g .own;
-      some = one;
-      eight = eight;
-      next-one = c .next-below;
-      addresses = c .addressed;
-      gap-address = c .gap-addressed;
-    }
+    record { ring-sound = g .sound; own-is = g .own; some = one; eight = eight; first-attempt = λ z. tt; core-sound = fresh-core-sound p n (omega arith) }
 
 -- `new`: with an address up to 125 it gives a sound station or none
 pub new-sound : (p : Parameters) (n : ℕ) → p .address < 126 → SoundStarted (newStation p n)
@@ -190,14 +307,25 @@ new-sound p n l = go (eqb (applicationsRefusal n) 0) refl
         fresh-sound p n l (range .0) (range .1)
     go false e = tt
 
+-- A poll leaves a sound station in a state that the table has.
+accepted-follows : (s : Station) (bytes : List ℕ) → SoundStation s → Follows (s .p) (s .core .state) (acceptedPoll s bytes .station .core .state)
+unfolding acceptedPoll acceptedAfter polledOf
+accepted-follows s bytes w = inner-made s bytes _ _ _ w .made-step .ends
+
+refused-follows : (s : Station) (k : ℕ) → SoundStation s → Follows (s .p) (s .core .state) (refusedPoll s k .station .core .state)
+unfolding refusedPoll
+refused-follows s k w = record { in-table = λ z. stays-in-table (s .core .state); at-first = w .first-attempt }
+
+pub poll-follows : (s : Station) (bytes : List ℕ) → SoundStation s → Follows (s .p) (s .core .state) (pollOf s bytes .station .core .state)
+unfolding pollOf
+poll-follows s bytes w =
+    either (λ (x : Polled). Follows (s .p) (s .core .state) (x .station .core .state)) (eqb (recordRefusal bytes (s .applications)) 0) _ _ (accepted-follows s bytes w) (refused-follows s _ w)
+
 -- The theorem: any list of calls leaves a sound station sound, so every station that calls make of a new one is.
 pub sound : (cs : List Call) (s : Station) → SoundStation s → SoundStation (run s cs)
-unfolding run after
+unfolding run
 sound [] s w = w
-sound (poll bytes ∷ cs) s w = sound cs (pollOf s bytes .station) (poll-sound s bytes w)
-sound (online ∷ cs) s w = sound cs (onlineOf s .station) (online-sound s w)
-sound (offline ∷ cs) s w = sound cs (offlineOf s .station) (offline-sound s w)
-sound (passive ∷ cs) s w = sound cs (passiveOf s .station) (passive-sound s w)
+sound (c ∷ cs) s w = sound cs (after s c) (call-sound s c w)
 
 -- what any list of calls makes of what `new` gives: a sound station, or there is none
 abbrev pub SoundRun : Started → List Call → Type 0

@@ -14,7 +14,7 @@ use lib.Seq.{length-take-le, take-all, drop-drop, drop-cons, paste, length-paste
 use lib.Dec.{T, leb, lit≤}
 use Rattle.bit_times.specs.Laws.{and-true}
 use Rattle.codec_fields.specs.Fields.{bytesOf, storedOf}
-use Rattle.codec_fields.specs.Laws.{stored-room}
+use Rattle.codec_fields.specs.Stores.{stored-room}
 use Rattle.codec_answers.specs.declared.Answer.{Answer}
 use Rattle.codec_answers.specs.Answers.{answerWord}
 use Rattle.station.specs.declared.Station.{Station}
@@ -177,7 +177,7 @@ module _ {fresh : Station} {trace before answers : List ℕ} {station : Station}
         → 8 ≤ length answers - out
         → polled ≡ entryOf station (getD trace at 0) (take (at + 1 + n - (at + 1)) (drop (at + 1) trace))
         → word ≡ answerWord (polled .answer)
-        → z ≡ storedOf word (take (length answers - out) (drop out answers))
+        → z ≡ storedOf (take (length answers - out) (drop out answers)) 0 8 word
         → Going fresh trace before (putMid out (length answers - out) answers z) (polled .station) (at + 1 + n) (out + 8) (entries + 1)
     next n polled word z size h f e ew ez =
         rw (stored, tail-back out 8 answers bs)
@@ -200,7 +200,7 @@ module _ {fresh : Station} {trace before answers : List ℕ} {station : Station}
 
         -- the tail has room, so the answer stands at its head
         stored : z ≡ bs ++ drop 8 (take (length answers - out) (drop out answers))
-        stored = rw ew at ez ∙ stored-room (answerWord (polled .answer)) (take (length answers - out) (drop out answers)) (simp (length-take, length-drop) (omega arith))
+        stored = rw ew at ez ∙ stored-room (take (length answers - out) (drop out answers)) 0 8 (answerWord (polled .answer)) (lit≤ tt) (simp (length-take, length-drop) (omega arith))
 
         long' : length (paste answers out bs 8) ≡ length answers
         long' = length-paste answers out bs 8 (omega (arith, f)) (lit≤ tt)

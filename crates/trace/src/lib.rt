@@ -97,7 +97,12 @@ fn run(fresh: Station, trace: &[u8], answers: &mut [u8]) -> u64
         }
         let end = begin + length;
         let polled = answer_entry(station, kind, &trace[begin..end]);
-        store(&mut answers[out..], codec_answers::pack(polled.answer));
+        store(
+            &mut answers[out..],
+            0,
+            8,
+            codec_answers::pack(polled.answer),
+        );
         station = polled.station;
         at = end;
         out += 8;

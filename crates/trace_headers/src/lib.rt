@@ -1,11 +1,12 @@
 // A trace's header (document 01, "Trace"): its 16 bytes as plain numbers, and their first refusal. It leans on
 // settings_build for what they are refused by, and on codec_fields for the bytes.
 ghost use mathlib.Core.Path.{_≡_};
-ghost use Rattle.codec_fields.specs.Fields.{fieldOf};
-ghost use Rattle.trace_headers.specs.Headers.{headerAt, headerOf, zeroRefusal, headerRefusal};
-use codec_fields::field;
+ghost use Rattle.trace_headers.specs.Headers.{headerAt, headerOf, headerRefusal};
 use codec_fields::field_byte;
+use codec_fields::field_long;
+use codec_fields::field_short;
 use codec_fields::load;
+use codec_fields::zero_or_14;
 use settings_build::PlainSettings;
 
 // A trace's header as plain numbers, unchecked.
@@ -15,28 +16,14 @@ pub struct Header {
     pub zero_bits: u8,
 }
 
-// The slot bits of a header's first word.
-fn read_slot_bits(high: u64) -> u16
-    ensures { λ r. ⌜ r ≡ fieldOf high 32 16 ⌝ }
-{
-    field(high, 32, 16) as u16
-}
-
-// The rotation bits of a header's first word.
-fn read_rotation_bits(high: u64) -> u32
-    ensures { λ r. ⌜ r ≡ fieldOf high 0 32 ⌝ }
-{
-    field(high, 0, 32) as u32
-}
-
 // What a header's two words say.
 fn header_at(high: u64, low: u64) -> Header
     ensures { λ r. ⌜ r ≡ headerAt high low ⌝ }
 {
     Header {
         settings: PlainSettings {
-            token_rotation_bits: read_rotation_bits(high),
-            slot_bits: read_slot_bits(high),
+            token_rotation_bits: field_long(high, 0, 32),
+            slot_bits: field_short(high, 32, 16),
             address: field_byte(high, 56, 8),
             baud_code: field_byte(high, 48, 8),
             gap_wait_rotations: field_byte(low, 56, 8),
@@ -60,16 +47,6 @@ pub fn read_header(trace: &[u8]) -> Header
     header_at(high, low)
 }
 
-// Refusal 14 unless the header's last byte is zero, else 0.
-fn zero_refusal(zero_bits: u8) -> u8
-    ensures { λ r. ⌜ r ≡ zeroRefusal «zero_bits» ⌝ }
-{
-    if zero_bits == 0 {
-        return 0;
-    }
-    14
-}
-
 // A header's first refusal, in document 01's order: 1, 10, 2, 3, 4, 5, 6, 7, 11, 8, 14; 0 for none.
 pub fn header_refusal(header: Header) -> u8
     ensures { λ r. ⌜ r ≡ headerRefusal header ⌝ }
@@ -87,7 +64,7 @@ pub fn header_refusal(header: Header) -> u8
     if factors != 0 {
         return factors;
     }
-    let zero_bits = zero_refusal(header.zero_bits);
+    let zero_bits = zero_or_14(header.zero_bits as u64);
     if zero_bits != 0 {
         return zero_bits;
     }

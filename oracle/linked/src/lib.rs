@@ -3,26 +3,14 @@
 mod proved {
     extern "C" {
         /// The call of the static library; its contract is document 01's "Trace".
-        pub fn amsulfezd_replay_trace(
-            trace: *const u8,
-            trace_len: usize,
-            answers: *mut u8,
-            answers_len: usize,
-        ) -> u64;
+        pub fn amsulfezd_replay_trace(trace: *const u8, trace_len: usize, answers: *mut u8, answers_len: usize) -> u64;
     }
 }
 
 /// Replays a trace by the proved call.
 pub fn replay_trace(trace: &[u8], answers: &mut [u8]) -> u64 {
     // Safety: both are whole slices, and the call keeps to the two lengths that it is given.
-    unsafe {
-        proved::amsulfezd_replay_trace(
-            trace.as_ptr(),
-            trace.len(),
-            answers.as_mut_ptr(),
-            answers.len(),
-        )
-    }
+    unsafe { proved::amsulfezd_replay_trace(trace.as_ptr(), trace.len(), answers.as_mut_ptr(), answers.len()) }
 }
 
 /// A trace of zero bytes but for its first ones, whose pages the machine has to hand out only when they

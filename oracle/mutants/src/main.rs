@@ -1,5 +1,5 @@
-//! Runs generated traces through the oracle and through a copy of it for each planted error, and
-//! prints for each the trace that showed it. Status 0: each was found, or is explained in the list.
+//! Runs generated traces through the oracle and through a copy of it for each planted error, the settings table where the
+//! list says so, and prints for each error which run shows it. Status 0: each is shown by the run that the list names.
 #![forbid(unsafe_code)]
 
 /// The published text writes `log::warn!`.
@@ -10,14 +10,24 @@ mod list;
 
 /// The copies, one module each, as build.rs writes them.
 mod copies {
-    #![allow(warnings)]
+    #![allow(warnings, clippy::all)]
     include!(concat!(env!("OUT_DIR"), "/index.rs"));
 }
 
-use oracle::trace_compare::{first_difference, run, shorten, Left};
-use oracle::trace_items::trace;
+use list::{By, PLANTED};
+use oracle::comparison::run::{first_difference, run, Left};
+use oracle::comparison::shorten::shorten;
+use oracle::generator::trace;
+use oracle::settings_table::table;
+use oracle::trace::replay_trace;
 
-/// The seed of the traces, and how many are tried for each error.
+/// What is run of a copy: its trace call, and its settings table where the error can stand in that.
+pub struct Runs {
+    traces: fn(&[u8], &mut [u8]) -> u64,
+    table: fn() -> String,
+}
+
+/// The seed of the traces, and how many are tried.
 const SEED: u64 = 1;
 const TRACES: u64 = 20_000;
 
@@ -41,65 +51,78 @@ fn kind_of(expected: &Left, got: &Left) -> &'static str {
     }
 }
 
+/// For each error the trace that shows it, in words, and how many entries the shortened one has.
+fn shown_by_traces() -> Vec<Option<(String, usize)>> {
+    let mut shown = vec![None; PLANTED.len()];
+    let mut left: Vec<usize> = (0..PLANTED.len()).filter(|i| PLANTED[*i].by != By::SettingsTable).collect();
+    for index in 0..TRACES {
+        let made = trace(SEED, index);
+        let expected = run(&replay_trace, &made);
+        left.retain(|i| {
+            let call = &copies::RUNS[*i].traces;
+            let got = run(call, &made);
+            if let Some(entry) = first_difference(&expected, &got) {
+                let words = format!("trace {}, entry {}: {}", index, entry, kind_of(&expected, &got));
+                shown[*i] = Some((words, shorten(call, &made).entries.len()));
+            }
+            shown[*i].is_none()
+        });
+    }
+    shown
+}
+
+/// The line of the settings table that a copy writes otherwise.
+fn shown_by_table(table: &str, copy: &Runs) -> Option<String> {
+    let other = (copy.table)();
+    let line = table.lines().zip(other.lines()).position(|(ours, other)| ours != other)?;
+    Some(format!("line {}", line + 1))
+}
+
 fn main() {
     if std::env::args().len() > 1 {
         eprintln!("mutants: usage: mutants, without a word");
         std::process::exit(2);
     }
     std::panic::set_hook(Box::new(|_| {}));
-    let oracle: oracle::trace_compare::Replay = &oracle::trace::replay_trace;
-    let (mut found, mut explained, mut missed) = (0, 0, 0);
-    println!("| No. | File | Text | Planted | Shown by | Shortest |");
-    println!("|---|---|---|---|---|---|");
-    for (i, (error, call)) in list::PLANTED.iter().zip(copies::CALLS).enumerate() {
-        let shown = (0..TRACES).find_map(|index| {
-            let made = trace(SEED, index);
-            let (expected, got) = (run(oracle, &made), run(call, &made));
-            let entry = first_difference(&expected, &got)?;
-            let shortest = shorten(call, &made);
-            Some(format!(
-                "trace {}, entry {}: {} | {} entries",
-                index,
-                entry,
-                kind_of(&expected, &got),
-                shortest.entries.len()
-            ))
-        });
-        let cells = match (shown, error.hidden) {
-            (Some(cells), "") => {
-                found += 1;
-                cells
-            }
-            (Some(cells), _) => {
-                missed += 1;
-                format!("{} (though said to be hidden)", cells)
-            }
-            (None, "") => {
-                missed += 1;
-                "NOT FOUND | ".to_string()
-            }
-            (None, why) => {
-                explained += 1;
-                format!("not by a trace: {} | ", why)
-            }
+    let table = table();
+    let (mut by_traces, mut by_table, mut explained, mut missed) = (0, 0, 0, 0);
+    println!("| No. | File | Text | Planted | Run | Shown by | Shortest |");
+    println!("|---|---|---|---|---|---|---|");
+    for (i, (error, shown)) in PLANTED.iter().zip(shown_by_traces()).enumerate() {
+        let mut missing = |words: String| {
+            missed += 1;
+            format!("{} | |", words)
         };
-        println!(
-            "| {} | `{}.rs` | {} | {} | {} |",
-            i + 1,
-            error.file,
-            cell(error.old),
-            cell(error.new),
-            cells
-        );
+        let cells = match (error.by, shown) {
+            (By::Traces, Some((words, shortest))) => {
+                by_traces += 1;
+                format!("traces | {} | {} entries", words, shortest)
+            }
+            (By::SettingsTable, _) => match shown_by_table(&table, &copies::RUNS[i]) {
+                Some(line) => {
+                    by_table += 1;
+                    format!("settings table | {} |", line)
+                }
+                None => missing("NOT FOUND by the settings table".to_string()),
+            },
+            (By::Nothing(why), None) => {
+                explained += 1;
+                format!("none | {} |", why)
+            }
+            (By::Traces, None) => missing("NOT FOUND by traces".to_string()),
+            (By::Nothing(_), Some((words, _))) => missing(format!("{}, though said to be hidden", words)),
+        };
+        println!("| {} | `{}.rs` | {} | {} | {} |", i + 1, error.file, cell(error.old), cell(error.new), cells);
     }
     println!();
     println!(
-        "{} planted errors: {} found by traces of seed {}, {} explained, {} missed.",
-        list::PLANTED.len(),
-        found,
+        "{} planted errors: {} found by traces of seed {}, {} by the settings table, {} explained, {} missed.",
+        PLANTED.len(),
+        by_traces,
         SEED,
+        by_table,
         explained,
         missed
     );
-    std::process::exit(if missed == 0 { 0 } else { 1 });
+    std::process::exit(i32::from(missed > 0));
 }

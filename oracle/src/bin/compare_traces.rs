@@ -1,20 +1,43 @@
-//! The oracle's replay against itself: shows what generated traces reach, and that all of it is
-//! reached. The comparison with the proved code is the same one, in the package `linked`.
-//! `--show SEED INDEX` prints one trace in hex, for `replay_oracle --hex`.
+//! Compares a program that answers traces with the oracle, or, without one, the oracle with itself, which shows what
+//! generated traces reach. `--show SEED INDEX` prints one trace in hex, for `replay_oracle --hex`; `--serve` is such a
+//! program: it answers traces by the oracle.
 #![forbid(unsafe_code)]
+
+use oracle::comparison::program::{serve, Program};
+use oracle::comparison::{compare, hex};
+use oracle::generator::trace;
+use oracle::trace::replay_trace;
+
+const USAGE: &str = "compare_traces: usage: compare_traces SEED COUNT [-- PROGRAM [ARGUMENT..]], two whole numbers, \
+                     COUNT above 0; or --show SEED INDEX; or --serve";
+
+fn status(words: &[String]) -> i32 {
+    match words {
+        [show, seed, index] if show == "--show" => {
+            if let (Ok(seed), Ok(index)) = (seed.parse(), index.parse()) {
+                println!("{}", hex(&trace(seed, index).bytes()));
+                return 0;
+            }
+        }
+        [word] if word == "--serve" => return i32::from(serve().is_err()),
+        [seed, count, dashes, program @ ..] if dashes == "--" => {
+            return match Program::start(program) {
+                Ok(program) => {
+                    let call = |trace: &[u8], answers: &mut [u8]| program.replay_trace(trace, answers);
+                    compare::main(USAGE, &call, &[seed.clone(), count.clone()])
+                }
+                Err(error) => {
+                    eprintln!("compare_traces: the program cannot be started: {}", error);
+                    2
+                }
+            };
+        }
+        _ => {}
+    }
+    compare::main(USAGE, &replay_trace, words)
+}
 
 fn main() {
     let words: Vec<String> = std::env::args().skip(1).collect();
-    if let [show, seed, index] = words.as_slice() {
-        if let ("--show", Ok(seed), Ok(index)) = (show.as_str(), seed.parse(), index.parse()) {
-            let made = oracle::trace_items::trace(seed, index);
-            println!("{}", oracle::trace_compare::hex(&made.bytes()));
-            return;
-        }
-    }
-    std::process::exit(oracle::trace_compare::main(
-        "compare_traces",
-        &oracle::trace::replay_trace,
-        &words,
-    ));
+    std::process::exit(status(&words));
 }

@@ -3,13 +3,13 @@
 //! feature `published_helpers`, those of the published helpers. Status 1 if one is not as listed.
 #![forbid(unsafe_code)]
 
+use oracle::comparison::hex;
 use oracle::dp::{DpMaster, Options, Peripheral};
 use oracle::fdl::{parameters, FdlActiveStation, FdlApplication, ParametersBuilder};
 use oracle::port::{RecordApplication, RecordPort};
 use oracle::records::{Decision, PollRecord, Telegram};
 use oracle::time::{Duration, Instant};
 use oracle::trace::{replay_trace, Header, ANSWER};
-use oracle::trace_compare::hex;
 use oracle::Baudrate;
 use std::panic::{catch_unwind, AssertUnwindSafe};
 
@@ -41,18 +41,14 @@ impl Shown {
 
     /// A panic may have any message.
     fn as_listed(&self) -> bool {
-        self.got == self.expected()
-            || (self.expected() == "panic" && self.got.starts_with("panic: "))
+        self.got == self.expected() || (self.expected() == "panic" && self.got.starts_with("panic: "))
     }
 }
 
 /// What the work gives, or the panic that ends it.
 fn tried(work: impl FnOnce() -> String) -> String {
     catch_unwind(AssertUnwindSafe(work)).unwrap_or_else(|payload| {
-        let message = match (
-            payload.downcast_ref::<&str>(),
-            payload.downcast_ref::<String>(),
-        ) {
+        let message = match (payload.downcast_ref::<&str>(), payload.downcast_ref::<String>()) {
             (Some(text), _) => text.to_string(),
             (_, Some(text)) => text.clone(),
             _ => "without a message".to_string(),
@@ -63,48 +59,19 @@ fn tried(work: impl FnOnce() -> String) -> String {
 
 /// Address 5, 500 kbaud, slot 200, rotation 32436, gap wait 1, HSA 126, one application.
 fn header() -> Header {
-    Header {
-        address: 5,
-        baud: 6,
-        slot: 200,
-        rotation: 32436,
-        gap: 1,
-        hsa: 126,
-        retry: 1,
-        min_tsdr: 11,
-        applications: 1,
-        factors: (0, 0),
-        zero: 0,
-    }
+    Header { gap: 1, ..Header::EXAMPLE_12 }
 }
 
 fn poll(clock: u64, telegrams: &[Telegram]) -> PollRecord {
-    PollRecord {
-        clock,
-        transmitting: false,
-        pending: 0,
-        decisions: vec![(Decision::Declines, Decision::Declines)],
-        telegrams: telegrams.to_vec(),
-    }
+    PollRecord { telegrams: telegrams.to_vec(), ..PollRecord::silent(clock, 1) }
 }
 
 /// Online, then these polls.
-fn trace(header: Header, polls: &[PollRecord]) -> Vec<u8> {
-    let mut bytes = header.write().to_vec();
+fn trace(polls: &[PollRecord]) -> Vec<u8> {
+    let mut bytes = header().write();
     bytes.push(0);
-    for record in polls {
-        let record = record.encode();
-        bytes.push(record.len() as u8);
-        bytes.extend_from_slice(&record);
-    }
+    polls.iter().for_each(|record| bytes.extend(record.entry()));
     bytes
-}
-
-fn token(source: u8, destination: u8) -> Telegram {
-    Telegram::Token {
-        destination,
-        source,
-    }
 }
 
 /// Silent polls at these times.
@@ -115,15 +82,11 @@ fn silent(times: &[u64]) -> Vec<PollRecord> {
 /// The polls of a station that hears 6 alone in the ring and its question, answers, gets the token and
 /// passes it at 1500: it is in CheckTokenPass. Between 5 and 6 there is no gap.
 fn passed_to_6() -> Vec<PollRecord> {
-    let request = Telegram::Request {
-        destination: 5,
-        source: 6,
-        status_request: true,
-    };
+    let token = Telegram::token(6, 6);
     vec![
-        poll(1000, &[token(6, 6), token(6, 6), request]),
+        poll(1000, &[token, token, Telegram::status_request(6, 5)]),
         poll(1100, &[]),
-        poll(1300, &[token(6, 5)]),
+        poll(1300, &[Telegram::token(6, 5)]),
         poll(1400, &[]),
         poll(1500, &[]),
     ]
@@ -132,10 +95,7 @@ fn passed_to_6() -> Vec<PollRecord> {
 /// The polls of a station that claims the token and asks station 9 at 7700: AwaitDataResponse.
 fn asked_9() -> Vec<PollRecord> {
     let mut polls = silent(&[1000, 7400, 7540, 7700]);
-    polls[3].decisions[0].0 = Decision::Sends {
-        reply: Some(9),
-        length: 1,
-    };
+    polls[3].decisions[0].0 = Decision::Sends { reply: Some(9), length: 1 };
     polls
 }
 
@@ -154,15 +114,8 @@ fn by_trace(
     ours: &'static str,
     published: &'static str,
 ) -> Shown {
-    let trace = trace(header(), polls);
-    Shown {
-        number,
-        words,
-        input: hex(&trace),
-        got: tried(|| last_answer(&trace)),
-        ours,
-        published,
-    }
+    let trace = trace(polls);
+    Shown { number, words, input: hex(&trace), got: tried(|| last_answer(&trace)), ours, published }
 }
 
 /// A step of the gap walk on a station that has heard these others.
@@ -173,17 +126,10 @@ fn by_walk(
     ours: &'static str,
     published: &'static str,
 ) -> Shown {
-    let mut station = FdlActiveStation::new(
-        Header {
-            address: own,
-            hsa,
-            ..header()
-        }
-        .parameters(),
-    );
+    let mut station = FdlActiveStation::new(Header { address: own, hsa, ..header() }.parameters());
     station.set_online();
     for other in others {
-        one_poll(&mut station, &poll(1000, &[token(*other, *other)]));
+        one_poll(&mut station, &poll(1000, &[Telegram::token(*other, *other)]));
     }
     let got = tried(|| match station.gap_walk_from(from) {
         None => "waits".to_string(),
@@ -192,10 +138,7 @@ fn by_walk(
     Shown {
         number,
         words,
-        input: format!(
-            "own {}, others {:?}, HSA {}, next_gap_poll({})",
-            own, others, hsa, from
-        ),
+        input: format!("own {}, others {:?}, HSA {}, next_gap_poll({})", own, others, hsa, from),
         got,
         ours,
         published,
@@ -210,11 +153,7 @@ fn one_poll(station: &mut FdlActiveStation, record: &PollRecord) {
     for application in applications.iter_mut() {
         list.push(application);
     }
-    station.poll_multi(
-        Instant::from_micros(record.clock as i64),
-        &mut port,
-        &mut list,
-    );
+    station.poll_multi(Instant::from_micros(record.clock as i64), &mut port, &mut list);
 }
 
 /// What the published text does in any build; `ours` is what the proved code does.
@@ -253,10 +192,7 @@ fn changed_list() -> String {
         decisions: vec![(first, Decision::Declines), (second, Decision::Declines)],
         ..poll(clock, &[])
     };
-    let sends = Decision::Sends {
-        reply: None,
-        length: 1,
-    };
+    let sends = Decision::Sends { reply: None, length: 1 };
     for clock in [1000, 7400, 7540] {
         one_poll(&mut station, &two(clock, Decision::Declines, sends));
     }
@@ -333,20 +269,8 @@ fn shown() -> Vec<Shown> {
             "panic true, slot bits 199",
             "panic true, slot bits 199",
         ),
-        by_call(
-            "S3",
-            "watchdog_factors of 42949670420 ms",
-            || factors(42_949_670_420),
-            "panic",
-            "Some(Ok((255, 0)))",
-        ),
-        by_call(
-            "S3",
-            "watchdog_factors of 42949672950 ms",
-            || factors(42_949_672_950),
-            "panic",
-            "Some(Ok((2, 0)))",
-        ),
+        by_call("S3", "watchdog_factors of 42949670420 ms", || factors(42_949_670_420), "panic", "Some(Ok((255, 0)))"),
+        by_call("S3", "watchdog_factors of 42949672950 ms", || factors(42_949_672_950), "panic", "Some(Ok((2, 0)))"),
         by_call(
             "S4",
             "build_verified with a max Tsdr of 65521 and 200 slot bits",
@@ -369,11 +293,7 @@ fn main() {
     std::panic::set_hook(Box::new(|_| {}));
     println!(
         "differences: {}, {}",
-        if PUBLISHED {
-            "the published helpers"
-        } else {
-            "document 01's helpers"
-        },
+        if PUBLISHED { "the published helpers" } else { "document 01's helpers" },
         if CHECKED { "checks armed" } else { "no checks" }
     );
     let mut other = 0;

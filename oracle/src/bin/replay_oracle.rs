@@ -15,9 +15,7 @@ fn bytes_of_hex(digits: &str) -> Option<Vec<u8>> {
     if !digits.is_ascii() || digits.len() % 2 != 0 {
         return None;
     }
-    (0..digits.len() / 2)
-        .map(|i| u8::from_str_radix(&digits[2 * i..2 * i + 2], 16).ok())
-        .collect()
+    (0..digits.len() / 2).map(|i| u8::from_str_radix(&digits[2 * i..2 * i + 2], 16).ok()).collect()
 }
 
 /// The trace that the command line names.
@@ -29,16 +27,15 @@ fn trace_of(words: &[String]) -> Result<Vec<u8>, String> {
             let mut input = std::io::stdin().take(READ_AT_MOST);
             match input.read_to_end(&mut trace) {
                 Ok(_) => Ok(trace),
-                Err(e) => Err(format!(
-                    "replay_oracle: standard input cannot be read: {}",
-                    e
-                )),
+                Err(e) => Err(format!("replay_oracle: standard input cannot be read: {}", e)),
             }
         }
-        ["--hex", digits] => bytes_of_hex(digits)
-            .ok_or_else(|| "replay_oracle: --hex wants pairs of hex digits".to_string()),
-        [file] if !file.starts_with("--") => std::fs::read(file)
-            .map_err(|e| format!("replay_oracle: {} cannot be read: {}", file, e)),
+        ["--hex", digits] => {
+            bytes_of_hex(digits).ok_or_else(|| "replay_oracle: --hex wants pairs of hex digits".to_string())
+        }
+        [file] if !file.starts_with("--") => {
+            std::fs::read(file).map_err(|e| format!("replay_oracle: {} cannot be read: {}", file, e))
+        }
         _ => Err(USAGE.to_string()),
     }
 }

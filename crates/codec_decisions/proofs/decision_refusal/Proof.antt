@@ -1,6 +1,11 @@
--- `codec_decisions::decision_refusal` meets its contract, return by return. Assumes nothing.
+-- `codec_decisions::decision_refusal` meets its contract, return by return: fields that end the word are zero if they are as one.
+-- Assumes nothing.
+use mathlib.Core.Path.{sym, ap, _∙_}
+use mathlib.Core.List.{[], _∷_}
 use borrow.Author.Tests.{eq-eqb, le-leb, lt-leb, ne-eqb}
 use borrow.Author.Needs.{needs}
+use Rattle.codec_fields.specs.Fields.{zeroOr14}
+use Rattle.codec_fields.specs.Laws.{zeros-field}
 use Rattle.codec_decisions.specs.Decisions.{decisionRefusal}
 use Rattle.codec_decisions.proofs.decision_refusal.Statement.{statement}
 use Rattle.codec_decisions.proofs.decision_refusal.Tie as tie
@@ -25,4 +30,4 @@ decision-refusal-spec =
     (λ c. simp (lt-leb _ _ (c .before .before .before .before .before .before .before .before .before .before .if1 .left), ← c .before .before .before .before .before .before .before .before .before .bit .ensures, c .before .before .before .before .before .before .before .before .if2 .taken, ← c .before .before .before .before .before .before .before .field .ensures, eq-eqb _ _ (c .before .before .before .before .before .before .if3 .left), ← c .before .before .before .before .before .bit2 .ensures, c .before .before .before .before .if4 .left, ← c .before .before .before .field2 .ensures, eq-eqb _ _ (c .before .before .if5 .left), ← c .before .field-byte2 .ensures, ← c .length-refusal2 .ensures))
     (λ c κs. search needs)
     (λ c κs. search needs)
-    (λ c. simp (lt-leb _ _ (c .before .before .before .before .if1 .left), ← c .before .before .before .bit .ensures, c .before .before .if2 .left, ← c .before .field3 .ensures, ← c .zero-or-14 .ensures)))
+    (λ c. simp (lt-leb _ _ (c .before .before .before .before .if1 .left), ← c .before .before .before .bit .ensures, c .before .before .if2 .left) (c .zero-or-14 .ensures ∙ ap zeroOr14 (c .before .field3 .ensures) ∙ sym (zeros-field (1 ∷ 7 ∷ 8 ∷ 7 ∷ []) _))))

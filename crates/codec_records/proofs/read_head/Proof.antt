@@ -14,4 +14,4 @@ read-head-spec =
     (λ c κs. search needs)
     (λ c κs. search needs)
     (λ c κs. search needs)
-    (λ c. simp (← c .before .before .before .before .load .ensures, ← c .before .before .before .field .ensures, ← c .before .before .pending-bytes .ensures, ← c .before .field-byte .ensures, ← c .bit .ensures)))
+    (λ c. simp (← c .before .before .before .before .load .ensures, ← c .before .before .before .field .ensures, ← c .before .before .field-short .ensures, ← c .before .field-byte .ensures, ← c .bit .ensures)))

@@ -20,4 +20,4 @@ header-at-spec =
     (λ c κs. search needs)
     (λ c κs. search needs)
     (λ c κs. search needs)
-    (λ c. simp (← c .before .before .before .before .before .before .before .before .before .before .before .read-rotation-bits .ensures, ← c .before .before .before .before .before .before .before .before .before .before .read-slot-bits .ensures, ← c .before .before .before .before .before .before .before .before .before .field-byte .ensures, ← c .before .before .before .before .before .before .before .before .field-byte2 .ensures, ← c .before .before .before .before .before .before .before .field-byte3 .ensures, ← c .before .before .before .before .before .before .field-byte4 .ensures, ← c .before .before .before .before .before .field-byte5 .ensures, ← c .before .before .before .before .field-byte6 .ensures, ← c .before .before .before .field-byte7 .ensures, ← c .before .before .field-byte8 .ensures, ← c .before .field-byte9 .ensures, ← c .field-byte10 .ensures)))
+    (λ c. simp (← c .before .before .before .before .before .before .before .before .before .before .before .field-long .ensures, ← c .before .before .before .before .before .before .before .before .before .before .field-short .ensures, ← c .before .before .before .before .before .before .before .before .before .field-byte .ensures, ← c .before .before .before .before .before .before .before .before .field-byte2 .ensures, ← c .before .before .before .before .before .before .before .field-byte3 .ensures, ← c .before .before .before .before .before .before .field-byte4 .ensures, ← c .before .before .before .before .before .field-byte5 .ensures, ← c .before .before .before .before .field-byte6 .ensures, ← c .before .before .before .field-byte7 .ensures, ← c .before .before .field-byte8 .ensures, ← c .before .field-byte9 .ensures, ← c .field-byte10 .ensures)))

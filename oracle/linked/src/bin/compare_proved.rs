@@ -1,23 +1,22 @@
 //! Compares the proved `replay_trace` with the oracle's on seeded traces: SEED COUNT.
 
-use oracle::trace::{replay_trace, LONGEST};
+use oracle::comparison::compare;
+use oracle::trace::{replay_trace, Header, LONGEST};
 
-/// A header that is accepted, of example 12.
-const GOOD: [u8; 16] = [5, 6, 0, 200, 0, 0, 0x7e, 0xb4, 10, 126, 1, 11, 1, 0, 0, 0];
+const USAGE: &str = "compare_proved: usage: compare_proved SEED COUNT, two whole numbers, COUNT above 0";
 
-/// Traces of 2^32 bytes and one more, with a good and a bad header and room for two answers: the
-/// longer ones are refused with 17 before all else. `None` if there is no room for such traces.
+/// Traces of 2^32 bytes and one more, with a good and a bad header and room for two answers: the longer ones are refused
+/// with 17 before all else. `None` if there is no room for such traces.
 fn longest_traces() -> Option<Result<(), String>> {
     for length in [LONGEST, LONGEST + 1] {
-        for header in [GOOD, [200; 16]] {
-            let length = usize::try_from(length).ok()?;
-            let trace = linked::long_trace(&header, length)?;
+        for header in [Header::EXAMPLE_12.write(), vec![200; 16]] {
+            let trace = linked::long_trace(&header, usize::try_from(length).ok()?)?;
             let (mut ours, mut proved) = ([0xa5; 16], [0xa5; 16]);
             let expected = replay_trace(trace, &mut ours);
             let got = linked::replay_trace(trace, &mut proved);
             if (expected, ours) != (got, proved) {
                 return Some(Err(format!(
-                    "traces: a trace of {} bytes with header byte {}: the oracle returns {}, the proved call {}, or their buffers differ",
+                    "traces: {} bytes, header byte {}: the oracle returns {}, the proved call {}, or their buffers differ",
                     length, header[0], expected, got
                 )));
             }
@@ -28,7 +27,7 @@ fn longest_traces() -> Option<Result<(), String>> {
 
 fn main() {
     let words: Vec<String> = std::env::args().skip(1).collect();
-    let status = oracle::trace_compare::main("compare_proved", &linked::replay_trace, &words);
+    let status = compare::main(USAGE, &linked::replay_trace, &words);
     if status != 0 {
         std::process::exit(status);
     }

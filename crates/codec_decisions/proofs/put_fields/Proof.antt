@@ -1,0 +1,15 @@
+-- `codec_decisions::put_fields` meets its contract, return by return. Assumes nothing.
+use borrow.Author.Needs.{needs}
+use Rattle.codec_decisions.proofs.put_fields.Statement.{statement}
+use Rattle.codec_decisions.proofs.put_fields.Tie as tie
+
+pub put-fields-spec : {M : Type 1} → statement M
+put-fields-spec =
+    tie.close
+    (tie.spec
+    (λ c κs. search needs)
+    (λ c κs. search needs)
+    (λ c κs. search needs)
+    (λ c κs. search needs)
+    (λ c κs. search needs)
+    (λ c. simp (← c .before .before .before .before .put-bit .ensures, ← c .before .before .before .put-bit2 .ensures, ← c .before .before .put-byte .ensures, ← c .before .put-byte2 .ensures, ← c .put .ensures)))

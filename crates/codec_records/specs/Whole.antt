@@ -1,0 +1,58 @@
+-- What a poll record is, byte by byte, and what the calls write (document 01, "Station": poll record). Assumes nothing.
+use Prim.Native.Nat.{ℕ, zero, suc, _+_, _*_, _<_}
+use mathlib.Core.Path.{_≡_}
+use mathlib.Core.List.{List, [], _++_}
+use mathlib.Core.Bool.{Bool, true, false}
+use Rattle.codec_fields.specs.Fields.{lowBytes}
+use Rattle.codec_telegrams.specs.Words.{telegramWord, TelegramFits}
+use Rattle.codec_decisions.specs.Decisions.{decisionWord, DecisionFits}
+use Rattle.codec_telegrams.specs.declared.Telegram.{Telegram}
+use Rattle.codec_decisions.specs.declared.Decision.{Decision}
+use Rattle.codec_records.specs.declared.Head.{Head}
+use Rattle.codec_records.specs.Records.{headOf, headWord, HeadFits, decisionAt, telegramAt, recordRefusal, headStored, decisionStored, telegramStored}
+
+-- parts 0, 1, .. k - 1, one after the other
+unfoldable pub each : (ℕ → List ℕ) → ℕ → List ℕ
+each part zero = []
+each part (suc k) = each part k ++ part k
+
+-- the two decisions of an application, normal then high priority
+abbrev pub applicationBytes : (ℕ → Bool → Decision) → ℕ → List ℕ
+applicationBytes decisions a = lowBytes 3 (decisionWord (decisions a false)) ++ lowBytes 3 (decisionWord (decisions a true))
+
+-- a telegram
+abbrev pub telegramBytes : (ℕ → Telegram) → ℕ → List ℕ
+telegramBytes telegrams j = lowBytes 4 (telegramWord (telegrams j))
+
+-- a poll record for n applications: 8 bytes of head, then per application two decisions of 3 bytes, then per telegram 4 bytes
+unfoldable pub recordBytes : Head → ℕ → (ℕ → Bool → Decision) → (ℕ → Telegram) → List ℕ
+recordBytes h n decisions telegrams =
+    lowBytes 8 (headWord h) ++ (each (applicationBytes decisions) n ++ each (telegramBytes telegrams) (h .telegrams))
+
+-- s with the decisions of the first k of n applications written, one call each
+unfoldable pub decisionsStored : List ℕ → ℕ → (ℕ → Bool → Decision) → ℕ → List ℕ
+decisionsStored s n decisions zero = s
+decisionsStored s n decisions (suc a) =
+    decisionStored (decisionStored (decisionsStored s n decisions a) n a false (decisions a false)) n a true (decisions a true)
+
+-- s with the first k telegrams after n applications written, one call each
+unfoldable pub telegramsStored : List ℕ → ℕ → (ℕ → Telegram) → ℕ → List ℕ
+telegramsStored s n telegrams zero = s
+telegramsStored s n telegrams (suc j) = telegramStored (telegramsStored s n telegrams j) n j (telegrams j)
+
+-- s with a whole record written: the head, each decision, each telegram
+unfoldable pub recordStored : List ℕ → Head → ℕ → (ℕ → Bool → Decision) → (ℕ → Telegram) → List ℕ
+recordStored s h n decisions telegrams = telegramsStored (decisionsStored (headStored s h) n decisions n) n telegrams (h .telegrams)
+
+-- the numbers of a whole record fit their widths, and no decision sends 0 bytes
+pub record RecordFits (h : Head) (n : ℕ) (decisions : ℕ → Bool → Decision) (telegrams : ℕ → Telegram) : Type 0 where
+  pub head : HeadFits h
+  pub decided : (a : ℕ) (high : Bool) → a < n → DecisionFits (decisions a high)
+  pub heard : (j : ℕ) → j < h .telegrams → TelegramFits (telegrams j)
+
+-- s is accepted and says this head, these decisions and these telegrams
+pub record Says (s : List ℕ) (h : Head) (n : ℕ) (decisions : ℕ → Bool → Decision) (telegrams : ℕ → Telegram) : Type 0 where
+  pub accepted : recordRefusal s n ≡ 0
+  pub head : headOf s ≡ h
+  pub decided : (a : ℕ) (high : Bool) → a < n → decisionAt s n a high ≡ decisions a high
+  pub heard : (j : ℕ) → j < h .telegrams → telegramAt s n j ≡ telegrams j

@@ -1,0 +1,53 @@
+-- What the check of a whole record says of each field: no rule refuses it.
+use mathlib.Core.Path.{_≡_}
+use mathlib.Core.List.{List, [], _∷_}
+use Prim.Native.Nat.{ℕ}
+use Rattle.bit_times.specs.Times.{baudOf}
+use Rattle.settings.specs.Rules.{addressRefusal, baudRefusal, leastOf, slotBitsRefusal, hsaRefusal, rotationRefusal, gapWaitRefusal, retryRefusal, minTsdrRefusal, factorsRefusal}
+use Rattle.settings.specs.RuleLaws.{none-refuses}
+use Rattle.settings_build.specs.declared.PlainSettings.{PlainSettings}
+use Rattle.settings_build.specs.Build.{earlyRefusal, firstRefusal}
+
+-- no rule refuses a field
+pub record Passes (f : PlainSettings) : Type 0 where
+  pub address : addressRefusal (f .address) ≡ 0
+  pub baud : baudRefusal (baudOf (f .«baud_code»)) ≡ 0
+  pub slot-bits : slotBitsRefusal (leastOf (baudOf (f .«baud_code»))) (f .«slot_bits») ≡ 0
+  pub hsa : hsaRefusal (f .address) (f .«highest_station_address») ≡ 0
+  pub rotation : rotationRefusal (f .«token_rotation_bits») ≡ 0
+  pub gap-wait : gapWaitRefusal (f .«gap_wait_rotations») ≡ 0
+  pub retry : retryRefusal (f .«max_retry_limit») ≡ 0
+  pub min-tsdr : minTsdrRefusal (f .«min_tsdr_bits») ≡ 0
+  pub factors : factorsRefusal (f .«factor_1») (f .«factor_2») ≡ 0
+
+-- a record without a refusal passes each rule
+pub passes : (f : PlainSettings) → firstRefusal f ≡ 0 → Passes f
+unfolding firstRefusal earlyRefusal
+passes f e =
+    let late : List ℕ = factorsRefusal (f .«factor_1») (f .«factor_2») ∷ [] in
+    let seven : List ℕ = minTsdrRefusal (f .«min_tsdr_bits») ∷ [] in
+    let six : List ℕ = retryRefusal (f .«max_retry_limit») ∷ seven in
+    let five : List ℕ = gapWaitRefusal (f .«gap_wait_rotations») ∷ six in
+    let four : List ℕ = rotationRefusal (f .«token_rotation_bits») ∷ five in
+    let three : List ℕ = hsaRefusal (f .address) (f .«highest_station_address») ∷ four in
+    let two : List ℕ = slotBitsRefusal (leastOf (baudOf (f .«baud_code»))) (f .«slot_bits») ∷ three in
+    let ten : List ℕ = baudRefusal (baudOf (f .«baud_code»)) ∷ two in
+    let whole = none-refuses (earlyRefusal f) late e in
+    let from-1 = none-refuses (addressRefusal (f .address)) ten (whole .0) in
+    let from-10 = none-refuses (baudRefusal (baudOf (f .«baud_code»))) two (from-1 .1) in
+    let from-2 = none-refuses (slotBitsRefusal (leastOf (baudOf (f .«baud_code»))) (f .«slot_bits»)) three (from-10 .1) in
+    let from-3 = none-refuses (hsaRefusal (f .address) (f .«highest_station_address»)) four (from-2 .1) in
+    let from-4 = none-refuses (rotationRefusal (f .«token_rotation_bits»)) five (from-3 .1) in
+    let from-5 = none-refuses (gapWaitRefusal (f .«gap_wait_rotations»)) six (from-4 .1) in
+    let from-6 = none-refuses (retryRefusal (f .«max_retry_limit»)) seven (from-5 .1) in
+    record {
+      address = from-1 .0;
+      baud = from-10 .0;
+      slot-bits = from-2 .0;
+      hsa = from-3 .0;
+      rotation = from-4 .0;
+      gap-wait = from-5 .0;
+      retry = from-6 .0;
+      min-tsdr = none-refuses (minTsdrRefusal (f .«min_tsdr_bits»)) [] (from-6 .1) .0;
+      factors = none-refuses (factorsRefusal (f .«factor_1») (f .«factor_2»)) [] (whole .1) .0;
+    }

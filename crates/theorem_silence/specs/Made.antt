@@ -1,0 +1,231 @@
+-- The stations that the calls of Scripts make, stage by stage. What does not depend on the ring is computed for every ring; the ring
+-- is told by its members.
+use Prim.Native.Nat.{ℕ, _+_, _*_, _/_, _%_, _^_, _≤_, _<_}
+use mathlib.Core.Bool.{true, false, not}
+use mathlib.Core.Path.{_≡_, refl, ap, _∙_}
+use mathlib.Core.List.{List, [], _∷_, _++_}
+use lib.Dec.{eqb}
+use native.Mathlib.Omega.{arith}
+use borrow.Author.Tests.{lt-leb, lt-ltb, eq-eqb, ne-eqb}
+use Rattle.codec_fields.specs.Fields.{fieldOf, beFrom, loadOf, zerosOr14}
+use Rattle.bit_times.specs.Times.{rounded, timeOf}
+use Rattle.settings.specs.Settings.{slotTimeOf, tokenLostOf, rotationTimeOf}
+use Rattle.ring_addresses.specs.Set.{walk, nearest, betweenOf, keeps, sameSet}
+use Rattle.ring_addresses.specs.SetLaws.{same-then}
+use Rattle.ring_addresses.specs.Words.{bitOf, wordOf, hasIn}
+use Rattle.ring.specs.declared.Ring.{Ring}
+use Rattle.ring.specs.declared.GapState.{GapState}
+use Rattle.ring.specs.declared.GapState.the-variants.{Waiting, DoPoll}
+use Rattle.ring.specs.Ring.{has, make, freshOf, roundOf, lapsOf, passed, witnessOf, claimOf, addOf, nextOf, polls, candidateOf, gapOf}
+use Rattle.codec_telegrams.specs.declared.Telegram.the-variants as telegram
+use Rattle.codec_telegrams.specs.Words as words
+use Rattle.codec_decisions.specs.Decisions as decisions
+use Rattle.codec_records.specs.declared.Head.{Head}
+use Rattle.codec_records.specs.Records as records
+use Rattle.station.specs.declared.OptionAddress.the-variants as optionAddress
+use Rattle.station.specs.declared.Activity.the-variants as activity
+use Rattle.station.specs.declared.PassTokenAttempt.the-variants.{First}
+use Rattle.station.specs.declared.State.{State}
+use Rattle.station.specs.declared.State.the-variants.{ListenToken, PassToken, AwaitStatusResponse}
+use Rattle.station.specs.declared.Core.{Core}
+use Rattle.station.specs.declared.Station.{Station}
+use Rattle.station.specs.Parts.{zeroTime, freshStation, freshCore, withState, withActivity, withGap, withPending, withTokenTimes, withNextApplication, withOnline}
+use Rattle.station.specs.Steps as steps
+use Rattle.station_hear_listen.specs.HearListen as hear
+use Rattle.station_hear_active.specs.HearActive as active
+use Rattle.station_listen.specs.Listen as listening
+use Rattle.station_hold.specs.Hold as holding
+use Rattle.station_pass.specs.Pass as passing
+use Rattle.station_await_status.specs.AwaitStatus as status
+use Rattle.station_claim.specs.Claim as claiming
+use Rattle.station_answer.specs.declared.Polled.{Polled}
+use Rattle.station_answer.specs.Answer as answering
+use Rattle.station_command.specs.Command as commands
+use Rattle.station_poll.specs.Poll as polling
+use Rattle.theorem_sound.specs.Sound.{Call, poll, after, run}
+use Rattle.theorem_silence.specs.Theorem.{stationOf}
+use Rattle.theorem_silence.specs.Scripts.{token, declines, recordOf, responseOf1, pollHearing, pollSilent, lowest, hears-all, claims, begins-look, begins-question}
+
+-- the station with this core and ring
+abbrev pub lowestWith : Core → Ring → Station
+lowestWith c r = stationOf lowest 1 c r
+
+-- an online core: the last token time, start and span of the hold, last activity, state, gap state
+abbrev pub coreAt : ℕ → ℕ → ℕ → ℕ → State → GapState → Core
+coreAt token from span last state gap =
+    record { «last_token_time» = record { 0 = token }; «end_token_hold_time» = record { from = record { 0 = from }; span = record { 0 = span }; less = zeroTime }; «last_bus_activity» = activity.At (record { 0 = last }); state = state; «gap_state» = gap; «pending_bytes» = 0; «next_application» = 0; online = true }
+
+-- it listens, with no request and no collision
+abbrev pub listens : State
+listens = ListenToken optionAddress.None 0
+
+-- the cores on the way to a pass with the look at the gap: it listens, its last activity at this time; then it starts the pass
+abbrev pub listens-look : ℕ → Core
+listens-look last = coreAt 0 0 0 last listens (Waiting 0)
+
+abbrev pub pass-look : Core
+pass-look = coreAt 3500 0 64872 3566 (PassToken true First) (Waiting 0)
+
+-- and those on the way to a pass after a gap question: it listens, the gap count at 2; it starts a pass, in which the question is due;
+-- it awaits the answer of 1; it has it and starts the pass
+abbrev pub listens-question : ℕ → Core
+listens-question last = coreAt 3400 3000 64872 last listens (Waiting 2)
+
+abbrev pub pass-question : Core
+pass-question = coreAt 7600 3400 64872 7666 (PassToken true First) (Waiting 2)
+
+abbrev pub awaits-one : Core
+awaits-one = coreAt 7600 3400 64872 8132 (AwaitStatusResponse 1) (DoPoll 1)
+
+abbrev pub pass-answered : Core
+pass-answered = coreAt 7600 3400 64872 8300 (PassToken false First) (DoPoll 1)
+
+-- a station by its core and whatever ring it has
+by-core : (s : Station) (c : Core) → s .core ≡ c → s .p ≡ lowest → s .applications ≡ 1 → s ≡ lowestWith c (s .«token_ring»)
+by-core s c core p applications = λ i. record { core = core i; «token_ring» = s .«token_ring»; p = p i; applications = applications i }
+
+-- no call changes nothing, and a run goes on where the one before it ended
+pub calls-none : (s : Station) → run s [] ≡ s
+unfolding run
+calls-none s = refl
+
+pub calls-on : (cs ds : List Call) (s : Station) → run s (cs ++ ds) ≡ run (run s cs) ds
+unfolding run
+calls-on [] ds s = refl
+calls-on (c ∷ cs) ds s = calls-on cs ds (after s c)
+
+-- The start, and who is heard.
+
+-- a pass with the look at the gap: online and listening from time 0; then all are heard
+abbrev pub begun-look : Station
+begun-look = lowestWith (listens-look 0) (freshOf 0)
+
+abbrev pub ring-all : Ring
+ring-all = run begun-look (hears-all 100 1 7) .«token_ring»
+
+-- a pass after a gap question: the token was passed twice, and it listens again; then all but 1 are heard
+abbrev pub ring-alone : Ring
+ring-alone = run (freshStation lowest 1) begins-question .«token_ring»
+
+abbrev pub begun-question : Station
+begun-question = lowestWith (listens-question 4100) ring-alone
+
+abbrev pub ring-but-one : Ring
+ring-but-one = run begun-question (hears-all 4200 2 6) .«token_ring»
+
+-- these four runs, worked out from the definitions, but for the ring
+pub record FirstRuns : Type 0 where
+  pub look : run (freshStation lowest 1) begins-look ≡ begun-look
+  pub heard-all : run begun-look (hears-all 100 1 7) ≡ lowestWith (listens-look 800) ring-all
+  pub question : run (freshStation lowest 1) begins-question ≡ begun-question
+  pub heard-but-one : run begun-question (hears-all 4200 2 6) ≡ lowestWith (listens-question 4900) ring-but-one
+
+pub first-runs : FirstRuns
+unfolding walk nearest betweenOf keeps sameSet roundOf lapsOf bitOf wordOf hasIn has make freshOf passed witnessOf claimOf nextOf rounded timeOf slotTimeOf tokenLostOf rotationTimeOf withState withActivity withGap withPending withTokenTimes withNextApplication withOnline after run fieldOf beFrom loadOf zerosOr14 words.responseStateOf words.telegramRefusal words.telegramOf decisions.lengthRefusal decisions.decisionRefusal decisions.decisionOf records.headOf records.telegramAt records.decisionAt records.entryRefusal records.wordsRefusal records.recordRefusal steps.knownAt steps.elapsedOf steps.markedAt steps.busyOf steps.ongoingOf steps.busActivityOf steps.doneOf polling.connectedOn polling.connectedOf polling.dispatchOn polling.dispatchOf polling.pollOnline polling.pollInner polling.acceptedAfter polling.acceptedPoll polling.pollOf answering.polledOf steps.rxOf steps.tokenLostWaitOf steps.heardOf hear.listenHeard hear.listenTelegramOn hear.listenTelegram listening.heardTelegram listening.heardAll listening.receivedAll listening.consumedAll listening.listenTokenOn listening.listenTokenAfter listening.listenTokenOf steps.pauseOf steps.sentAt steps.transmitOf steps.toClaimToken steps.toUseToken steps.withTokenTime claiming.claimNext claiming.claimAfter claiming.claimTokenOf listening.lostTokenOf steps.toPassToken holding.declinesOn holding.declinesAt holding.usePassOf holding.appTransmitOf holding.firstOr holding.turnOf holding.askedFrom holding.askedOf holding.holdLess holding.holdEndOf holding.holdsOf holding.useAppsAfter holding.useAppsOf holding.useTokenAfter holding.useTokenTimed holding.useTokenOf passing.gapAdvanced passing.passSent passing.passSend passing.passPollOn passing.passPoll passing.passAfter passing.passTokenOf freshStation freshCore commands.onlineOf steps.toListenToken steps.toAwaitDataResponse steps.toActiveIdle holding.validResponse holding.receivedOf holding.awaitDataOf listening.activeIdleOn listening.activeIdleAfter listening.activeIdleOf active.activeCollided active.tokenHeard active.activeHeard active.handleTelegramOn active.handleTelegram
+first-runs =
+    record {
+      look = refl;
+      heard-all = by-core (run begun-look (hears-all 100 1 7)) (listens-look 800) refl refl refl;
+      question = by-core (run (freshStation lowest 1) begins-question) (listens-question 4100) refl refl refl;
+      heard-but-one = by-core (run begun-question (hears-all 4200 2 6)) (listens-question 4900) refl refl refl;
+    }
+
+-- and their rings' members
+record Tested : Type 0 where
+  pub all : sameSet (has ring-all) (λ (x : ℕ). true) 126 ≡ true
+  pub alone : sameSet (has ring-alone) (λ (x : ℕ). eqb x 0) 126 ≡ true
+  pub but-one : sameSet (has ring-but-one) (λ (x : ℕ). not (eqb x 1)) 126 ≡ true
+  pub own-all : ring-all .own ≡ 0
+  pub own-alone : ring-alone .own ≡ 0
+  pub own-but-one : ring-but-one .own ≡ 0
+
+tested : Tested
+unfolding walk nearest betweenOf keeps sameSet roundOf lapsOf bitOf wordOf hasIn has make freshOf passed witnessOf claimOf nextOf rounded timeOf slotTimeOf tokenLostOf rotationTimeOf withState withActivity withGap withPending withTokenTimes withNextApplication withOnline after run fieldOf beFrom loadOf zerosOr14 words.responseStateOf words.telegramRefusal words.telegramOf decisions.lengthRefusal decisions.decisionRefusal decisions.decisionOf records.headOf records.telegramAt records.decisionAt records.entryRefusal records.wordsRefusal records.recordRefusal steps.knownAt steps.elapsedOf steps.markedAt steps.busyOf steps.ongoingOf steps.busActivityOf steps.doneOf polling.connectedOn polling.connectedOf polling.dispatchOn polling.dispatchOf polling.pollOnline polling.pollInner polling.acceptedAfter polling.acceptedPoll polling.pollOf answering.polledOf steps.rxOf steps.tokenLostWaitOf steps.heardOf hear.listenHeard hear.listenTelegramOn hear.listenTelegram listening.heardTelegram listening.heardAll listening.receivedAll listening.consumedAll listening.listenTokenOn listening.listenTokenAfter listening.listenTokenOf steps.pauseOf steps.sentAt steps.transmitOf steps.toClaimToken steps.toUseToken steps.withTokenTime claiming.claimNext claiming.claimAfter claiming.claimTokenOf listening.lostTokenOf steps.toPassToken holding.declinesOn holding.declinesAt holding.usePassOf holding.appTransmitOf holding.firstOr holding.turnOf holding.askedFrom holding.askedOf holding.holdLess holding.holdEndOf holding.holdsOf holding.useAppsAfter holding.useAppsOf holding.useTokenAfter holding.useTokenTimed holding.useTokenOf passing.gapAdvanced passing.passSent passing.passSend passing.passPollOn passing.passPoll passing.passAfter passing.passTokenOf freshStation freshCore commands.onlineOf steps.toListenToken steps.toAwaitDataResponse steps.toActiveIdle holding.validResponse holding.receivedOf holding.awaitDataOf listening.activeIdleOn listening.activeIdleAfter listening.activeIdleOf active.activeCollided active.tokenHeard active.activeHeard active.handleTelegramOn active.handleTelegram
+tested = record { all = refl; alone = refl; but-one = refl; own-all = refl; own-alone = refl; own-but-one = refl }
+
+pub record Members : Type 0 where
+  pub all : (x : ℕ) → x < 126 → has ring-all x ≡ true
+  pub alone : (x : ℕ) → x < 126 → has ring-alone x ≡ eqb x 0
+  pub but-one : (x : ℕ) → x < 126 → has ring-but-one x ≡ not (eqb x 1)
+  pub own-all : ring-all .own ≡ 0
+  pub own-alone : ring-alone .own ≡ 0
+  pub own-but-one : ring-but-one .own ≡ 0
+
+pub members : Members
+members =
+    record {
+      all = same-then (has ring-all) (λ (x : ℕ). true) 126 (tested .all);
+      alone = same-then (has ring-alone) (λ (x : ℕ). eqb x 0) 126 (tested .alone);
+      but-one = same-then (has ring-but-one) (λ (x : ℕ). not (eqb x 1)) 126 (tested .but-one);
+      own-all = tested .own-all;
+      own-alone = tested .own-alone;
+      own-but-one = tested .own-but-one;
+    }
+
+-- The token from k to us.
+
+-- what a record says that reports one token, from k to 0
+pub record SaysToken (bytes : List ℕ) (clock k : ℕ) : Type 0 where
+  pub accepted : records.recordRefusal bytes 1 ≡ 0
+  pub head : records.headOf bytes ≡ record { clock = clock; pending = 0; telegrams = 1; transmitting = false }
+  pub telegram : records.telegramAt bytes 1 0 ≡ telegram.Token 0 k
+
+tokens-same : (d s k : ℕ) → d ≡ 0 → s ≡ k → telegram.Token d s ≡ telegram.Token 0 k
+tokens-same d s k a b = cc
+
+-- the word of such a token
+token-word : (k : ℕ) → k < 128 → (words.telegramRefusal (k * 65536) ≡ 0) × (words.telegramOf (k * 65536) ≡ telegram.Token 0 k)
+unfolding words.telegramRefusal words.telegramOf zerosOr14 fieldOf
+token-word k l = (
+  rw (lt-leb (2 ^ 32) (k * 65536) (omega arith), eq-eqb (k * 65536 / 2 ^ 30 % 2 ^ 2) 0 (omega arith), eq-eqb (k * 65536 / 2 ^ 0 % 2 ^ 16) 0 (omega arith)),
+  rw (eq-eqb (k * 65536 / 2 ^ 30 % 2 ^ 2) 0 (omega arith)) (tokens-same (k * 65536 / 2 ^ 23 % 2 ^ 7) (k * 65536 / 2 ^ 16 % 2 ^ 7) k (omega arith) (omega arith)),
+)
+
+word-of : (k : ℕ) → ((0 + (0 + k)) * 256 + 0) * 256 + 0 ≡ k * 65536
+word-of k = omega arith
+
+pub says-token : (k : ℕ) → k < 128 → SaysToken (recordOf 900 declines (token k 0 ∷ [])) 900 k × SaysToken (recordOf 5000 declines (token k 0 ∷ [])) 5000 k
+unfolding fieldOf beFrom loadOf zerosOr14 decisions.lengthRefusal decisions.decisionRefusal records.headOf records.telegramAt records.entryRefusal records.wordsRefusal records.recordRefusal
+says-token k l =
+    let refused = ap words.telegramRefusal (word-of k) ∙ token-word k l .0 in
+    let told = ap words.telegramOf (word-of k) ∙ token-word k l .1 in
+    (record { accepted = refused; head = refl; telegram = told }, record { accepted = refused; head = refl; telegram = told })
+
+-- an accepted record, by its first 64 bits
+by-head : (s : Station) (bytes : List ℕ) (head : Head) → records.recordRefusal bytes (s .applications) ≡ 0 → records.headOf bytes ≡ head → polling.pollOf s bytes ≡ polling.acceptedAfter s bytes head
+unfolding polling.pollOf polling.acceptedPoll
+by-head s bytes head e h = rw e (ap (polling.acceptedAfter s bytes) h)
+
+-- it is witnessed, and else only the last activity changes
+pub cut-heard : (bytes : List ℕ) (clock k : ℕ) → SaysToken bytes clock k → 1 ≤ k → (time from span last : ℕ) (gap : GapState) (r : Ring) → last < clock → clock < last + 2400 → run (lowestWith (coreAt time from span last listens gap) r) (poll bytes ∷ []) ≡ lowestWith (coreAt time from span clock listens gap) (witnessOf r k 0)
+unfolding rounded timeOf slotTimeOf tokenLostOf rotationTimeOf withState withActivity withGap withPending withTokenTimes withNextApplication withOnline after run steps.knownAt steps.elapsedOf steps.markedAt steps.busyOf steps.ongoingOf steps.busActivityOf steps.doneOf polling.connectedOn polling.connectedOf polling.dispatchOn polling.dispatchOf polling.pollOnline polling.pollInner polling.acceptedAfter polling.acceptedPoll polling.pollOf answering.polledOf steps.rxOf steps.tokenLostWaitOf steps.heardOf hear.listenHeard hear.listenTelegramOn hear.listenTelegram listening.heardTelegram listening.heardAll listening.receivedAll listening.consumedAll listening.listenTokenOn listening.listenTokenAfter listening.listenTokenOf
+cut-heard bytes clock k said l time from span last gap r later soon =
+    let s = lowestWith (coreAt time from span last listens gap) r in
+    ap (λ (x : Polled). x .station) (by-head s bytes _ (said .accepted) (said .head))
+    ∙ rw (lt-leb clock last later, lt-leb (last + 2400) clock soon, said .telegram, ne-eqb k 0 (λ e. omega arith), lt-ltb last clock later)
+
+-- What follows does not look at the ring but for the question.
+
+-- the token is claimed, sent twice and used
+pub record Claimed (r : Ring) : Type 0 where
+  pub look-none : run (lowestWith (listens-look 0) r) (claims 3300) ≡ lowestWith pass-look (claimOf (claimOf r))
+  pub look-heard : run (lowestWith (listens-look 900) r) (claims 3300) ≡ lowestWith pass-look (claimOf (claimOf r))
+  pub question-none : run (lowestWith (listens-question 4100) r) (claims 7400) ≡ lowestWith pass-question (claimOf (claimOf r))
+  pub question-heard : run (lowestWith (listens-question 5000) r) (claims 7400) ≡ lowestWith pass-question (claimOf (claimOf r))
+
+pub claimed : (r : Ring) → Claimed r
+unfolding rounded timeOf slotTimeOf tokenLostOf rotationTimeOf withState withActivity withGap withPending withTokenTimes withNextApplication withOnline after run fieldOf beFrom loadOf zerosOr14 words.responseStateOf words.telegramRefusal words.telegramOf decisions.lengthRefusal decisions.decisionRefusal decisions.decisionOf records.headOf records.telegramAt records.decisionAt records.entryRefusal records.wordsRefusal records.recordRefusal steps.knownAt steps.elapsedOf steps.markedAt steps.busyOf steps.ongoingOf steps.busActivityOf steps.doneOf polling.connectedOn polling.connectedOf polling.dispatchOn polling.dispatchOf polling.pollOnline polling.pollInner polling.acceptedAfter polling.acceptedPoll polling.pollOf answering.polledOf steps.rxOf steps.tokenLostWaitOf steps.heardOf hear.listenHeard hear.listenTelegramOn hear.listenTelegram listening.heardTelegram listening.heardAll listening.receivedAll listening.consumedAll listening.listenTokenOn listening.listenTokenAfter listening.listenTokenOf steps.pauseOf steps.sentAt steps.transmitOf steps.toClaimToken steps.toUseToken steps.withTokenTime claiming.claimNext claiming.claimAfter claiming.claimTokenOf listening.lostTokenOf steps.toPassToken holding.declinesOn holding.declinesAt holding.usePassOf holding.appTransmitOf holding.firstOr holding.turnOf holding.askedFrom holding.askedOf holding.holdLess holding.holdEndOf holding.holdsOf holding.useAppsAfter holding.useAppsOf holding.useTokenAfter holding.useTokenTimed holding.useTokenOf
+claimed r = record { look-none = refl; look-heard = refl; question-none = refl; question-heard = refl }
+
+-- 1 is asked, where the ring has it polled; and it answers: in the ring, or not ready
+pub one-gets-asked : (r : Ring) → polls r 1 ≡ true → run (lowestWith pass-question r) (pollSilent 8000 ∷ []) ≡ lowestWith awaits-one r
+unfolding rounded timeOf slotTimeOf tokenLostOf rotationTimeOf withState withActivity withGap withPending withTokenTimes withNextApplication withOnline after run fieldOf beFrom loadOf zerosOr14 words.responseStateOf words.telegramRefusal words.telegramOf decisions.lengthRefusal decisions.decisionRefusal decisions.decisionOf records.headOf records.telegramAt records.decisionAt records.entryRefusal records.wordsRefusal records.recordRefusal steps.knownAt steps.elapsedOf steps.markedAt steps.busyOf steps.ongoingOf steps.busActivityOf steps.doneOf polling.connectedOn polling.connectedOf polling.dispatchOn polling.dispatchOf polling.pollOnline polling.pollInner polling.acceptedAfter polling.acceptedPoll polling.pollOf answering.polledOf steps.pauseOf steps.sentAt steps.transmitOf steps.toClaimToken steps.toUseToken steps.withTokenTime claiming.claimNext claiming.claimAfter claiming.claimTokenOf listening.lostTokenOf passing.gapAdvanced passing.passSent passing.passSend passing.passPollOn passing.passPoll passing.passAfter passing.passTokenOf gapOf candidateOf steps.toAwaitStatusResponse status.statusRingOn status.statusRing status.statusAnswered status.statusReceived status.awaitStatusOf
+one-gets-asked r e = rw e
+
+pub record OneAnswers (r : Ring) : Type 0 where
+  pub in-ring : run (lowestWith awaits-one r) (pollHearing 8300 (responseOf1 3 ∷ []) ∷ []) ≡ lowestWith pass-answered (addOf r 1)
+  pub not-ready : run (lowestWith awaits-one r) (pollHearing 8300 (responseOf1 1 ∷ []) ∷ []) ≡ lowestWith pass-answered r
+
+pub one-answers : (r : Ring) → OneAnswers r
+unfolding rounded timeOf slotTimeOf tokenLostOf rotationTimeOf withState withActivity withGap withPending withTokenTimes withNextApplication withOnline after run fieldOf beFrom loadOf zerosOr14 words.responseStateOf words.telegramRefusal words.telegramOf decisions.lengthRefusal decisions.decisionRefusal decisions.decisionOf records.headOf records.telegramAt records.decisionAt records.entryRefusal records.wordsRefusal records.recordRefusal steps.knownAt steps.elapsedOf steps.markedAt steps.busyOf steps.ongoingOf steps.busActivityOf steps.doneOf polling.connectedOn polling.connectedOf polling.dispatchOn polling.dispatchOf polling.pollOnline polling.pollInner polling.acceptedAfter polling.acceptedPoll polling.pollOf answering.polledOf steps.rxOf steps.toPassToken gapOf candidateOf steps.toAwaitStatusResponse status.statusRingOn status.statusRing status.statusAnswered status.statusReceived status.awaitStatusOf
+one-answers r = record { in-ring = refl; not-ready = refl }

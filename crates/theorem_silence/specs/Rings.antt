@@ -1,0 +1,107 @@
+-- Rings of station 0 whose members are 0, 1, .. k.
+use Prim.Native.Nat.{ℕ, zero, suc, _+_, _≤_, _<_}
+use mathlib.Core.Bool.{Bool, true, false, cond, not, _||_}
+use mathlib.Core.Path.{_≡_, refl, sym, ap, _∙_}
+use lib.ListN.{length}
+use lib.Dec.{eqb, leb, ltb}
+use native.Mathlib.Omega.{arith}
+use borrow.Author.Tests.{le-leb, lt-leb, le-ltb, lt-ltb, ne-eqb, leb-true, leb-false, eqb-true, eqb-false}
+use borrow.Table.Steps.{cases}
+use Rattle.ring_addresses.specs.Set.{up, walk, betweenOf, keeps}
+use Rattle.ring_addresses.specs.SetLaws.{true≢false, walk-ext, walk-nobody}
+use Rattle.ring.specs.declared.Ring.{Ring}
+use Rattle.ring.specs.Ring.{has, others, nextOf, polls, witnessOf}
+use Rattle.ring.specs.Laws.{SoundRing, next-in, witness-has}
+
+-- the members are 0, 1, .. k
+abbrev pub UpTo : Ring → ℕ → Type 0
+UpTo r k = (x : ℕ) → x < 126 → has r x ≡ leb x k
+
+-- walking on from d, at most one past k, finds those that are left up to k
+walk-up : (n d k : ℕ) → d + n ≡ 126 → d ≤ suc k → k ≤ 125 → length (walk (λ (x : ℕ). leb x k) (up 0) n d) + d ≡ suc k
+unfolding walk
+walk-up zero d k e l m = omega arith
+walk-up (suc n) d k e l m =
+    let here : up 0 d ≡ d = omega arith in
+    cases (leb d k)
+    (λ t. rw (here, t) (omega (arith, walk-up n (suc d) k (omega arith) (omega (arith, leb-true d k t)) m)))
+    (λ f.
+    let none = walk-nobody (λ (x : ℕ). leb x k) (up 0) n (suc d) (λ x a b. lt-leb (up 0 x) k (omega (arith, leb-false d k f))) in
+    rw (here, f, none) (omega (arith, leb-false d k f)))
+
+-- such a ring has k others
+pub others-up-to : (r : Ring) (k : ℕ) → r .own ≡ 0 → k ≤ 125 → UpTo r k → length (others r) ≡ k
+unfolding others
+others-up-to r k own l h =
+    let same = walk-ext (has r) (λ (x : ℕ). leb x k) (up 0) 125 1 (λ e a b. h (up 0 e) (omega arith)) in
+    ap (λ (o : ℕ). length (walk (has r) (up o) 125 1)) own ∙ ap length same ∙ omega (arith, walk-up 125 1 k (omega arith) (omega arith) l)
+
+-- who lies strictly between k and 0 going up: whoever is above k
+above : (k x : ℕ) → 1 ≤ k → betweenOf k x 0 ≡ ltb k x
+unfolding betweenOf
+above k x l = rw (le-ltb k 0 (omega arith), ne-eqb k 0 (λ e. omega arith), le-ltb x 0 (omega arith)) (either (ltb k x))
+  where
+    either : (b : Bool) → cond b true false ≡ b
+    either true = refl
+    either false = refl
+
+-- a token from k to 0 takes out who is above k, and nobody else
+keeps-cut : (k x : ℕ) → 1 ≤ k → keeps 0 k 0 true x ≡ leb x k
+unfolding keeps
+keeps-cut k x l =
+    cases (leb x k)
+    (λ t.
+    let low = leb-true x k t in
+    rw (t, above k x l, le-ltb k x low) (either (eqb x 0)))
+    (λ f.
+    let high = leb-false x k f in
+    rw (f, above k x l, lt-ltb k x high, ne-eqb x 0 (λ e. omega arith)))
+  where
+    either : (b : Bool) → (b || true) ≡ true
+    either true = refl
+    either false = refl
+
+-- of all members those up to k stay
+pub cut-all : (r : Ring) (k : ℕ) → r .own ≡ 0 → 1 ≤ k → k ≤ 125 → ((x : ℕ) → x < 126 → has r x ≡ true) → UpTo (witnessOf r k 0) k
+cut-all r k own l m h x a =
+    witness-has r k 0 x (omega arith) (omega arith) a
+    ∙ ap (λ (o : ℕ). keeps o k 0 (has r x) x) own
+    ∙ ap (λ (b : Bool). keeps 0 k 0 b x) (h x a)
+    ∙ keeps-cut k x l
+
+-- of all members but 1 those up to k stay, and 1 comes in
+pub cut-added : (r : Ring) (k : ℕ) → r .own ≡ 0 → 2 ≤ k → k ≤ 125 → ((x : ℕ) → x < 126 → has r x ≡ not (eqb x 1)) → (x : ℕ) → x < 126 → (eqb x 1 || has (witnessOf r k 0) x) ≡ leb x k
+cut-added r k own l m h x a =
+    cases (eqb x 1) (λ e. rw e (sym (le-leb x k (omega (arith, eqb-true x 1 e)))))
+    (λ e.
+    rw e
+    (witness-has r k 0 x (omega arith) (omega arith) a
+    ∙ ap (λ (o : ℕ). keeps o k 0 (has r x) x) own
+    ∙ ap (λ (b : Bool). keeps 0 k 0 b x) (h x a ∙ ap not e)
+    ∙ keeps-cut k x (omega arith)))
+
+-- 1 stays out
+pub one-out : (r : Ring) (k : ℕ) → 2 ≤ k → k ≤ 125 → has r 1 ≡ false → has (witnessOf r k 0) 1 ≡ false
+unfolding keeps
+one-out r k l m out = witness-has r k 0 1 (omega arith) (omega arith) (omega arith) ∙ rw (out, ne-eqb 1 k (λ e. omega arith))
+
+-- 1 lies between 0 and whoever is above 1
+one-between : (n : ℕ) → 1 < n → betweenOf 0 1 n ≡ true
+unfolding betweenOf
+one-between n l = rw (lt-ltb 0 n (omega arith), lt-ltb 1 n l)
+
+above-one : (n : ℕ) → (n ≡ 0 → ⊥) → (n ≡ 1 → ⊥) → 1 < n
+above-one zero a b = absurd (a refl)
+above-one (suc zero) a b = absurd (b refl)
+above-one (suc (suc n)) a b = omega arith
+
+-- where 1 is no member it is asked
+pub one-asked : (r : Ring) → SoundRing r → r .own ≡ 0 → has r 1 ≡ false → polls r 1 ≡ true
+unfolding polls
+one-asked r s own out =
+    ap (λ (o : ℕ). cond (eqb (nextOf r) o) (not (eqb 1 o)) (betweenOf o 1 (nextOf r))) own ∙ go (nextOf r) (next-in r s)
+  where
+    go : (n : ℕ) → has r n ≡ true → cond (eqb n 0) (not (eqb 1 0)) (betweenOf 0 1 n) ≡ true
+    go n i =
+        cases (eqb n 0) (λ e. rw e)
+        (λ e. rw e (cases (eqb n 1) (λ f. absurd (true≢false (sym i ∙ ap (has r) (eqb-true n 1 f) ∙ out))) (λ f. one-between n (above-one n (eqb-false n 0 e) (eqb-false n 1 f)))))

@@ -1,0 +1,133 @@
+-- What a sound core is, line by line: each line is a predicate of the state and the parts that it speaks of. Kept.antt has a law for
+-- each line: every move keeps it.
+use Prim.Native.Nat.{ℕ, _+_, _*_, _≤_, _<_, _^_}
+use mathlib.Core.Bool.{true, false}
+use mathlib.Core.Path.{_≡_}
+use mathlib.Core.Logic.{_⊎_}
+use Rattle.bit_times.specs.declared.Micros.{Micros}
+use Rattle.bit_times.specs.declared.Baud.{Baud}
+use Rattle.bit_times.specs.Times.{timeOf}
+use Rattle.settings.specs.declared.Parameters.{Parameters}
+use Rattle.settings.specs.Settings.{rotationTimeOf}
+use Rattle.ring.specs.declared.GapState.{GapState}
+use Rattle.station.specs.declared.Activity.{Activity}
+use Rattle.station.specs.declared.Activity.the-variants as activity
+use Rattle.station.specs.declared.State.{State}
+use Rattle.station.specs.declared.State.the-variants.{Offline, ListenToken, ActiveIdle, UseToken, ClaimToken, AwaitDataResponse, PassToken, CheckTokenPass, AwaitStatusResponse}
+use Rattle.station.specs.declared.HoldEnd.{HoldEnd}
+use Rattle.station.specs.declared.Core.{Core}
+use Rattle.station_hold.specs.Hold.{holdLess}
+use Rattle.theorem_sound.specs.Moves.{Known, Low, Clock, HeldFits, GapAddressed, GapCounted}
+
+-- Each address that a state holds is below 128: who asked for the status, who may be the new previous station, and who is to answer.
+abbrev pub Addressed : State → Type 0
+Addressed Offline = Unit {0}
+Addressed (ListenToken request collisions) = Low request
+Addressed (ActiveIdle request newPreviousStation collisions) = Low request × Low newPreviousStation
+Addressed (UseToken held cycled) = Unit {0}
+Addressed (ClaimToken first) = Unit {0}
+Addressed (AwaitDataResponse a held) = a < 128
+Addressed (PassToken gap attempt) = Unit {0}
+Addressed (CheckTokenPass attempt) = Unit {0}
+Addressed (AwaitStatusResponse a) = a < 128
+
+-- At most one collision is counted: a second leads out of ListenToken and of ActiveIdle.
+abbrev pub CollidedOnce : State → Type 0
+CollidedOnce Offline = Unit {0}
+CollidedOnce (ListenToken request collisions) = collisions ≤ 1
+CollidedOnce (ActiveIdle request newPreviousStation collisions) = collisions ≤ 1
+CollidedOnce (UseToken held cycled) = Unit {0}
+CollidedOnce (ClaimToken first) = Unit {0}
+CollidedOnce (AwaitDataResponse a held) = Unit {0}
+CollidedOnce (PassToken gap attempt) = Unit {0}
+CollidedOnce (CheckTokenPass attempt) = Unit {0}
+CollidedOnce (AwaitStatusResponse a) = Unit {0}
+
+-- In every state but Offline and ListenToken the last bus activity is known.
+abbrev pub KnownIn : State → Activity → Type 0
+KnownIn Offline a = Unit {0}
+KnownIn (ListenToken request collisions) a = Unit {0}
+KnownIn (ActiveIdle request newPreviousStation collisions) a = Known a
+KnownIn (UseToken held cycled) a = Known a
+KnownIn (ClaimToken first) a = Known a
+KnownIn (AwaitDataResponse address held) a = Known a
+KnownIn (PassToken gap attempt) a = Known a
+KnownIn (CheckTokenPass attempt) a = Known a
+KnownIn (AwaitStatusResponse address) a = Known a
+
+-- A token in hand came at a time of a clock, and its first application is one of n.
+abbrev pub HeldIn : ℕ → State → Type 0
+HeldIn n Offline = Unit {0}
+HeldIn n (ListenToken request collisions) = Unit {0}
+HeldIn n (ActiveIdle request newPreviousStation collisions) = Unit {0}
+HeldIn n (UseToken held cycled) = HeldFits n held
+HeldIn n (ClaimToken first) = Unit {0}
+HeldIn n (AwaitDataResponse address held) = HeldFits n held
+HeldIn n (PassToken gap attempt) = Unit {0}
+HeldIn n (CheckTokenPass attempt) = Unit {0}
+HeldIn n (AwaitStatusResponse address) = Unit {0}
+
+-- The token in hand is the last token, once an application was asked or a reply is awaited. So the end of hold is this token's.
+abbrev pub LastToken : State → Micros → Type 0
+LastToken Offline last = Unit {0}
+LastToken (ListenToken request collisions) last = Unit {0}
+LastToken (ActiveIdle request newPreviousStation collisions) last = Unit {0}
+LastToken (UseToken held true) last = held .«token_time» .0 ≡ last .0
+LastToken (UseToken held false) last = Unit {0}
+LastToken (ClaimToken first) last = Unit {0}
+LastToken (AwaitDataResponse address held) last = held .«token_time» .0 ≡ last .0
+LastToken (PassToken gap attempt) last = Unit {0}
+LastToken (CheckTokenPass attempt) last = Unit {0}
+LastToken (AwaitStatusResponse address) last = Unit {0}
+
+-- The last bus activity is at most the time of 255 bytes after a time that a clock can show.
+abbrev pub ActivityFits : Baud → Activity → Type 0
+ActivityFits baud activity.Unknown = Unit {0}
+ActivityFits baud (activity.At last) = last .0 < 2 ^ 48 + timeOf (record { 0 = 11 * 255 }) baud .0
+
+-- no token yet: last token time and end of hold are a fresh station's
+pub record NoToken (last : Micros) (end : HoldEnd) : Type 0 where
+  pub no-last : last .0 ≡ 0
+  pub no-from : end .from .0 ≡ 0
+  pub no-span : end .span .0 ≡ 0
+  pub no-less : end .less .0 ≡ 0
+
+-- the end of hold was set with the last token time: it counts from an earlier token time, which was another one, and spans the
+-- rotation time, less the time of a gap poll or less nothing
+pub record HoldSet (p : Parameters) (last : Micros) (end : HoldEnd) : Type 0 where
+  pub clock : Clock (end .from)
+  pub another : end .from .0 ≡ last .0 → ⊥
+  pub rotation : end .span ≡ rotationTimeOf p
+  pub gap : GapState
+  pub gap-poll : end .less ≡ holdLess p gap
+
+-- The end of hold: there was no token yet, or it was set with the last token time.
+abbrev pub HoldMade : Parameters → Micros → HoldEnd → Type 0
+HoldMade p last end = NoToken last end ⊎ HoldSet p last end
+
+-- A sound core, of a station with settings p and n applications.
+pub record SoundCore (p : Parameters) (n : ℕ) (c : Core) : Type 0 where
+  -- the next application to be asked is one of them
+  pub next-one : c .«next_application» < n
+  -- the addresses that the state holds are below 128
+  pub addresses : Addressed (c .state)
+  -- the address that the gap state polls is below 126
+  pub gap-address : GapAddressed (c .«gap_state»)
+  -- the count of a gap state that waits is at most one above the settings' gap wait
+  pub gap-count : GapCounted p (c .«gap_state»)
+  -- a station that is not online is in Offline
+  pub offline : c .online ≡ false → c .state ≡ Offline
+  -- at most one collision is counted
+  pub collided-once : CollidedOnce (c .state)
+  -- the last bus activity is known in every state but Offline and ListenToken
+  pub activity-known : KnownIn (c .state) (c .«last_bus_activity»)
+  -- the last bus activity fits: at most the time of 255 bytes after a clock
+  pub activity-fits : ActivityFits (p .baudrate) (c .«last_bus_activity»)
+  -- a token in hand has a time of a clock, and a first application that is one of n
+  pub token-held : HeldIn n (c .state)
+  -- the token in hand is the last token, once its first cycle is done
+  pub last-token : LastToken (c .state) (c .«last_token_time»)
+  -- the last token time is a clock's
+  pub token-time : Clock (c .«last_token_time»)
+  -- the end of hold was set with the last token time
+  pub hold-made : HoldMade p (c .«last_token_time») (c .«end_token_hold_time»)

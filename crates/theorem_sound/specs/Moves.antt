@@ -1,0 +1,152 @@
+-- What calls do to a station's core, move by move, and from which states the published text lets each transition start.
+--
+-- A move is one of the places where active.rs writes to the station. Its transitions carry the assertion of the Rust
+-- (`debug_assert_state!`) as a premise. That a call is a list of moves (`Moves`) says that each transition of the call starts from a
+-- state that its assertion allows; and what each move keeps, each call keeps.
+use Prim.Native.Nat.{ℕ, _+_, _≤_, _<_, _^_}
+use mathlib.Core.Bool.{Bool, true, false, cond}
+use mathlib.Core.Path.{_≡_}
+use mathlib.Core.List.{List, [], _∷_}
+use lib.Dec.{eqb}
+use Rattle.bit_times.specs.declared.Micros.{Micros}
+use Rattle.settings.specs.declared.Parameters.{Parameters}
+use Rattle.ring.specs.declared.GapState.{GapState}
+use Rattle.ring.specs.declared.GapState.the-variants.{Waiting, DoPoll}
+use Rattle.station.specs.declared.Activity.{Activity}
+use Rattle.station.specs.declared.Activity.the-variants as activity
+use Rattle.station.specs.declared.OptionAddress.{OptionAddress}
+use Rattle.station.specs.declared.OptionAddress.the-variants as optionAddress
+use Rattle.station.specs.declared.OptionApplication.{OptionApplication}
+use Rattle.station.specs.declared.OptionApplication.the-variants as optionApplication
+use Rattle.station.specs.declared.PassTokenAttempt.{PassTokenAttempt}
+use Rattle.station.specs.declared.UseTokenData.{UseTokenData}
+use Rattle.station.specs.declared.State.the-variants.{ListenToken, ActiveIdle, UseToken, ClaimToken}
+use Rattle.station.specs.declared.Core.{Core}
+use Rattle.station.specs.Parts.{withState, withActivity, withPending, withGap, withNextApplication, withOnline, freshCore, stateNumber}
+use Rattle.station.specs.Steps.{toListenToken, toActiveIdle, toUseToken, toClaimToken, toAwaitDataResponse, toPassToken, toCheckTokenPass, toAwaitStatusResponse, knownAt, markedAt, sentAt}
+use Rattle.station_hold.specs.Hold.{holdEndOf}
+
+-- a list has a number
+abbrev pub lists : List ℕ → ℕ → Bool
+lists [] k = false
+lists (a ∷ more) k = cond (eqb a k) true (lists more k)
+
+-- The states that each transition of active.rs may start from, by its `debug_assert_state!` (PassiveIdle, which is not taken, left
+-- out), in the Rust's order and by document 01's numbers: 0 Offline, 1 ListenToken, 2 ActiveIdle, 3 UseToken, 4 ClaimToken,
+-- 5 AwaitDataResponse, 6 PassToken, 7 CheckTokenPass, 8 AwaitStatusResponse.
+abbrev pub listenTokenFrom : List ℕ
+listenTokenFrom = 1 ∷ 0 ∷ 2 ∷ []
+
+abbrev pub activeIdleFrom : List ℕ
+activeIdleFrom = 2 ∷ 1 ∷ 3 ∷ 5 ∷ 7 ∷ 8 ∷ []
+
+abbrev pub useTokenFrom : List ℕ
+useTokenFrom = 3 ∷ 4 ∷ 6 ∷ 5 ∷ 2 ∷ []
+
+abbrev pub claimTokenFrom : List ℕ
+claimTokenFrom = 4 ∷ 1 ∷ 2 ∷ []
+
+abbrev pub awaitDataResponseFrom : List ℕ
+awaitDataResponseFrom = 5 ∷ 3 ∷ []
+
+abbrev pub passTokenFrom : List ℕ
+passTokenFrom = 6 ∷ 3 ∷ 4 ∷ 7 ∷ 8 ∷ []
+
+abbrev pub checkTokenPassFrom : List ℕ
+checkTokenPassFrom = 7 ∷ 6 ∷ []
+
+abbrev pub awaitStatusResponseFrom : List ℕ
+awaitStatusResponseFrom = 8 ∷ 6 ∷ []
+
+-- a core is in one of these states: the assertion of a transition that starts there
+abbrev pub In : List ℕ → Core → Type 0
+In states c = lists states (stateNumber (c .state)) ≡ true
+
+-- the last bus activity is known
+abbrev pub Known : Activity → Type 0
+Known activity.Unknown = ⊥
+Known (activity.At last) = Unit {0}
+
+-- no address, or one below 128
+abbrev pub Low : OptionAddress → Type 0
+Low optionAddress.None = Unit {0}
+Low (optionAddress.Some a) = a < 128
+
+-- no application, or one of n
+abbrev pub OneOf : ℕ → OptionApplication → Type 0
+OneOf n optionApplication.None = Unit {0}
+OneOf n (optionApplication.Some a) = a < n
+
+-- A time that a clock can show: 48 bits.
+abbrev pub Clock : Micros → Type 0
+Clock t = t .0 < 2 ^ 48
+
+-- a token's data: its time is a clock's, its first application one of n
+pub record HeldFits (n : ℕ) (held : UseTokenData) : Type 0 where
+  pub token-time : Clock (held .«token_time»)
+  pub first-one : OneOf n (held .«first_app»)
+
+-- The address that the gap state polls is that of a station, below 126.
+abbrev pub GapAddressed : GapState → Type 0
+GapAddressed (Waiting count) = Unit {0}
+GapAddressed (DoPoll a) = a < 126
+
+-- The count of a gap state that waits is at most one above the settings' gap wait.
+abbrev pub GapCounted : Parameters → GapState → Type 0
+GapCounted p (Waiting count) = count ≤ p .«gap_wait_rotations» + 1
+GapCounted p (DoPoll a) = Unit {0}
+
+-- The moves, with settings p, n applications and the clock now: each place of active.rs that writes to the core.
+pub data Move (p : Parameters) (n : ℕ) (now : Micros) : Core → Core → Type 0 where
+  -- last_bus_activity.get_or_insert(now): before a pause, a slot and a lost token are looked at
+  waits : {c : Core} → Move p n now c (withActivity c (activity.At (knownAt (c .«last_bus_activity») now)))
+  -- mark_bus_activity
+  marks : {c : Core} → Move p n now c (withActivity c (markedAt (c .«last_bus_activity») now))
+  -- mark_tx: a telegram of at most 255 bytes
+  sends : {c : Core} (bytes : ℕ) → bytes ≤ 255 → Move p n now c (withActivity c (sentAt p now bytes))
+  -- check_for_bus_activity, mark_rx: the pending bytes
+  pends : {c : Core} (pending : ℕ) → Move p n now c (withPending c pending)
+  -- do_use_token: the end of hold and the last token time, by the token in hand
+  holds : {c : Core} (held : UseTokenData) (cycled : Bool) → c .state ≡ UseToken held cycled → HeldFits n held → Move p n now c (holdEndOf p c (held .«token_time»))
+  -- schedule_next_application
+  turns : {c : Core} (a : ℕ) → a < n → Move p n now c (withNextApplication c a)
+  -- do_pass_token: the gap's turn
+  gaps : {c : Core} (g : GapState) → GapAddressed g → GapCounted p g → Move p n now c (withGap c g)
+  -- get_listen_token_status_request, get_listen_token_collision_count: a field of ListenToken
+  listens : {c : Core} (q q' : OptionAddress) (k k' : ℕ) → c .state ≡ ListenToken q k → Low q' → k' ≤ 1 → Move p n now c (withState c (ListenToken q' k'))
+  -- get_active_idle_status_request, get_active_idle_new_previous_station, get_active_idle_collision_count: a field of ActiveIdle
+  idles : {c : Core} (q q' m m' : OptionAddress) (k k' : ℕ) → c .state ≡ ActiveIdle q m k → Low q' → Low m' → k' ≤ 1 → Move p n now c (withState c (ActiveIdle q' m' k'))
+  -- get_use_token_data, get_use_token_first_cycle_done: the first cycle is done, by the token whose time is the last token time
+  cycles : {c : Core} (held kept : UseTokenData) (cycled : Bool) → c .state ≡ UseToken held cycled → HeldFits n kept → kept .«token_time» .0 ≡ c .«last_token_time» .0 → Move p n now c (withState c (UseToken kept true))
+  -- get_claim_token_first: the second token is to be sent
+  claims : {c : Core} → c .state ≡ ClaimToken true → Move p n now c (withState c (ClaimToken false))
+  -- transition_listen_token, of a station that is online
+  listen-token : {c : Core} → In listenTokenFrom c → c .online ≡ true → Move p n now c (toListenToken c)
+  -- transition_active_idle: from ListenToken too, where the activity is known by then
+  active-idle : {c : Core} → In activeIdleFrom c → Known (c .«last_bus_activity») → Move p n now c (toActiveIdle c)
+  -- transition_use_token
+  use-token : {c : Core} (held : UseTokenData) → In useTokenFrom c → HeldFits n held → Move p n now c (toUseToken c held)
+  -- transition_claim_token: from ListenToken too, where the activity is known by then
+  claim-token : {c : Core} → In claimTokenFrom c → Known (c .«last_bus_activity») → Move p n now c (toClaimToken c)
+  -- transition_await_data_response: with the token whose time is the last token time
+  await-data-response : {c : Core} (a : ℕ) (held : UseTokenData) → In awaitDataResponseFrom c → a < 128 → HeldFits n held → held .«token_time» .0 ≡ c .«last_token_time» .0 → Move p n now c (toAwaitDataResponse c a held)
+  -- transition_pass_token
+  pass-token : {c : Core} (gap : Bool) (attempt : PassTokenAttempt) → In passTokenFrom c → Move p n now c (toPassToken c gap attempt)
+  -- transition_check_token_pass
+  check-token-pass : {c : Core} (attempt : PassTokenAttempt) → In checkTokenPassFrom c → Move p n now c (toCheckTokenPass c attempt)
+  -- transition_await_status_response
+  await-status-response : {c : Core} (a : ℕ) → In awaitStatusResponseFrom c → a < 128 → Move p n now c (toAwaitStatusResponse c a)
+  -- set_offline: by command, or by a second collision
+  goes-offline : {c : Core} → Move p n now c freshCore
+  -- set_online
+  goes-online : {c : Core} → Move p n now c (withOnline c true)
+
+-- a list of moves, from a core to a core
+pub data Moves (p : Parameters) (n : ℕ) (now : Micros) : Core → Core → Type 0 where
+  none : {c : Core} → Moves p n now c c
+  then : {c d e : Core} → Moves p n now c d → Move p n now d e → Moves p n now c e
+
+-- what each move keeps, a list of moves keeps
+pub keeps : (p : Parameters) (n : ℕ) (now : Micros) (P : Core → Type 0) → ((c d : Core) → Move p n now c d → P c → P d) → (c d : Core) → Moves p n now c d → P c → P d
+keeps p n now P step c d none b = b
+keeps p n now P step c d (then {d = e} more m) b = step e d m (keeps p n now P step c e more b)

@@ -1,0 +1,283 @@
+-- The two theorems of Waits.antt: from the steps (Guarded) to the calls.
+use Prim.Native.Nat.{ℕ, _+_, _*_, _<_, _≤_}
+use mathlib.Core.Bool.{Bool, true, false, cond}
+use mathlib.Core.Path.{_≡_, refl, sym, subst, _∙_}
+use mathlib.Core.Logic.{_⊎_, inl, inr}
+use mathlib.Core.List.{List, [], _∷_}
+use native.Mathlib.Omega.{arith}
+use native.Mathlib.Nat.{le-div-iff-mul-le}
+use borrow.Author.Tests.{leb-true, leb-false}
+use lib.Dec.{ltb, eqb}
+use Rattle.bit_times.specs.declared.Micros.{Micros}
+use Rattle.bit_times.specs.declared.Baud.{Baud}
+use Rattle.bit_times.specs.Times.{rateOf, rounded, timeOf}
+use Rattle.bit_times.specs.Laws.{listed}
+use Rattle.settings.specs.declared.Parameters.{Parameters}
+use Rattle.settings.specs.Settings.{slotTimeOf}
+use Rattle.ring.specs.declared.Ring.{Ring}
+use Rattle.codec_records.specs.Records.{recordRefusal}
+use Rattle.codec_answers.specs.Answers.{refusedAnswer}
+use Rattle.codec_answers.specs.declared.Outcome.the-variants as outcome
+use Rattle.codec_answers.specs.declared.Sent.the-variants as sent
+use Rattle.codec_answers.specs.declared.Notice.the-variants as notice
+use Rattle.station.specs.declared.Activity.{Activity}
+use Rattle.station.specs.declared.Activity.the-variants as activity
+use Rattle.station.specs.declared.State.{State}
+use Rattle.station.specs.declared.State.the-variants.{Offline, ListenToken, ActiveIdle, UseToken, ClaimToken, AwaitDataResponse, PassToken, CheckTokenPass, AwaitStatusResponse}
+use Rattle.station.specs.declared.Core.{Core}
+use Rattle.station.specs.declared.Station.{Station}
+use Rattle.station.specs.declared.Started.{Started}
+use Rattle.station.specs.declared.Started.the-variants as started
+use Rattle.station.specs.declared.Step.{Step}
+use Rattle.station.specs.declared.RingStep.{RingStep}
+use Rattle.station.specs.Parts.{withState, withActivity, withPending, stateNumber, newStation}
+use Rattle.station.specs.Steps.{toListenToken, knownAt, elapsedOf, markedAt, busyOf, ongoingOf, pauseOf, slotExpiredOf, busActivityOf, doneOf}
+use Rattle.station_answer.specs.declared.Polled.{Polled}
+use Rattle.station_answer.specs.Answer.{stepAnswer, polledOf, refusedPoll}
+use Rattle.station_poll.specs.Poll.{connectedOn, connectedOf, dispatchOn, dispatchOf, pollOnline, pollInner, acceptedAfter, acceptedPoll, pollOf}
+use Rattle.theorem_sound.specs.Moves.{lists, Known}
+use Rattle.theorem_sound.specs.Kept.{not-true, known-from}
+use Rattle.theorem_sound.specs.Walk.{bus-state}
+use Rattle.theorem_sound.specs.Keeps.{either}
+use Rattle.theorem_sound.specs.Sound.{SoundStation, SoundStarted, Call, poll, online, offline, passive, after, clockOf, new-sound, call-sound}
+use Rattle.station_command.specs.Command.{onlineOf, offlineOf, passiveOf}
+use Rattle.theorem_sound.specs.Fits.{answerTo}
+use Rattle.theorem_sound.specs.Waits.{Sends, TellsTimeout, Since, syncPause, PauseKept, waiting, SlotWaited, SlotKept, Throughout, ThroughoutNew, NoSendBeforePause, NoRetryBeforeSlot}
+use Rattle.theorem_sound.specs.Guarded.{Guarded, Told, weaken, retold, done-guarded, done-told, dispatch-guarded, slot-guarded, slot-told}
+
+-- the pause takes some time at every rate
+pause-some : (baud : Baud) → 1 ≤ timeOf (record { 0 = 33 }) baud .0
+unfolding timeOf rounded
+pause-some baud =
+    let some : 0 < rateOf baud = omega (arith, listed baud .slowest) in
+    let whole : 1 * rateOf baud ≤ 33 * 1000000 = omega (arith, listed baud .fastest) in
+    le-div-iff-mul-le some .1 whole
+
+-- an activity that a poll does not find going on lies before its clock
+free-before : (last now : Micros) (t : Bool) → ongoingOf (activity.At last) now t ≡ false → last .0 < now .0
+unfolding ongoingOf busyOf
+free-before last now true e = not-true (sym e)
+free-before last now false e = leb-false (now .0) (last .0) e
+
+-- a time that is over since the activity as it was marked, is over since the activity before
+module _ (now time : Micros) where
+  passed-at : (last : Micros) → elapsedOf now last time ≡ true → last .0 + time .0 ≤ now .0
+  unfolding elapsedOf
+  passed-at last e = leb-true (last .0 + time .0) (now .0) e
+
+  since-same : (a : Activity) → Known a ⊎ (1 ≤ time .0) → elapsedOf now (knownAt a now) time ≡ true → Since a now time
+  unfolding knownAt
+  since-same activity.Unknown (inl k) e = absurd k
+  since-same activity.Unknown (inr k) e = absurd (omega (arith, passed-at now e))
+  since-same (activity.At last) k e = record { last = last; known = refl; passed = passed-at last e }
+
+  since-either : (b : Bool) (a : Activity) (t : Bool) → ongoingOf a now t ≡ false → Known a ⊎ (1 ≤ time .0) → elapsedOf now (knownAt (cond b (activity.At now) (activity.At (knownAt a now))) now) time ≡ true → Since a now time
+  unfolding knownAt
+  since-either b activity.Unknown t o (inl k) e = absurd k
+  since-either true activity.Unknown t o (inr k) e = absurd (omega (arith, passed-at now e))
+  since-either false activity.Unknown t o (inr k) e = absurd (omega (arith, passed-at now e))
+  since-either true (activity.At last) t o k e = record { last = last; known = refl; passed = omega (arith, passed-at now e, free-before last now t o) }
+  since-either false (activity.At last) t o k e = record { last = last; known = refl; passed = passed-at last e }
+
+  since-marked : (a : Activity) (t : Bool) → ongoingOf a now t ≡ false → Known a ⊎ (1 ≤ time .0) → elapsedOf now (knownAt (markedAt a now) now) time ≡ true → Since a now time
+  unfolding markedAt
+  since-marked a t o k e = since-either (ltb (knownAt a now .0) (now .0)) a t o k e
+
+  since-bus : (c : Core) (pending : ℕ) (t : Bool) → ongoingOf (c .«last_bus_activity») now t ≡ false → Known (c .«last_bus_activity») ⊎ (1 ≤ time .0) → elapsedOf now (knownAt (busActivityOf c now pending .«last_bus_activity») now) time ≡ true → Since (c .«last_bus_activity») now time
+  unfolding busActivityOf withActivity withPending
+  since-bus c pending t o k = go (ltb (c .«pending_bytes») pending)
+    where
+      grown : Core
+      grown = withPending (withActivity c (markedAt (c .«last_bus_activity») now)) pending
+
+      go : (b : Bool) → elapsedOf now (knownAt (cond b grown c .«last_bus_activity») now) time ≡ true → Since (c .«last_bus_activity») now time
+      go true e = since-marked (c .«last_bus_activity») t o k e
+      go false e = since-same (c .«last_bus_activity») k e
+
+-- connecting leaves a station that waits for another as it is
+connected-same : (x : State) (c : Core) → lists waiting (stateNumber x) ≡ true → connectedOn x c ≡ c
+unfolding connectedOn
+connected-same Offline c i = not-true i
+connected-same (ListenToken q k) c i = refl
+connected-same (ActiveIdle q m k) c i = refl
+connected-same (UseToken d k) c i = refl
+connected-same (ClaimToken f) c i = refl
+connected-same (AwaitDataResponse a d) c i = refl
+connected-same (PassToken g k) c i = refl
+connected-same (CheckTokenPass k) c i = refl
+connected-same (AwaitStatusResponse a) c i = refl
+
+-- connecting leaves the activity
+connected-activity : (x : State) (c : Core) → connectedOn x c .«last_bus_activity» ≡ c .«last_bus_activity»
+unfolding connectedOn toListenToken withState
+connected-activity Offline c = refl
+connected-activity (ListenToken q k) c = refl
+connected-activity (ActiveIdle q m k) c = refl
+connected-activity (UseToken d k) c = refl
+connected-activity (ClaimToken f) c = refl
+connected-activity (AwaitDataResponse a d) c = refl
+connected-activity (PassToken g k) c = refl
+connected-activity (CheckTokenPass k) c = refl
+connected-activity (AwaitStatusResponse a) c = refl
+
+-- a step that sends, and tells a timeout, only where Q holds
+record Late (Q : Type 0) (s : Step) : Type 0 where
+  pub late-sent : Guarded Q s
+  pub late-told : Told Q s
+
+-- the same of a poll and the slot
+record SlotLate (s : Station) (bytes : List ℕ) (x : Polled) : Type 0 where
+  pub late-send : Sends (x .answer .sent) → Since (s .core .«last_bus_activity») (clockOf (poll bytes)) (slotTimeOf (s .p))
+  pub late-tell : TellsTimeout (x .answer .notice) → Since (s .core .«last_bus_activity») (clockOf (poll bytes)) (slotTimeOf (s .p))
+
+-- the same time since the same activity
+since-at : {a b : Activity} {now time : Micros} → a ≡ b → Since a now time → Since b now time
+since-at e w = record { last = w .last; known = sym e ∙ w .known; passed = w .passed }
+
+-- poll_inner: no send before the pause
+module _ (p : Parameters) (now : Micros) (r : Ring) (t : Bool) (pending : ℕ) (bytes : List ℕ) (n count : ℕ) where
+  pause-since : (c : Core) → ongoingOf (c .«last_bus_activity») now t ≡ false → pauseOf p (busActivityOf c now pending .«last_bus_activity») now .over ≡ true → Since (c .«last_bus_activity») now (syncPause p)
+  unfolding pauseOf
+  pause-since c o e = since-bus now (syncPause p) c pending t o (inr (pause-some (p .baudrate))) e
+
+  slot-since : (c : Core) → Known (c .«last_bus_activity») → ongoingOf (c .«last_bus_activity») now t ≡ false → slotExpiredOf p (busActivityOf c now pending .«last_bus_activity») now .over ≡ true → Since (c .«last_bus_activity») now (slotTimeOf p)
+  unfolding slotExpiredOf
+  slot-since c k o e = since-bus now (slotTimeOf p) c pending t o (inl k) e
+
+  online-paused : (c : Core) → Guarded (Since (c .«last_bus_activity») now (syncPause p)) (pollOnline p c r now t pending bytes n count .step)
+  unfolding pollOnline dispatchOf
+  online-paused c = go (ongoingOf (c .«last_bus_activity») now t) refl
+    where
+      d : Core
+      d = busActivityOf c now pending
+
+      Q : Type 0
+      Q = Since (c .«last_bus_activity») now (syncPause p)
+
+      after-pause : ongoingOf (c .«last_bus_activity») now t ≡ false → pauseOf p (d .«last_bus_activity») now .over ≡ true → Q
+      after-pause o e = pause-since c o e
+
+      go : (b : Bool) → ongoingOf (c .«last_bus_activity») now t ≡ b → Guarded Q (cond b (record { step = doneOf (withActivity c (markedAt (c .«last_bus_activity») now)) outcome.Transmission; ring = r }) (dispatchOn (d .state) p d r now bytes n count) .step)
+      go true o = done-guarded _ _ _
+      go false o = weaken (after-pause o) (dispatch-guarded p now (d .state) d r bytes n count)
+
+  -- no retry before the slot
+  waiting-late : (c : Core) → Known (c .«last_bus_activity») → lists waiting (stateNumber (c .state)) ≡ true → Late (Since (c .«last_bus_activity») now (slotTimeOf p)) (pollOnline p c r now t pending bytes n count .step)
+  unfolding pollOnline dispatchOf
+  waiting-late c k i = go (ongoingOf (c .«last_bus_activity») now t) refl
+    where
+      d : Core
+      d = busActivityOf c now pending
+
+      Q : Type 0
+      Q = Since (c .«last_bus_activity») now (slotTimeOf p)
+
+      j : lists waiting (stateNumber (d .state)) ≡ true
+      j = rw (bus-state c now pending) i
+
+      go : (b : Bool) → ongoingOf (c .«last_bus_activity») now t ≡ b → Late Q (cond b (record { step = doneOf (withActivity c (markedAt (c .«last_bus_activity») now)) outcome.Transmission; ring = r }) (dispatchOn (d .state) p d r now bytes n count) .step)
+      go true o = record { late-sent = done-guarded _ _ _; late-told = done-told _ _ _ }
+      go false o =
+          record {
+            late-sent = weaken (slot-since c k o) (slot-guarded p now (d .state) d r bytes n count j);
+            late-told = retold (slot-since c k o) (slot-told p now (d .state) d r bytes n count j);
+          }
+
+  inner-paused : (c : Core) → Guarded (Since (c .«last_bus_activity») now (syncPause p)) (pollInner p c r now t pending bytes n count .step)
+  unfolding pollInner connectedOf
+  inner-paused c =
+      either (λ (x : RingStep). Guarded (Since (c .«last_bus_activity») now (syncPause p)) (x .step)) (c .online) _ _
+      (weaken (λ w. since-at (connected-activity (c .state) c) w) (online-paused (connectedOn (c .state) c))) (done-guarded _ _ _)
+
+  inner-late : (c : Core) → Known (c .«last_bus_activity») → lists waiting (stateNumber (c .state)) ≡ true → Late (Since (c .«last_bus_activity») now (slotTimeOf p)) (pollInner p c r now t pending bytes n count .step)
+  unfolding pollInner connectedOf
+  inner-late c k i =
+      let L : RingStep → Type 0 = λ (x : RingStep). Late (Since (c .«last_bus_activity») now (slotTimeOf p)) (x .step) in
+      either L (c .online) _ _ (subst (λ (d : Core). L (pollOnline p d r now t pending bytes n count)) (sym (connected-same (c .state) c i)) (waiting-late c k i))
+      (record { late-sent = done-guarded _ _ _; late-told = done-told _ _ _ })
+
+-- poll: a refused record sends and tells nothing
+refused-sent : (Q : Type 0) (s : Station) (k : ℕ) → Sends (refusedPoll s k .answer .sent) → Q
+unfolding refusedPoll refusedAnswer
+refused-sent Q s k x = absurd (x refl)
+
+refused-told : (Q : Type 0) (s : Station) (k : ℕ) → TellsTimeout (refusedPoll s k .answer .notice) → Q
+unfolding refusedPoll refusedAnswer
+refused-told Q s k x = absurd x
+
+accepted-paused : (s : Station) (bytes : List ℕ) → Sends (acceptedPoll s bytes .answer .sent) → Since (s .core .«last_bus_activity») (clockOf (poll bytes)) (syncPause (s .p))
+unfolding acceptedPoll acceptedAfter polledOf stepAnswer
+accepted-paused s bytes x = inner-paused (s .p) (clockOf (poll bytes)) (s .«token_ring») _ _ bytes (s .applications) _ (s .core) .guard x
+
+-- every poll keeps the pause, of a sound station or any other
+pub poll-paused : (s : Station) (bytes : List ℕ) → Sends (pollOf s bytes .answer .sent) → Since (s .core .«last_bus_activity») (clockOf (poll bytes)) (syncPause (s .p))
+unfolding pollOf
+poll-paused s bytes =
+    either (λ (x : Polled). Sends (x .answer .sent) → Since (s .core .«last_bus_activity») (clockOf (poll bytes)) (syncPause (s .p))) (eqb (recordRefusal bytes (s .applications)) 0) _ _
+    (accepted-paused s bytes) (refused-sent _ s _)
+
+-- a command sends and tells nothing
+online-silent : (s : Station) → (onlineOf s .answer .sent ≡ sent.Nothing) × (onlineOf s .answer .notice ≡ notice.NoNotice)
+unfolding onlineOf polledOf stepAnswer doneOf
+online-silent s = (refl, refl)
+
+offline-silent : (s : Station) → (offlineOf s .answer .sent ≡ sent.Nothing) × (offlineOf s .answer .notice ≡ notice.NoNotice)
+unfolding offlineOf polledOf stepAnswer doneOf
+offline-silent s = (refl, refl)
+
+passive-silent : (s : Station) → (passiveOf s .answer .sent ≡ sent.Nothing) × (passiveOf s .answer .notice ≡ notice.NoNotice)
+unfolding passiveOf refusedPoll refusedAnswer
+passive-silent s = (refl, refl)
+
+pub pause-kept : (s : Station) (c : Call) → PauseKept s c
+pause-kept s (poll bytes) x = poll-paused s bytes x
+pause-kept s online x = absurd (x (online-silent s .0))
+pause-kept s offline x = absurd (x (offline-silent s .0))
+pause-kept s passive x = absurd (x (passive-silent s .0))
+
+-- every poll of a sound station that waits for another keeps the slot
+known-waiting : (s : Station) → SoundStation s → lists waiting (stateNumber (s .core .state)) ≡ true → Known (s .core .«last_bus_activity»)
+known-waiting s w i = known-from waiting (s .core .state) _ refl refl i (w .core-sound .activity-known)
+
+accepted-late : (s : Station) (bytes : List ℕ) → SoundStation s → lists waiting (stateNumber (s .core .state)) ≡ true → SlotLate s bytes (acceptedPoll s bytes)
+unfolding acceptedPoll acceptedAfter polledOf stepAnswer
+accepted-late s bytes w i =
+    let l = inner-late (s .p) (clockOf (poll bytes)) (s .«token_ring») _ _ bytes (s .applications) _ (s .core) (known-waiting s w i) i in
+    record { late-send = l .late-sent .guard; late-tell = l .late-told .told }
+
+poll-late : (s : Station) (bytes : List ℕ) → SoundStation s → lists waiting (stateNumber (s .core .state)) ≡ true → SlotLate s bytes (pollOf s bytes)
+unfolding pollOf
+poll-late s bytes w i =
+    either (SlotLate s bytes) (eqb (recordRefusal bytes (s .applications)) 0) _ _ (accepted-late s bytes w i)
+    (record { late-send = refused-sent _ s _; late-tell = refused-told _ s _ })
+
+-- what sends and tells nothing waits
+silent-late : (s : Station) (c : Call) → (answerTo s c .sent ≡ sent.Nothing) × (answerTo s c .notice ≡ notice.NoNotice) → SlotWaited s c
+silent-late s c e = record { sends-late = λ x. absurd (x (e .0)); tells-late = λ x. absurd (rw (e .1) at x) }
+
+pub slot-kept : (s : Station) (c : Call) → SoundStation s → SlotKept s c
+slot-kept s (poll bytes) w i =
+    let l = poll-late s bytes w i in
+    record { sends-late = l .late-send; tells-late = l .late-tell }
+slot-kept s online w i = silent-late s online (online-silent s)
+slot-kept s offline w i = silent-late s offline (offline-silent s)
+slot-kept s passive w i = silent-late s passive (passive-silent s)
+
+-- of each call of a run from a sound station
+pub throughout : (P : Station → Call → Type 0) → ((s : Station) (c : Call) → SoundStation s → P s c) → (cs : List Call) (s : Station) → SoundStation s → Throughout P s cs
+throughout P k [] s w = tt
+throughout P k (c ∷ cs) s w = (k s c w, throughout P k cs (after s c) (call-sound s c w))
+
+pub throughout-new : (P : Station → Call → Type 0) → ((s : Station) (c : Call) → SoundStation s → P s c) → (p : Parameters) (n : ℕ) (cs : List Call) → p .address < 126 → ThroughoutNew P (newStation p n) cs
+throughout-new P k p n cs l = go (newStation p n) (new-sound p n l)
+  where
+    go : (x : Started) → SoundStarted x → ThroughoutNew P x cs
+    go (started.Accepted s) w = throughout P k cs s w
+    go (started.Refused k) w = tt
+
+-- The theorems.
+pub no-send-before-pause : NoSendBeforePause
+no-send-before-pause = throughout-new PauseKept (λ s c w. pause-kept s c)
+
+pub no-retry-before-slot : NoRetryBeforeSlot
+no-retry-before-slot = throughout-new SlotKept slot-kept

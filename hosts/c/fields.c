@@ -1,0 +1,394 @@
+/*
+ * Tests the readers and writers of amsulfezd.h against bytes that are stated here by hand, from document 01: its
+ * example 12 and the trace and answers of docs/QUALIFICATION.md, part 5. It calls nothing of the library, and it is C99
+ * and C++11 at once, so that it shows that the header is both. hosts.sh plants faults in the header, each of which it
+ * must find.
+ *
+ * usage: fields
+ */
+#include "amsulfezd.h"
+
+#include <stdio.h>
+#include <stdlib.h>
+#include <string.h>
+
+/* What a buffer is filled with before something is written to it. */
+enum { PATTERN = 0xa5 };
+
+static unsigned long checks;
+
+/* Ends the program if something that should hold does not. */
+static void check(int holds, const char *what, const char *where)
+{
+    checks++;
+    if (!holds) {
+        fprintf(stderr, "fields: %s (%s)\n", what, where);
+        exit(EXIT_FAILURE);
+    }
+}
+
+/* The bytes that digits give, two or eight to a byte: hexadecimal or binary. Blanks are left out. */
+static size_t bytes_of(const char *digits, unsigned base, uint8_t *bytes)
+{
+    const size_t to_a_byte = base == 16 ? 2 : 8;
+    size_t count = 0;
+    unsigned byte = 0;
+    for (; *digits != '\0'; digits++) {
+        const char digit[2] = {*digits, '\0'};
+        if (*digits == ' ') {
+            continue;
+        }
+        byte = byte * base + (unsigned)strtoul(digit, NULL, (int)base);
+        count++;
+        if (count % to_a_byte == 0) {
+            bytes[count / to_a_byte - 1] = (uint8_t)byte;
+            byte = 0;
+        }
+    }
+    check(count % to_a_byte == 0, "not whole bytes", digits);
+    return count / to_a_byte;
+}
+
+/* ---- Readers ----------------------------------------------------------------------------------------------------- */
+
+/* An answer's fields, in their order. */
+enum { FIELDS = 15 };
+
+static void reads(const char *digits, unsigned base, const unsigned fields[FIELDS])
+{
+    uint8_t bytes[AMSULFEZD_ANSWER_LENGTH];
+    const size_t count = bytes_of(digits, base, bytes);
+    const uint64_t answer = amsulfezd_answer(bytes);
+    check(count == AMSULFEZD_ANSWER_LENGTH, "not 8 bytes", digits);
+    check(amsulfezd_answer_refusal(answer) == fields[0], "refusal", digits);
+    check(amsulfezd_answer_outcome(answer) == fields[1], "outcome", digits);
+    check(amsulfezd_answer_state(answer) == fields[2], "state", digits);
+    check(amsulfezd_answer_sent(answer) == fields[3], "sent kind", digits);
+    check(amsulfezd_answer_destination(answer) == fields[4], "destination", digits);
+    check(amsulfezd_answer_response_type(answer) == fields[5], "response type", digits);
+    check(amsulfezd_answer_application(answer) == fields[6], "application", digits);
+    check(amsulfezd_answer_high(answer) == fields[7], "high", digits);
+    check(amsulfezd_answer_bytes(answer) == fields[8], "bytes", digits);
+    check(amsulfezd_answer_consumed(answer) == fields[9], "telegrams consumed", digits);
+    check(amsulfezd_answer_notice(answer) == fields[10], "notice", digits);
+    check(amsulfezd_answer_notice_application(answer) == fields[11], "the notice's application", digits);
+    check(amsulfezd_answer_notice_address(answer) == fields[12], "the notice's address", digits);
+    check(amsulfezd_answer_next_application(answer) == fields[13], "next application", digits);
+    check(amsulfezd_answer_next_station(answer) == fields[14], "next station", digits);
+}
+
+static void test_readers(void)
+{
+    /* Example 12: after online, the first poll, the claim, the second token, and holding the token. */
+    static const unsigned online[FIELDS] = {0, 0, 0, 0, 0, 0, 0, 0, 0, 0, 0, 0, 0, 0, 5};
+    static const unsigned listens[FIELDS] = {0, 3, 1, 0, 0, 0, 0, 0, 0, 0, 0, 0, 0, 0, 5};
+    static const unsigned claims[FIELDS] = {0, 2, 4, 1, 5, 0, 0, 0, 3, 0, 0, 0, 0, 0, 5};
+    static const unsigned holds[FIELDS] = {0, 2, 3, 1, 5, 0, 0, 0, 3, 0, 0, 0, 0, 0, 5};
+    /* QUALIFICATION, part 5: application 0 asks 20, times out, and sends no bytes. */
+    static const unsigned asks[FIELDS] = {0, 2, 5, 4, 20, 0, 0, 0, 10, 0, 0, 0, 0, 0, 5};
+    static const unsigned times_out[FIELDS] = {0, 4, 6, 0, 0, 0, 0, 0, 0, 0, 2, 0, 20, 0, 5};
+    static const unsigned refused[FIELDS] = {15, 0, 3, 0, 0, 0, 0, 0, 0, 0, 0, 0, 0, 0, 5};
+    /* Every second field full, then the others. */
+    static const unsigned even[FIELDS] = {31, 0, 15, 0, 127, 0, 7, 0, 255, 0, 3, 0, 127, 0, 127};
+    static const unsigned odd[FIELDS] = {0, 7, 0, 7, 0, 3, 0, 1, 0, 15, 0, 7, 0, 7, 0};
+    reads("0000000000000014", 16, online);
+    reads("0310000000000014", 16, listens);
+    reads("0242140030000014", 16, claims);
+    reads("0232140030000014", 16, holds);
+    reads("02585000a0000014", 16, asks);
+    reads("0460000000814014", 16, times_out);
+    reads("7830000000000014", 16, refused);
+    reads("11111 000 1111 000 1111111 00 111 0 11111111 0000 11 000 1111111 000 1111111 00", 2, even);
+    reads("00000 111 0000 111 0000000 11 000 1 00000000 1111 00 111 0000000 111 0000000 11", 2, odd);
+    check(amsulfezd_entries(6 * 256 + 17) == 6, "entries", "6 * 256 + 17");
+    check(amsulfezd_ending(6 * 256 + 17) == 17, "ending number", "6 * 256 + 17");
+}
+
+/* Document 01's numbers, in their order. */
+static void test_numbers(void)
+{
+    static const unsigned refusals[] = {
+        AMSULFEZD_OK,
+        AMSULFEZD_REFUSAL_ADDRESS,
+        AMSULFEZD_REFUSAL_SLOT,
+        AMSULFEZD_REFUSAL_HSA,
+        AMSULFEZD_REFUSAL_ROTATION,
+        AMSULFEZD_REFUSAL_GAP_WAIT,
+        AMSULFEZD_REFUSAL_RETRY,
+        AMSULFEZD_REFUSAL_MIN_TSDR,
+        AMSULFEZD_REFUSAL_WATCHDOG,
+        AMSULFEZD_REFUSAL_FACTORS,
+        AMSULFEZD_REFUSAL_BAUD,
+        AMSULFEZD_REFUSAL_APPLICATIONS,
+        AMSULFEZD_REFUSAL_RECORD_LENGTH,
+        AMSULFEZD_REFUSAL_TELEGRAM_COUNT,
+        AMSULFEZD_REFUSAL_ZERO_BIT,
+        AMSULFEZD_REFUSAL_NO_BYTES,
+        AMSULFEZD_REFUSAL_PASSIVE,
+        AMSULFEZD_REFUSAL_CUT,
+        AMSULFEZD_REFUSAL_NO_ROOM,
+    };
+    static const unsigned outcomes[] = {AMSULFEZD_OUTCOME_NONE, AMSULFEZD_OUTCOME_OFFLINE,
+                                        AMSULFEZD_OUTCOME_TRANSMISSION, AMSULFEZD_OUTCOME_BUS,
+                                        AMSULFEZD_OUTCOME_DELAY};
+    static const unsigned states[] = {
+        AMSULFEZD_STATE_OFFLINE,        AMSULFEZD_STATE_LISTEN_TOKEN,
+        AMSULFEZD_STATE_ACTIVE_IDLE,    AMSULFEZD_STATE_USE_TOKEN,
+        AMSULFEZD_STATE_CLAIM_TOKEN,    AMSULFEZD_STATE_AWAIT_DATA_RESPONSE,
+        AMSULFEZD_STATE_PASS_TOKEN,     AMSULFEZD_STATE_CHECK_TOKEN_PASS,
+        AMSULFEZD_STATE_AWAIT_STATUS_RESPONSE,
+    };
+    static const char *const names[] = {
+        "Offline",           "ListenToken", "ActiveIdle",     "UseToken",            "ClaimToken",
+        "AwaitDataResponse", "PassToken",   "CheckTokenPass", "AwaitStatusResponse", "unknown",
+    };
+    static const unsigned sent[] = {AMSULFEZD_SENT_NONE, AMSULFEZD_SENT_TOKEN, AMSULFEZD_SENT_STATUS_REQUEST,
+                                    AMSULFEZD_SENT_STATUS_RESPONSE, AMSULFEZD_SENT_APPLICATION};
+    static const unsigned types[] = {AMSULFEZD_TYPE_SLAVE, AMSULFEZD_TYPE_NOT_READY, AMSULFEZD_TYPE_WITHOUT_TOKEN,
+                                     AMSULFEZD_TYPE_IN_RING};
+    static const unsigned notices[] = {AMSULFEZD_NOTICE_NONE, AMSULFEZD_NOTICE_REPLY, AMSULFEZD_NOTICE_TIMEOUT};
+    static const unsigned commands[] = {AMSULFEZD_COMMAND_ONLINE, AMSULFEZD_COMMAND_OFFLINE, AMSULFEZD_COMMAND_PASSIVE};
+    static const unsigned kinds[] = {AMSULFEZD_TELEGRAM_TOKEN, AMSULFEZD_TELEGRAM_SHORT_CONFIRMATION,
+                                     AMSULFEZD_TELEGRAM_REQUEST, AMSULFEZD_TELEGRAM_RESPONSE};
+    unsigned i;
+#define COUNTS(list) \
+    for (i = 0; i < sizeof(list) / sizeof(list)[0]; i++) { \
+        check((list)[i] == i, "not document 01's number", #list); \
+    }
+    COUNTS(refusals)
+    COUNTS(outcomes)
+    COUNTS(states)
+    COUNTS(sent)
+    COUNTS(types)
+    COUNTS(notices)
+    COUNTS(commands)
+    COUNTS(kinds)
+    for (i = 0; i < sizeof names / sizeof names[0]; i++) {
+        check(strcmp(amsulfezd_state_name(i), names[i]) == 0, "the name of a state", names[i]);
+    }
+}
+
+/* ---- Writers ----------------------------------------------------------------------------------------------------- */
+
+/* Where the writers write: room for the longest entry, and bytes before and behind it that must keep their value. */
+enum { MARGIN = 16 };
+static uint8_t memory[MARGIN + AMSULFEZD_ENTRY_LENGTH + MARGIN];
+static uint8_t *const to = memory + MARGIN;
+
+static void fill(void)
+{
+    memset(memory, PATTERN, sizeof memory);
+}
+
+/* Exactly these bytes were written; if none are given, nothing was. */
+static void wrote(size_t returned, const char *digits, const char *where)
+{
+    uint8_t expected[sizeof memory];
+    size_t count;
+    memset(expected, PATTERN, sizeof expected);
+    count = bytes_of(digits, 16, expected + MARGIN);
+    check(returned == count, "not the number of bytes that it should be", where);
+    check(memcmp(memory, expected, sizeof memory) == 0, "not the bytes that it should write", where);
+}
+
+/* A poll is written so: with just enough room, with more, and not with a byte less. */
+static void writes_poll(const struct amsulfezd_poll *poll, const char *digits, const char *where)
+{
+    uint8_t expected[AMSULFEZD_ENTRY_LENGTH];
+    const size_t length = bytes_of(digits, 16, expected);
+    fill();
+    wrote(amsulfezd_write_poll(to, length, poll), digits, where);
+    fill();
+    wrote(amsulfezd_write_poll(to, AMSULFEZD_ENTRY_LENGTH, poll), digits, where);
+    fill();
+    wrote(amsulfezd_write_poll(to, length - 1, poll), "", where);
+    fill();
+    wrote(amsulfezd_write_poll(to, 0, poll), "", where);
+}
+
+/* A poll does not fit, whatever the room: also with more than an entry can have. */
+static void refuses_poll(const struct amsulfezd_poll *poll, const char *where)
+{
+    fill();
+    wrote(amsulfezd_write_poll(to, AMSULFEZD_ENTRY_LENGTH + MARGIN, poll), "", where);
+}
+
+static void test_header(void)
+{
+    struct amsulfezd_header header = amsulfezd_new_header(5, 6, 1);
+    size_t room;
+    fill();
+    wrote(amsulfezd_write_header(to, 16, &header), "050600c800007eb40a7e010b01000000", "example 12's header");
+    for (room = 0; room < 16; room++) {
+        fill();
+        wrote(amsulfezd_write_header(to, room, &header), "", "a header without room");
+    }
+    header.address = 0x7d;
+    header.baud = 0x0a;
+    header.slot_bits = 0x1234;
+    header.rotation_bits = 0x56789abc;
+    header.gap_wait = 0x64;
+    header.hsa = 0x7e;
+    header.retry = 0x0f;
+    header.min_tsdr = 0x0b;
+    header.applications = 0x08;
+    header.factor_1 = 0xf1;
+    header.factor_2 = 0xf2;
+    fill();
+    wrote(amsulfezd_write_header(to, 17, &header), "7d 0a 1234 56789abc 64 7e 0f 0b 08 f1 f2 00", "each field");
+}
+
+static void test_commands(void)
+{
+    unsigned command;
+    static const char *const digits[] = {"00", "01", "02", "", ""};
+    for (command = 0; command < sizeof digits / sizeof digits[0]; command++) {
+        fill();
+        wrote(amsulfezd_write_command(to, 1, command), digits[command], "a command");
+        fill();
+        wrote(amsulfezd_write_command(to, 0, command), "", "a command without room");
+    }
+}
+
+static void test_polls(void)
+{
+    struct amsulfezd_decisions decisions[31];
+    struct amsulfezd_telegram telegrams[15];
+    struct amsulfezd_poll poll = amsulfezd_poll_at(1000, 1);
+    size_t i;
+
+    writes_poll(&poll, "0e 0000000003e8 0000 000000 000000", "example 12's first poll");
+
+    poll = amsulfezd_poll_at(7664, 1);
+    decisions[0].normal = amsulfezd_asks(20, 10);
+    decisions[0].high = amsulfezd_declines();
+    poll.decisions = decisions;
+    writes_poll(&poll, "0e 000000001df0 0000 ca0500 000000", "part 5's poll with a question");
+
+    poll = amsulfezd_poll_at(1500, 1);
+    telegrams[0] = amsulfezd_token(9, 9);
+    poll.pending = 3;
+    poll.telegram_count = 1;
+    poll.telegrams = telegrams;
+    writes_poll(&poll, "12 0000000005dc 0803 000000 000000 04890000", "part 5's telegram");
+
+    poll = amsulfezd_poll_at(UINT64_C(0x123456789abc), 2);
+    poll.transmitting = 1;
+    poll.pending = 0x155;
+    decisions[0].normal = amsulfezd_asks(85, 10);
+    decisions[0].high = amsulfezd_declines();
+    decisions[1].normal = amsulfezd_declines();
+    decisions[1].high = amsulfezd_tells(255);
+    poll.decisions = decisions;
+    telegrams[0] = amsulfezd_token(9, 5);
+    telegrams[1] = amsulfezd_short_confirmation();
+    telegrams[2] = amsulfezd_status_request(127, 5);
+    telegrams[3] = amsulfezd_response(9, 5, AMSULFEZD_TYPE_WITHOUT_TOKEN, 15);
+    telegrams[4] = amsulfezd_request(2, 3);
+    poll.telegram_count = 5;
+    poll.telegrams = telegrams;
+    writes_poll(&poll,
+                "28 123456789abc a955 ea8500 000000 000000 807f80 "
+                "02890000 40000000 82ff8000 c2895e00 81820000",
+                "a poll with everything in it");
+
+    /* Every field full. */
+    poll = amsulfezd_poll_at((UINT64_C(1) << 48) - 1, 1);
+    poll.transmitting = 1;
+    poll.pending = 2047;
+    decisions[0].normal = amsulfezd_asks(127, 255);
+    decisions[0].high = amsulfezd_asks(127, 255);
+    poll.decisions = decisions;
+    telegrams[0] = amsulfezd_response(127, 127, 3, 15);
+    telegrams[0].status_request = 1;
+    poll.telegram_count = 1;
+    poll.telegrams = telegrams;
+    writes_poll(&poll, "12 ffffffffffff 8fff ffff80 ffff80 fffffe00", "a poll with full fields");
+
+    /* The longest, and one that is longer. */
+    for (i = 0; i < 31; i++) {
+        decisions[i].normal = decisions[i].high = amsulfezd_declines();
+    }
+    for (i = 0; i < 15; i++) {
+        telegrams[i] = amsulfezd_short_confirmation();
+    }
+    poll = amsulfezd_poll_at(0, 31);
+    poll.decisions = decisions;
+    poll.telegram_count = 15;
+    poll.telegrams = telegrams;
+    fill();
+    check(amsulfezd_write_poll(to, AMSULFEZD_ENTRY_LENGTH, &poll) == 255, "the longest poll", "31 applications");
+    check(to[0] == 254 && to[7] == 0x78 && to[8] == 0 && to[194] == 0 && to[195] == 0x40 && to[254] == 0,
+          "the longest poll's bytes", "31 applications");
+    check(to[255] == PATTERN, "a byte behind the poll has changed", "31 applications");
+    poll.applications = 32;
+    poll.decisions = NULL;
+    refuses_poll(&poll, "32 applications and 15 telegrams");
+    poll.applications = SIZE_MAX / 6 + 1;
+    refuses_poll(&poll, "more applications than can be counted");
+}
+
+/* A value that is one too large for its field, in turn. */
+static void test_unfit(void)
+{
+    struct amsulfezd_decisions decisions;
+    struct amsulfezd_telegram telegrams[16];
+    struct amsulfezd_poll good = amsulfezd_poll_at(0, 1), poll;
+    int i;
+    good.decisions = &decisions;
+    good.telegrams = telegrams;
+    good.telegram_count = 1;
+    decisions.normal = decisions.high = amsulfezd_declines();
+    for (i = 0; i < 16; i++) {
+        telegrams[i] = amsulfezd_short_confirmation();
+    }
+    writes_poll(&good, "12 000000000000 0800 000000 000000 40000000", "a poll that fits");
+
+    poll = good;
+    poll.clock = UINT64_C(1) << 48;
+    refuses_poll(&poll, "clock");
+    poll = good;
+    poll.transmitting = 2;
+    refuses_poll(&poll, "transmitting");
+    poll = good;
+    poll.pending = 2048;
+    refuses_poll(&poll, "pending bytes");
+    poll = good;
+    poll.telegram_count = 16;
+    refuses_poll(&poll, "telegram count");
+
+#define UNFIT(field, value) \
+    field = value; \
+    refuses_poll(&good, #field); \
+    decisions.normal = decisions.high = amsulfezd_declines(); \
+    telegrams[0] = amsulfezd_short_confirmation();
+    UNFIT(decisions.normal.sends, 2)
+    UNFIT(decisions.normal.expects_reply, 2)
+    UNFIT(decisions.normal.reply_address, 128)
+    UNFIT(decisions.high.sends, 2)
+    UNFIT(decisions.high.expects_reply, 2)
+    UNFIT(decisions.high.reply_address, 128)
+    UNFIT(telegrams[0].kind, 4)
+    UNFIT(telegrams[0].destination, 128)
+    UNFIT(telegrams[0].source, 128)
+    UNFIT(telegrams[0].status_request, 2)
+    UNFIT(telegrams[0].station_type, 4)
+    UNFIT(telegrams[0].status, 16)
+}
+
+int main(int count, char **words)
+{
+    (void)words;
+    if (count != 1) {
+        fputs("fields: usage: fields\n", stderr);
+        return EXIT_FAILURE;
+    }
+    test_readers();
+    test_numbers();
+    test_header();
+    test_commands();
+    test_polls();
+    test_unfit();
+    printf("C host: %lu checks of the readers and writers hold\n", checks);
+    return EXIT_SUCCESS;
+}

@@ -1,0 +1,53 @@
+//! The proved call `amsulfezd_replay_trace` for Rust hosts, and the records and answers that go with it.
+//!
+//! | Module | What it holds |
+//! |---|---|
+//! | [`record`] | the poll record: telegrams, decisions, the clock |
+//! | [`trace`] | a trace: its header, a writer, an iterator over its entries |
+//! | [`answer`] | the 64-bit answer, and an iterator over a buffer of them |
+//! | [`refusal`] | document 01's eighteen refusal numbers and their words |
+//! | [`run`] | what the call returns, and the text that the program `replay` prints |
+//! | `replay` | the call itself, safe; only where the static library is linked |
+//! | [`number`] | the error of a number that document 01 does not have |
+//! | [`words`] | numbers and settings in words |
+//!
+//! Nothing here knows what a station does. Records are written and read, answers are read, and every answer comes
+//! from the proved program or library. An error says that bytes, words or numbers from elsewhere are not what they
+//! should be, or that a value does not fit its field; what the call is proved to do is no error of this library.
+//!
+//! The library is linked where the environment variable `AMSULFEZD_STATICLIB_DIR` names the folder of `libamsulfezd.a`
+//! when this package is built, for x86-64. Without it the package reads and writes all the same.
+//!
+//! ```
+//! use amsulfezd::answer::{Answer, Sent, State};
+//! use amsulfezd::record::{Decision, Poll, Telegram};
+//! use amsulfezd::trace::{Header, TraceBuilder};
+//!
+//! // A trace: address 5, 500 kbaud, one application.
+//! let mut trace = TraceBuilder::new(Header::new(5, 6, 1));
+//! trace.online();
+//! trace.poll(&Poll::at(1_000).telegram(Telegram::token(9, 9)).pending(3))?;
+//! trace.poll(&Poll::at(7_664).normal(0, Decision::asks(20, 10)))?;
+//! let bytes = trace.into_bytes();
+//! assert_eq!(bytes.len(), 16 + 1 + 19 + 15);
+//!
+//! // An answer of document 01's example 12.
+//! let answer = Answer::try_from(0x0242_1400_3000_0014)?;
+//! assert_eq!(answer.state, State::ClaimToken);
+//! assert_eq!(answer.sent, Sent::Token { to: 5 });
+//! # Ok::<(), Box<dyn std::error::Error>>(())
+//! ```
+
+// `linked` is set by build.rs. Older compilers do not know the lint of unknown cfgs.
+#![allow(unknown_lints, unexpected_cfgs)]
+
+pub mod answer;
+mod bits;
+pub mod number;
+pub mod record;
+pub mod refusal;
+#[cfg(linked)]
+pub mod replay;
+pub mod run;
+pub mod trace;
+pub mod words;

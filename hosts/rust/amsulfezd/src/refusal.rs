@@ -1,0 +1,128 @@
+//! Document 01's refusal numbers.
+
+use crate::number::{with_number, UnknownNumber};
+use std::fmt;
+
+/// Why a call, a header, an entry or a trace was refused.
+#[derive(Debug, Clone, Copy, PartialEq, Eq, Hash)]
+#[repr(u8)]
+#[non_exhaustive]
+pub enum Refusal {
+    Address = 1,
+    Slot = 2,
+    Hsa = 3,
+    Rotation = 4,
+    GapWait = 5,
+    Retry = 6,
+    MinTsdr = 7,
+    Watchdog = 8,
+    Factors = 9,
+    Baud = 10,
+    Applications = 11,
+    RecordLength = 12,
+    TelegramCount = 13,
+    ZeroBit = 14,
+    NoBytes = 15,
+    Passive = 16,
+    Cut = 17,
+    NoRoom = 18,
+}
+
+/// Every refusal, in the order of their numbers.
+pub const ALL: &[Refusal] = &[
+    Refusal::Address,
+    Refusal::Slot,
+    Refusal::Hsa,
+    Refusal::Rotation,
+    Refusal::GapWait,
+    Refusal::Retry,
+    Refusal::MinTsdr,
+    Refusal::Watchdog,
+    Refusal::Factors,
+    Refusal::Baud,
+    Refusal::Applications,
+    Refusal::RecordLength,
+    Refusal::TelegramCount,
+    Refusal::ZeroBit,
+    Refusal::NoBytes,
+    Refusal::Passive,
+    Refusal::Cut,
+    Refusal::NoRoom,
+];
+
+impl Refusal {
+    /// Document 01's number.
+    pub fn number(self) -> u8 {
+        self as u8
+    }
+
+    /// The column "When" of document 01's table.
+    pub fn words(self) -> &'static str {
+        match self {
+            Refusal::Address => "address above 125",
+            Refusal::Slot => "slot too small",
+            Refusal::Hsa => "HSA",
+            Refusal::Rotation => "rotation",
+            Refusal::GapWait => "gap wait",
+            Refusal::Retry => "retry",
+            Refusal::MinTsdr => "min Tsdr",
+            Refusal::Watchdog => {
+                "watchdog outside 10..650,000 ms, or one factor zero in a header"
+            }
+            Refusal::Factors => "factors: u above 65,025",
+            Refusal::Baud => "baud code above 10",
+            Refusal::Applications => "applications not 1..8",
+            Refusal::RecordLength => "poll record length",
+            Refusal::TelegramCount => "telegram count above 8",
+            Refusal::ZeroBit => "a bit that should be zero",
+            Refusal::NoBytes => "sending 0 bytes",
+            Refusal::Passive => "passive",
+            Refusal::Cut => {
+                "trace ends inside header or entry, or is above 2^32 bytes (checked with the header)"
+            }
+            Refusal::NoRoom => "no 8 bytes left for an answer",
+        }
+    }
+
+    /// What document 01 asks for instead, where the words alone do not say it.
+    pub fn rule(self) -> Option<&'static str> {
+        match self {
+            Refusal::Slot => Some(
+                "must be at least 100 bits for baud codes 0 to 5, then 200, 300, 400, 600, 1000",
+            ),
+            Refusal::Hsa => Some("must be above the address and at most 126"),
+            Refusal::Rotation => Some("must be 256..16,777,960 bits"),
+            Refusal::GapWait => Some("must be 1..100"),
+            Refusal::Retry => Some("must be 1..15"),
+            Refusal::MinTsdr => Some("must be at least 11"),
+            Refusal::RecordLength => {
+                Some("must be 8 + 6 for each application + 4 for each telegram")
+            }
+            Refusal::Passive => Some("this station has no passive state"),
+            _ => None,
+        }
+    }
+}
+
+impl From<Refusal> for u8 {
+    /// Document 01's number.
+    fn from(refusal: Refusal) -> u8 {
+        refusal.number()
+    }
+}
+
+impl TryFrom<u8> for Refusal {
+    type Error = UnknownNumber;
+
+    /// The refusal with this number; 0 is none.
+    fn try_from(number: u8) -> Result<Refusal, UnknownNumber> {
+        with_number(ALL, Refusal::number, number, "a refusal")
+    }
+}
+
+impl fmt::Display for Refusal {
+    /// The number and document 01's words.
+    fn fmt(&self, f: &mut fmt::Formatter) -> fmt::Result {
+        write!(f, "{} ({})", self.number(), self.words())
+    }
+}

@@ -1,0 +1,75 @@
+//! The proved call, safe. Only where the static library is linked (see `build.rs`).
+
+use crate::answer::{Answer, ANSWER_LENGTH};
+use crate::run::{from_buffer, Run};
+use crate::trace::entries;
+
+extern "C" {
+    /// The proved call as `hosts/c/amsulfezd.h` documents it.
+    fn amsulfezd_replay_trace(
+        trace: *const u8,
+        trace_len: usize,
+        answers: *mut u8,
+        answers_len: usize,
+    ) -> u64;
+}
+
+/// Runs a trace. The answer to each entry goes into the next 8 bytes of `answers`; the bytes after the last answer keep
+/// their value. A refused header writes nothing. It keeps no state between calls and may be called by several threads.
+///
+/// ```
+/// use amsulfezd::answer::State;
+/// use amsulfezd::replay::replay;
+/// use amsulfezd::run::from_buffer;
+/// use amsulfezd::trace::{Header, TraceBuilder};
+///
+/// let mut trace = TraceBuilder::new(Header::new(5, 6, 1));
+/// trace.online();
+/// let mut buffer = [0; 64];
+/// let run = replay(&trace.into_bytes(), &mut buffer);
+/// assert_eq!((run.entries, run.ending), (1, None));
+/// for answer in from_buffer(&buffer, &run)? {
+///     assert_eq!((answer.state, answer.next_station), (State::Offline, 5));
+/// }
+/// # Ok::<(), amsulfezd::answer::NotAnAnswer>(())
+/// ```
+pub fn replay(trace: &[u8], answers: &mut [u8]) -> Run {
+    // SAFETY: both pointers come from slices and are valid for the lengths given, `trace` for reading and `answers` for
+    // reading and writing; as `answers` is borrowed mutably the two do not overlap. The library keeps neither pointer,
+    // and it is proved to stay inside both slices and to return.
+    let returned = unsafe {
+        amsulfezd_replay_trace(
+            trace.as_ptr(),
+            trace.len(),
+            answers.as_mut_ptr(),
+            answers.len(),
+        )
+    };
+    Run::try_from(returned).expect("the call is proved to return one of its ending numbers")
+}
+
+/// Runs a trace with room for the answer to every entry, and gives the run and its answers.
+///
+/// ```
+/// use amsulfezd::answer::{Sent, State};
+/// use amsulfezd::record::Poll;
+/// use amsulfezd::replay::replay_whole;
+/// use amsulfezd::trace::{Header, TraceBuilder};
+///
+/// // Station 5 is alone on its bus: after the lost-token time, 6,400 us, it claims the token.
+/// let mut trace = TraceBuilder::new(Header::new(5, 6, 1));
+/// trace.online();
+/// trace.poll(&Poll::at(1_000))?;
+/// trace.poll(&Poll::at(7_400))?;
+/// let (run, answers) = replay_whole(&trace.into_bytes());
+/// assert_eq!(run.ending, None);
+/// assert_eq!(answers[2].state, State::ClaimToken);
+/// assert_eq!(answers[2].sent, Sent::Token { to: 5 });
+/// # Ok::<(), amsulfezd::record::Unfit>(())
+/// ```
+pub fn replay_whole(trace: &[u8]) -> (Run, Vec<Answer>) {
+    let mut buffer = vec![0; ANSWER_LENGTH * entries(trace).count()];
+    let run = replay(trace, &mut buffer);
+    let answers = from_buffer(&buffer, &run).expect("the call is proved to write answers");
+    (run, answers)
+}

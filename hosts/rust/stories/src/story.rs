@@ -1,0 +1,421 @@
+//! A trace with its story: each entry stands beside the answer that document 01 and the Rust ask for, and the reason.
+//!
+//! The answers are statements of their own, written down field by field. Nothing here works out what a station does.
+
+use amsulfezd::answer::{Answer, Notice, Outcome, Sent, State};
+use amsulfezd::record::{Poll, StationType, Telegram};
+use amsulfezd::refusal::Refusal;
+use amsulfezd::run::{to_text, Run};
+use amsulfezd::trace::{Header, TraceBuilder};
+use amsulfezd::words::{settings, thousands};
+
+/// The program `replay` reads no more.
+const LARGEST: usize = 4096;
+
+/// What an answer says beside the next application and the next station.
+#[derive(Clone, Copy)]
+pub struct Expected {
+    outcome: Outcome,
+    state: State,
+    sent: Sent,
+    consumed: u8,
+    notice: Notice,
+}
+
+impl Expected {
+    fn of(outcome: Outcome, state: State) -> Expected {
+        Expected {
+            outcome,
+            state,
+            sent: Sent::Nothing,
+            consumed: 0,
+            notice: Notice::Nothing,
+        }
+    }
+
+    /// The same, with this many telegrams consumed.
+    pub fn consumed(mut self, count: u8) -> Expected {
+        self.consumed = count;
+        self
+    }
+
+    /// The same, with an application told of its reply.
+    pub fn reply(mut self, application: u8, address: u8) -> Expected {
+        self.notice = Notice::Reply {
+            application,
+            address,
+        };
+        self
+    }
+
+    /// The same, with an application told that no reply came.
+    pub fn timeout(mut self, application: u8, address: u8) -> Expected {
+        self.notice = Notice::Timeout {
+            application,
+            address,
+        };
+        self
+    }
+}
+
+/// The poll of a station that is not online.
+pub fn stays_offline() -> Expected {
+    Expected::of(Outcome::Offline, State::Offline)
+}
+
+/// A transmission is found going on.
+pub fn transmission(state: State) -> Expected {
+    Expected::of(Outcome::Transmission, state)
+}
+
+/// The poll ends waiting for the bus.
+pub fn bus(state: State) -> Expected {
+    Expected::of(Outcome::Bus, state)
+}
+
+/// The poll ends waiting for a delay.
+pub fn delay(state: State) -> Expected {
+    Expected::of(Outcome::Delay, state)
+}
+
+/// A send: the outcome is transmission.
+fn sends(state: State, sent: Sent) -> Expected {
+    Expected {
+        sent,
+        ..Expected::of(Outcome::Transmission, state)
+    }
+}
+
+/// The token is sent.
+pub fn sends_token(state: State, to: u8) -> Expected {
+    sends(state, Sent::Token { to })
+}
+
+/// A status request is sent.
+pub fn sends_status_request(to: u8) -> Expected {
+    sends(State::AwaitStatusResponse, Sent::StatusRequest { to })
+}
+
+/// A status response is sent.
+pub fn sends_status_response(state: State, to: u8, station_type: StationType) -> Expected {
+    sends(state, Sent::StatusResponse { to, station_type })
+}
+
+/// An application's telegram is sent at normal priority, and its reply is awaited.
+pub fn sends_request(application: u8, reply_from: u8, length: u8) -> Expected {
+    sends(
+        State::AwaitDataResponse,
+        Sent::Application {
+            application,
+            high: false,
+            reply_from,
+            length,
+        },
+    )
+}
+
+/// An application's telegram without reply is sent.
+pub fn sends_data(application: u8, high: bool, length: u8) -> Expected {
+    sends(
+        State::UseToken,
+        Sent::Application {
+            application,
+            high,
+            reply_from: 0,
+            length,
+        },
+    )
+}
+
+/// A poll that reports these telegrams and their bytes: a token has 3, a short confirmation 1, all others 6 or more.
+pub fn heard(clock: u64, telegrams: &[Telegram]) -> Poll {
+    let mut poll = Poll::at(clock);
+    for &telegram in telegrams {
+        let length = match telegram {
+            Telegram::Token { .. } => 3,
+            Telegram::ShortConfirmation => 1,
+            _ => 6,
+        };
+        let pending = poll.pending + length;
+        poll = poll.telegram(telegram).pending(pending);
+    }
+    poll
+}
+
+/// A trace with its story.
+pub struct Story {
+    /// The files' name below `traces/`, without ending.
+    pub name: &'static str,
+    title: &'static str,
+    tale: &'static str,
+    header: Header,
+    trace: TraceBuilder,
+    answers: Vec<Answer>,
+    lines: Vec<String>,
+    /// What happened beside the bus: the clock, and words.
+    notes: Vec<(u64, &'static str)>,
+    /// Bytes left out at the end, and the refusal that ends the run.
+    cut: usize,
+    ending: Option<Refusal>,
+    state: State,
+    next_application: u8,
+    next_station: u8,
+}
+
+impl Story {
+    /// A story without entries. A fresh station has itself as next station.
+    pub fn new(
+        name: &'static str,
+        header: Header,
+        title: &'static str,
+        tale: &'static str,
+    ) -> Story {
+        Story {
+            name,
+            title,
+            tale,
+            header,
+            trace: TraceBuilder::new(header),
+            answers: Vec::new(),
+            lines: Vec::new(),
+            notes: Vec::new(),
+            cut: 0,
+            ending: None,
+            state: State::Offline,
+            next_application: 0,
+            next_station: header.address,
+        }
+    }
+
+    /// From the next entry on, answers carry this next station.
+    pub fn next_station(&mut self, address: u8) {
+        self.next_station = address;
+    }
+
+    /// From the next entry on, answers carry this next application.
+    pub fn next_application(&mut self, application: u8) {
+        self.next_application = application;
+    }
+
+    /// Something that happened beside the bus, which no entry tells.
+    pub fn note(&mut self, clock: u64, words: &'static str) {
+        self.notes.push((clock, words));
+    }
+
+    /// The station is put online: the state stays as it is until the next poll.
+    pub fn online(&mut self, why: &str) {
+        self.trace.online();
+        self.answered("online", None, Expected::of(Outcome::None, self.state), why);
+    }
+
+    /// The station is taken offline: it is fresh.
+    pub fn offline(&mut self, why: &str) {
+        self.trace.offline();
+        self.fresh();
+        self.answered(
+            "offline",
+            None,
+            Expected::of(Outcome::None, State::Offline),
+            why,
+        );
+    }
+
+    /// From the next entry on, answers carry a fresh station's next application and next station.
+    pub fn fresh(&mut self) {
+        self.next_application = 0;
+        self.next_station = self.header.address;
+    }
+
+    /// The station is told to be passive: refused in every state.
+    pub fn passive(&mut self, why: &str) {
+        self.trace.passive();
+        self.refused("passive", Refusal::Passive, why);
+    }
+
+    /// A poll and the answer to it.
+    pub fn poll(&mut self, poll: Poll, expected: Expected, why: &str) {
+        self.trace
+            .poll(&poll)
+            .unwrap_or_else(|unfit| panic!("{}: {}", self.name, unfit));
+        self.answered(
+            &format!("{} us", thousands(poll.clock)),
+            None,
+            expected,
+            why,
+        );
+    }
+
+    /// A record that is refused.
+    pub fn bad_record(&mut self, record: &[u8], refusal: Refusal, why: &str) {
+        self.record(record);
+        self.refused("bad record", refusal, why);
+    }
+
+    fn record(&mut self, record: &[u8]) {
+        self.trace
+            .record(record)
+            .unwrap_or_else(|unfit| panic!("{}: {}", self.name, unfit));
+    }
+
+    /// The header is refused with this number. The entry that follows, online, is not answered.
+    pub fn header_refused(&mut self, refusal: Refusal) {
+        self.trace.online();
+        self.ending = Some(refusal);
+    }
+
+    /// The last bytes of this record are missing, so that the trace ends inside an entry that gets no answer.
+    pub fn cut(&mut self, record: &[u8], missing: usize, why: &str) {
+        self.record(record);
+        self.lines.push(format!(
+            "  -  {}\n     no answer: the trace ends with 17",
+            why
+        ));
+        self.cut_bytes(missing);
+    }
+
+    /// The last bytes of the trace are missing.
+    pub fn cut_bytes(&mut self, missing: usize) {
+        self.cut = missing;
+        self.ending = Some(Refusal::Cut);
+    }
+
+    /// A refused entry: number, state, next application and next station, and nothing else.
+    fn refused(&mut self, what: &str, refusal: Refusal, why: &str) {
+        self.answered(
+            what,
+            Some(refusal),
+            Expected::of(Outcome::None, self.state),
+            why,
+        );
+    }
+
+    fn answered(&mut self, what: &str, refusal: Option<Refusal>, expected: Expected, why: &str) {
+        let answer = Answer {
+            refusal,
+            outcome: expected.outcome,
+            state: expected.state,
+            sent: expected.sent,
+            consumed: expected.consumed,
+            notice: expected.notice,
+            next_application: self.next_application,
+            next_station: self.next_station,
+        };
+        self.state = expected.state;
+        self.answers.push(answer);
+        self.lines.push(format!(
+            "{:3}  {}: {}\n     {}",
+            self.answers.len(),
+            what,
+            why,
+            fields(&answer)
+        ));
+    }
+
+    /// The bytes of the trace.
+    pub fn trace(&self) -> Vec<u8> {
+        let mut bytes = self.trace.clone().into_bytes();
+        bytes.truncate(bytes.len() - self.cut);
+        assert!(bytes.len() <= LARGEST, "{} is too long", self.name);
+        bytes
+    }
+
+    /// The text that `replay` is to print.
+    pub fn answers(&self) -> String {
+        let run = Run {
+            entries: self.answers.len() as u64,
+            ending: self.ending,
+        };
+        to_text(&self.answers, &run)
+    }
+
+    /// The notes beside the trace, a line for each; empty if there are none.
+    pub fn notes(&self) -> String {
+        let notes = self.notes.iter();
+        notes
+            .map(|(clock, words)| format!("{} {}\n", clock, words))
+            .collect()
+    }
+
+    /// The story in words.
+    pub fn text(&self) -> String {
+        let mut text = format!("{}\n\n{}\n\n", self.title, self.tale.trim());
+        text.push_str(&format!("{}.\n\n", settings(&self.header)));
+        if !self.lines.is_empty() {
+            text.push_str(
+                "Entry by entry: what happens, why, and the answer that document 01 and the Rust ask for. The first word\n\
+                 of an answer is its outcome, the second the state after the entry; fields that are zero are left out.\n\n",
+            );
+        }
+        for line in &self.lines {
+            text.push_str(line);
+            text.push('\n');
+        }
+        if !self.lines.is_empty() {
+            text.push('\n');
+        }
+        text.push_str(&format!(
+            "The run ends with {} entries answered and ending number {}.\n",
+            self.answers.len(),
+            match self.ending {
+                Some(refusal) => refusal.to_string(),
+                None => "0 (the trace was read to its end)".to_string(),
+            }
+        ));
+        text
+    }
+}
+
+/// An answer's fields by their names; those that are zero are left out, but for next application and next station.
+fn fields(answer: &Answer) -> String {
+    let mut parts = Vec::new();
+    if let Some(refusal) = answer.refusal {
+        parts.push(format!("refused with {}", refusal));
+    }
+    parts.push(format!("{:?} {:?}", answer.outcome, answer.state));
+    match answer.sent {
+        Sent::Nothing => (),
+        Sent::Token { to } => parts.push(format!("sent token to {} (3 bytes)", to)),
+        Sent::StatusRequest { to } => {
+            parts.push(format!("sent status request to {} (6 bytes)", to))
+        }
+        Sent::StatusResponse { to, station_type } => parts.push(format!(
+            "sent status response \"{}\" to {} (6 bytes)",
+            station_type, to
+        )),
+        Sent::Application {
+            application,
+            high,
+            reply_from,
+            length,
+        } => parts.push(format!(
+            "sent application {}'s telegram ({} bytes{}, reply address {})",
+            application,
+            length,
+            if high { ", high priority" } else { "" },
+            reply_from
+        )),
+    }
+    if answer.consumed != 0 {
+        parts.push(format!("consumed {}", answer.consumed));
+    }
+    match answer.notice {
+        Notice::Nothing => (),
+        Notice::Reply {
+            application,
+            address,
+        } => parts.push(format!(
+            "notice: reply, application {}, {}",
+            application, address
+        )),
+        Notice::Timeout {
+            application,
+            address,
+        } => parts.push(format!(
+            "notice: timeout, application {}, {}",
+            application, address
+        )),
+    }
+    parts.push(format!("next application {}", answer.next_application));
+    parts.push(format!("next station {}", answer.next_station));
+    format!("{:016x}  {}", u64::from(*answer), parts.join(", "))
+}

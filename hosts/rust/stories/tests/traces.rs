@@ -1,0 +1,119 @@
+//! The files of traces/: they are what their stories say.
+
+use std::path::{Path, PathBuf};
+use std::process::Command;
+
+fn traces() -> PathBuf {
+    Path::new(env!("CARGO_MANIFEST_DIR")).join("../../../traces")
+}
+
+/// Every file below a folder with this ending.
+fn files(folder: &Path, ending: &str) -> Vec<PathBuf> {
+    let mut found = Vec::new();
+    for entry in std::fs::read_dir(folder).expect("the folder of traces") {
+        let path = entry.expect("an entry of the folder").path();
+        if path.is_dir() {
+            found.extend(files(&path, ending));
+        } else if path.extension().map_or(false, |there| there == ending) {
+            found.push(path);
+        }
+    }
+    found.sort();
+    found
+}
+
+#[test]
+fn the_files_are_what_their_stories_say() {
+    let output = Command::new(env!("CARGO_BIN_EXE_make_traces"))
+        .arg("check")
+        .arg(traces())
+        .output()
+        .expect("make_traces runs");
+    let said = String::from_utf8(output.stdout).expect("text");
+    assert!(
+        output.status.success(),
+        "{}",
+        String::from_utf8_lossy(&output.stderr)
+    );
+    let there = files(&traces(), "trace").len();
+    assert_eq!(
+        said,
+        format!("{} traces are what their stories say\n", there),
+        "no trace lies there without a story"
+    );
+    let notes = [traces().join("night.notes")];
+    assert_eq!(files(&traces(), "notes"), notes, "only the night has notes");
+}
+
+#[test]
+fn a_changed_file_is_found() {
+    let folder = std::env::temp_dir().join(format!("amsulfezd-traces-{}", std::process::id()));
+    let run = |word: &str| {
+        Command::new(env!("CARGO_BIN_EXE_make_traces"))
+            .arg(word)
+            .arg(&folder)
+            .output()
+            .expect("make_traces runs")
+    };
+    assert!(run("write").status.success());
+    assert!(run("check").status.success());
+    let file = folder.join("example12.answers");
+    let mut text = std::fs::read(&file).expect("the file");
+    text[0] ^= 1;
+    std::fs::write(&file, text).expect("the file is written");
+    let output = run("check");
+    assert!(!output.status.success());
+    let said = String::from_utf8(output.stderr).expect("text");
+    assert!(
+        said.contains("example12.answers is not what the stories say"),
+        "{}",
+        said
+    );
+    std::fs::remove_dir_all(&folder).expect("the folder goes");
+}
+
+/// The program that replays the traces inside the gate is called with each of them, and must print each one's answers.
+#[test]
+fn the_program_replays_every_trace() {
+    let folder = std::env::temp_dir().join(format!("amsulfezd-program-{}", std::process::id()));
+    let output = Command::new(env!("CARGO_BIN_EXE_make_traces"))
+        .arg("program")
+        .arg(&folder)
+        .output()
+        .expect("make_traces runs");
+    assert!(output.status.success());
+    let crate_folder = Path::new(env!("CARGO_MANIFEST_DIR")).join("../../../crates/run_traces");
+    let read = |path: &Path| std::fs::read_to_string(path).expect("a file");
+    for name in ["args", "stdout"] {
+        assert_eq!(
+            read(&folder.join(name)),
+            read(&crate_folder.join(name)),
+            "{}",
+            name
+        );
+    }
+    let args = read(&folder.join("args"));
+    assert_eq!(args.lines().count(), files(&traces(), "trace").len());
+    let answers: String = args
+        .lines()
+        .map(|name| {
+            format!(
+                "{}\n{}",
+                name,
+                read(&traces().join(name).with_extension("answers"))
+            )
+        })
+        .collect();
+    assert_eq!(answers, read(&folder.join("stdout")));
+    std::fs::remove_dir_all(&folder).expect("the folder goes");
+}
+
+/// Document 01's example 12 as it is printed there.
+#[test]
+fn example_12_is_document_01s() {
+    let answers = std::fs::read_to_string(traces().join("example12.answers")).expect("the file");
+    assert_eq!(
+        answers,
+        "0000000000000014\n0310000000000014\n0310000000000014\n0242140030000014\n0232140030000014\n0230000000000014\n6 0\n"
+    );
+}

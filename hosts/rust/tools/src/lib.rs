@@ -1,0 +1,15 @@
+//! A replayed trace in words and as a picture.
+//!
+//! | Module | What it holds |
+//! |---|---|
+//! | [`explain`] | one line in words for each entry |
+//! | [`view`] | what is shown of a trace: a range of its entries, the notes beside it |
+//! | [`picture`] | a trace and its answers as a picture |
+//! | [`from_replay`] | the programs that read a trace and its answers and print a text |
+//!
+//! Nothing here knows what a station does: the answers come from the proved program or library.
+
+pub mod explain;
+pub mod from_replay;
+pub mod picture;
+pub mod view;

@@ -1,0 +1,92 @@
+/*
+ * Answers traces by the proved call, for the comparison on machines that run the library but cannot link it: reads calls
+ * from standard input and writes what each left to standard output, in the form that oracle/src/comparison/program.rs
+ * states, until its input ends.
+ */
+#include "amsulfezd.h"
+
+#include <stdio.h>
+#include <stdlib.h>
+#include <string.h>
+
+/* So many bytes before and after each buffer are watched. */
+#define AROUND 64
+
+/* Ends the program with one line that says why. */
+static void fail(const char *why)
+{
+    fprintf(stderr, "answer_traces: %s\n", why);
+    exit(EXIT_FAILURE);
+}
+
+/* Memory of this length between watched bytes of this value. */
+static uint8_t *guarded(size_t length, uint8_t value)
+{
+    uint8_t *start = malloc(length + 2 * AROUND);
+    if (start == NULL) {
+        fail("no memory");
+    }
+    memset(start, value, length + 2 * AROUND);
+    return start + AROUND;
+}
+
+/* Whether the bytes around are as they were. */
+static int kept(const uint8_t *bytes, size_t length, uint8_t value)
+{
+    for (size_t i = 0; i < AROUND; i++) {
+        if (bytes[-(ptrdiff_t)i - 1] != value || bytes[length + i] != value) {
+            return 0;
+        }
+    }
+    return 1;
+}
+
+static void read_all(uint8_t *bytes, size_t length)
+{
+    if (fread(bytes, 1, length, stdin) != length) {
+        fail("the input ends inside a call");
+    }
+}
+
+static uint64_t number_of(const uint8_t *bytes)
+{
+    uint64_t number = 0;
+    for (int i = 0; i < 8; i++) {
+        number = 256 * number + bytes[i];
+    }
+    return number;
+}
+
+int main(void)
+{
+    for (;;) {
+        uint8_t head[16]; /* the two lengths, and later the number and whether all else was kept */
+        size_t count = fread(head, 1, 16, stdin);
+        if (count == 0 && feof(stdin)) {
+            return EXIT_SUCCESS;
+        }
+        if (count != 16) {
+            fail("the input ends inside a call");
+        }
+        size_t trace_length = number_of(head), room = number_of(head + 8);
+        uint8_t *trace = guarded(trace_length, 0x3c), *answers = guarded(room, 0xc3);
+        read_all(trace, trace_length);
+        read_all(answers, room);
+        uint8_t *given = guarded(trace_length, 0);
+        memcpy(given, trace, trace_length);
+
+        uint64_t returned = amsulfezd_replay_trace(trace, trace_length, answers, room);
+
+        int others = kept(trace, trace_length, 0x3c) && kept(answers, room, 0xc3);
+        for (int i = 0; i < 8; i++) {
+            head[i] = (uint8_t)(returned >> (56 - 8 * i));
+        }
+        head[8] = others && memcmp(given, trace, trace_length) == 0;
+        if (fwrite(head, 1, 9, stdout) != 9 || fwrite(answers, 1, room, stdout) != room || fflush(stdout) != 0) {
+            fail("standard output cannot be written");
+        }
+        free(given - AROUND);
+        free(answers - AROUND);
+        free(trace - AROUND);
+    }
+}

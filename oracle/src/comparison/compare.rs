@@ -1,0 +1,86 @@
+//! Runs generated traces through the oracle and through another `replay_trace` and holds the number and every byte of the
+//! answer buffer to each other.
+
+use super::run::{first_difference, parts_from_oracle, run, Replay};
+use super::shorten::shorten;
+use super::words;
+use crate::coverage::Met;
+use crate::generator::trace;
+use crate::trace::{replay_trace, Trace};
+
+/// Both answers in words, on a trace that differs.
+fn describe(replay: Replay, trace: &Trace) -> String {
+    let (expected, got) = (run(&replay_trace, trace), run(replay, trace));
+    let entry = first_difference(&expected, &got).unwrap_or(1);
+    format!(
+        "  the shortest trace found that differs, {} entries, a buffer of {} bytes filled with {:02x}:
+    {}
+  entry {} of it:
+    the oracle:  {}
+    the other:   {}
+  returned:
+    the oracle:  {}
+    the other:   {}
+",
+        trace.entries.len(),
+        trace.room,
+        trace.fill,
+        words::hex(&trace.bytes()),
+        entry,
+        words::answer(&expected, entry),
+        words::answer(&got, entry),
+        words::end(&expected),
+        words::end(&got),
+    )
+}
+
+/// At most this many points that were never reached are named.
+const NAMED: usize = 20;
+
+/// So many traces reach everything. With fewer, what is missed is said but is no failure.
+pub const ENOUGH: u64 = 20_000;
+
+/// Compares `count` traces of the seed; gives the text to print and whether all of it held.
+pub fn compare_traces(replay: Replay, seed: u64, count: u64) -> (String, bool) {
+    let mut met = Met::default();
+    for index in 0..count {
+        let made = trace(seed, index);
+        if let Some(entry) = parts_from_oracle(replay, &made) {
+            let shortest = describe(replay, &shorten(replay, &made));
+            let at = format!("seed {}, trace {}, entry {}", seed, index, entry);
+            return (format!("traces: {}: the answers differ\n{}", at, shortest), false);
+        }
+        met.see(&made);
+    }
+    let points = met.points();
+    let missed = points.missed();
+    let mut said = format!("traces: what the generated traces reached:\n{}", points.report());
+    let mut say = |line: String| said.push_str(&format!("traces: {}\n", line));
+    missed.iter().take(NAMED).for_each(|point| say(format!("never reached: {}", point)));
+    if missed.len() > NAMED {
+        say(format!("never reached: {} more", missed.len() - NAMED));
+    }
+    points.unnamed().iter().take(NAMED).for_each(|point| say(format!("not as said: {}", point)));
+    if missed.is_empty() {
+        say(format!("all {} coverage points reached", points.size()));
+    }
+    say(format!("seed {}, {} traces, {} entries, 0 differ", seed, met.traces, met.entries));
+    let reached = missed.is_empty() || count < ENOUGH;
+    (said, reached && points.unnamed().is_empty())
+}
+
+/// The whole program: `SEED COUNT`. Gives its exit status.
+pub fn main(usage: &str, replay: Replay, words: &[String]) -> i32 {
+    let numbers: Vec<Option<u64>> = words.iter().map(|word| word.parse().ok()).collect();
+    match numbers.as_slice() {
+        [Some(seed), Some(count)] if *count > 0 => {
+            let (said, held) = compare_traces(replay, *seed, *count);
+            print!("{}", said);
+            i32::from(!held)
+        }
+        _ => {
+            eprintln!("{}", usage);
+            2
+        }
+    }
+}

@@ -1,0 +1,92 @@
+//! A `replay_trace` in another process: a program that reads calls from its standard input and writes what each left to
+//! its standard output. So the proved library is compared where this machine cannot link it but can run it.
+//!
+//! A call is the trace's length and the buffer's, 8 bytes each, most significant first, then the trace and the buffer.
+//! What it left is the number, 8 bytes, a byte that is 1 if nothing but the buffer was changed, and the buffer.
+
+use std::cell::RefCell;
+use std::io::{Error, ErrorKind, Read, Result, Write};
+use std::panic::resume_unwind;
+use std::process::{Child, Command, Stdio};
+
+/// A program with its arguments, and the process that runs it. After a failure it is started anew, so that a trace that
+/// ends it can be made short.
+pub struct Program {
+    words: Vec<String>,
+    running: RefCell<Option<Child>>,
+}
+
+impl Program {
+    /// Starts the program.
+    pub fn start(words: &[String]) -> Result<Program> {
+        let running = RefCell::new(Some(start(words)?));
+        Ok(Program { words: words.to_vec(), running })
+    }
+
+    /// Has the program make the call. That it does not answer is a panic, which the comparison counts as a difference.
+    pub fn replay_trace(&self, trace: &[u8], answers: &mut [u8]) -> u64 {
+        let mut running = self.running.borrow_mut();
+        let mut child = running.take().unwrap_or_else(|| start(&self.words).expect("it started before"));
+        match call(&mut child, trace, answers) {
+            Ok(number) => {
+                *running = Some(child);
+                number
+            }
+            Err(error) => {
+                end(child);
+                // without a line for each: the comparison reports it
+                resume_unwind(Box::new(error))
+            }
+        }
+    }
+}
+
+impl Drop for Program {
+    fn drop(&mut self) {
+        if let Some(child) = self.running.take() {
+            end(child);
+        }
+    }
+}
+
+fn start(words: &[String]) -> Result<Child> {
+    let (program, arguments) = words.split_first().ok_or_else(|| Error::new(ErrorKind::Other, "none is named"))?;
+    Command::new(program).args(arguments).stdin(Stdio::piped()).stdout(Stdio::piped()).spawn()
+}
+
+/// At the end of its input the program ends.
+fn end(mut child: Child) {
+    drop((child.stdin.take(), child.stdout.take()));
+    let _ = child.wait();
+}
+
+fn call(child: &mut Child, trace: &[u8], answers: &mut [u8]) -> Result<u64> {
+    let lengths = [trace.len(), answers.len()].map(|length| (length as u64).to_be_bytes());
+    let said = [&lengths.concat()[..], trace, answers].concat();
+    child.stdin.as_mut().expect("its input").write_all(&said)?;
+    let output = child.stdout.as_mut().expect("its output");
+    let (mut number, mut kept) = ([0; 8], [0]);
+    output.read_exact(&mut number)?;
+    output.read_exact(&mut kept)?;
+    output.read_exact(answers)?;
+    if kept != [1] {
+        return Err(Error::new(ErrorKind::Other, "bytes outside of the buffer were changed"));
+    }
+    Ok(u64::from_be_bytes(number))
+}
+
+/// Answers calls from standard input by the oracle until it ends: what such a program does.
+pub fn serve() -> Result<()> {
+    let (mut input, mut output) = (std::io::stdin().lock(), std::io::stdout().lock());
+    let mut lengths = [0; 16];
+    while input.read_exact(&mut lengths).is_ok() {
+        let length = |half: &[u8]| u64::from_be_bytes(half.try_into().expect("8 bytes")) as usize;
+        let (mut trace, mut answers) = (vec![0; length(&lengths[..8])], vec![0; length(&lengths[8..])]);
+        input.read_exact(&mut trace)?;
+        input.read_exact(&mut answers)?;
+        let number = crate::trace::replay_trace(&trace, &mut answers);
+        output.write_all(&[&number.to_be_bytes()[..], &[1], &answers].concat())?;
+        output.flush()?;
+    }
+    Ok(())
+}

@@ -1,0 +1,356 @@
+//! A trace is walked entry by entry with the oracle's station, and each entry is counted under what it was and what it
+//! did. What traces have to reach is named here; a pair of states that is said to be out of reach and is met is an error.
+
+use super::events::{events, EVENTS};
+use super::points::Points;
+use super::poll::{Poll, WITNESSED};
+use super::refusals;
+use crate::records::{state::*, Notice, PollRecord, Sent, Telegram, LAST_CLOCK};
+use crate::trace::{Entry, Header, Runner, Trace, ANSWER, HEADER};
+
+/// The states by document 01's numbers.
+const STATES: [&str; 9] = [
+    "Offline",
+    "ListenToken",
+    "ActiveIdle",
+    "UseToken",
+    "ClaimToken",
+    "AwaitDataResponse",
+    "PassToken",
+    "CheckTokenPass",
+    "AwaitStatusResponse",
+];
+
+/// For each state by its number, the numbers that belong to it.
+type OfStates = [&'static [u8]; 9];
+
+/// For each state, the states in which a poll can leave it.
+///
+/// The other pairs cannot be reached by a poll, because of what the published text does:
+/// - Offline: a poll that finds the station online goes to ListenToken and on from there. A fresh
+///   ListenToken has no request to answer, so ActiveIdle is not reached; ClaimToken is (the activity
+///   that a second collision left known), and Offline is (two collisions in that poll).
+/// - ListenToken leaves by a second collision, an answer while ready, or a lost token.
+/// - ActiveIdle leaves by a token accepted, a second collision, or a lost token.
+/// - A lost token is claimed in the same poll (the lost time is at least six slots, a slot at least
+///   100 bits, the pause 33), and stays ClaimToken: the second token needs another poll.
+/// - UseToken sends, or passes on to PassToken in that poll without sending.
+/// - ClaimToken sends its second token and goes to UseToken.
+/// - AwaitDataResponse takes a reply (UseToken), something else (ActiveIdle), or a timeout, after
+///   which the applications are asked at once (AwaitDataResponse, UseToken, PassToken).
+/// - PassToken sends: a gap question, a token to another, or a token to itself.
+/// - CheckTokenPass sends again without a gap question, or hears telegrams as ActiveIdle does, so
+///   AwaitStatusResponse and ClaimToken are not reached; an expired slot is longer than the pause, so
+///   PassToken is not left standing.
+/// - AwaitStatusResponse takes a reply (PassToken), something else (ActiveIdle), or passes the token
+///   at once when the slot has expired (CheckTokenPass, or UseToken if alone).
+const REACHED_BY_POLLS: OfStates = [
+    &[0, 1, 4],
+    &[0, 1, 2, 4],
+    &[1, 2, 3, 4],
+    &[3, 5, 6],
+    &[3, 4],
+    &[2, 3, 5, 6],
+    &[3, 6, 7, 8],
+    &[1, 2, 3, 7],
+    &[2, 3, 6, 7, 8],
+];
+
+const OUTCOMES: [&str; 5] = ["none", "offline", "transmission", "bus", "delay"];
+
+/// For each state, the outcomes that a poll in it can have.
+const OUTCOMES_OF: OfStates =
+    [&[1, 2, 3, 4], &[2, 3, 4], &[2, 3, 4], &[2, 4], &[2, 4], &[2, 3, 4], &[2, 4], &[2, 3, 4], &[2, 3, 4]];
+
+const SENT: [&str; 5] = ["nothing", "token", "status request", "status response", "application"];
+
+/// For each state, what a poll in it can send.
+const SENT_OF: OfStates = [&[0, 1], &[0, 1, 3], &[0, 1, 3], &[0, 4], &[0, 1], &[0, 4], &[0, 1, 2], &[0, 1], &[0, 1]];
+
+/// The questions of time, each asked at -1, 0 and +1 microseconds from where its answer changes.
+const QUESTIONS: [&str; 13] = [
+    "a transmission going on",
+    "lost token in ListenToken",
+    "lost token in ActiveIdle",
+    "pause before an answer in ListenToken",
+    "pause before an answer in ActiveIdle",
+    "pause in ClaimToken",
+    "pause in UseToken",
+    "pause in PassToken",
+    "slot in AwaitDataResponse",
+    "slot in CheckTokenPass",
+    "slot in AwaitStatusResponse",
+    "end of hold, no cycle done",
+    "end of hold, a cycle done",
+];
+
+const SHIFTS: [&str; 3] = ["-1", "0", "+1"];
+
+/// The states that take telegrams.
+const HEARING: [u8; 5] = [LISTEN_TOKEN, ACTIVE_IDLE, AWAIT_DATA_RESPONSE, CHECK_TOKEN_PASS, AWAIT_STATUS_RESPONSE];
+
+const KINDS: [&str; 9] = [
+    "short confirmation",
+    "token to us",
+    "token to another",
+    "request to us",
+    "request to another",
+    "status request to us",
+    "status request to another",
+    "response to us",
+    "response to another",
+];
+
+/// Whether a telegram is the last of its poll.
+const LAST: [&str; 2] = ["with more", "last"];
+
+const STATION_TYPES: [&str; 4] = ["slave", "not ready", "without token", "in ring"];
+const OK: [&str; 2] = ["not Ok", "Ok"];
+
+const APPLICATION: [&str; 7] = [
+    "sends, reply expected",
+    "sends, no reply",
+    "sends at high priority, reply expected",
+    "sends at high priority, no reply",
+    "gets a reply",
+    "gets a timeout",
+    "is next",
+];
+
+const ENDINGS: [&str; 11] = [
+    "0: all entries answered",
+    "0: no entry",
+    "17: empty trace",
+    "17: in the header",
+    "17: in a poll record",
+    "17: in a record of under 8 bytes",
+    "17: no room for it either",
+    "18: before a command",
+    "18: before a poll record",
+    "18: a buffer of no bytes",
+    "18: 1 to 7 bytes left",
+];
+
+const CLOCKS: [&str; 4] = ["clock goes back", "clock stands still", "clock 0", "clock 2^48 - 1"];
+
+/// All pairs, as `a LINK b`.
+fn pairs<A: ToString, B: ToString>(first: &[A], link: &str, second: &[B]) -> Vec<String> {
+    let with = |a: &A| second.iter().map(|b| a.to_string() + link + &b.to_string()).collect::<Vec<_>>();
+    first.iter().flat_map(with).collect()
+}
+
+/// What was met.
+pub struct Met {
+    points: Points,
+    /// Traces and entries walked.
+    pub traces: u64,
+    pub entries: u64,
+}
+
+impl Default for Met {
+    fn default() -> Self {
+        let mut points = Points::default();
+        let tables: [(&str, &OfStates, &[&str], &str); 3] = [
+            ("poll", &REACHED_BY_POLLS, &STATES, " -> "),
+            ("outcome", &OUTCOMES_OF, &OUTCOMES, ": "),
+            ("sent", &SENT_OF, &SENT, ": "),
+        ];
+        for (group, table, names, link) in tables {
+            let of = |(state, list): (&&'static str, &&'static [u8])| {
+                let listed: Vec<&str> = list.iter().map(|i| names[usize::from(*i)]).collect();
+                pairs(&[state], link, &listed)
+            };
+            points.group(group, STATES.iter().zip(table).flat_map(of));
+        }
+        points.group("refused entry", pairs(&[12, 13, 14, 15, 16], " in ", &STATES));
+        points.group("command or transmitting", pairs(&["online", "offline", "transmitting"], " in ", &STATES));
+        refusals::name_points(&mut points);
+        points.group("ending", ENDINGS);
+        points.group("answer buffer", ["all used", "bytes left over", "eight or more left over"]);
+        let codes: Vec<usize> = (0..11).collect();
+        points.group("time", pairs(&pairs(&QUESTIONS, ", code ", &codes), ", ", &SHIFTS));
+        points.group("ring of size", 1..=126);
+        points.group("applications", 1..=8);
+        points.group("application", pairs(&[0, 1, 2, 3, 4, 5, 6, 7], " ", &APPLICATION));
+        let hearing = HEARING.map(|state| STATES[usize::from(state)]);
+        points.group("heard", pairs(&pairs(&hearing, ": ", &KINDS), ", ", &LAST));
+        points.group("token witnessed", WITNESSED);
+        points.group("reply to a gap question", pairs(&STATION_TYPES, ", ", &OK));
+        points.group("event", CLOCKS.iter().chain(&EVENTS));
+        Met { points, traces: 0, entries: 0 }
+    }
+}
+
+impl Met {
+    /// Walks a trace and counts it.
+    pub fn see(&mut self, trace: &Trace) {
+        self.traces += 1;
+        let bytes = trace.bytes();
+        if bytes.len() < HEADER {
+            self.points.hit("refused header", 17);
+            return self.points.hit("ending", if bytes.is_empty() { "17: empty trace" } else { "17: in the header" });
+        }
+        let (head, mut rest) = bytes.split_at(HEADER);
+        let header = Header::read(head.try_into().expect("16 bytes"));
+        refusals::see_header(&mut self.points, &header);
+        if header.refusal().is_some() {
+            return;
+        }
+        self.points.hit("applications", header.applications);
+        let mut runner = Runner::new(&header);
+        let (mut room, mut clock) = (trace.room, None);
+        if rest.is_empty() {
+            return self.points.hit("ending", "0: no entry");
+        }
+        while !rest.is_empty() {
+            let mut ends = |condition: bool, ending| {
+                if condition {
+                    self.points.hit("ending", ending);
+                }
+            };
+            let (entry, after) = match Entry::first(rest) {
+                Some(found) => found,
+                None => {
+                    ends(true, "17: in a poll record");
+                    ends(rest[0] < 8, "17: in a record of under 8 bytes");
+                    return ends(room < ANSWER, "17: no room for it either");
+                }
+            };
+            if room < ANSWER {
+                let poll = matches!(entry, Entry::Poll(_));
+                ends(!poll, "18: before a command");
+                ends(poll, "18: before a poll record");
+                ends(trace.room == 0, "18: a buffer of no bytes");
+                return ends(room > 0, "18: 1 to 7 bytes left");
+            }
+            self.see_entry(&header, &mut runner, entry, &mut clock);
+            rest = after;
+            room -= ANSWER;
+        }
+        self.points.hit("ending", "0: all entries answered");
+        let left = match room {
+            0 => "all used",
+            1..=7 => "bytes left over",
+            _ => "eight or more left over",
+        };
+        self.points.hit("answer buffer", left);
+    }
+
+    fn see_entry(&mut self, header: &Header, runner: &mut Runner, entry: Entry, clock: &mut Option<u64>) {
+        self.entries += 1;
+        let was = runner.station.watch();
+        let state = STATES[usize::from(was.state)];
+        let ring = runner.station.inspect_token_ring();
+        let (next, ready, size) = (ring.next_station(), ring.ready_for_ring(), ring.size());
+        let answer = runner.entry(entry);
+        let bytes = match entry {
+            _ if answer.refusal != 0 => {
+                if let Entry::Poll(bytes) = entry {
+                    refusals::see_record(&mut self.points, runner.applications, bytes);
+                }
+                return self.points.hit("refused entry", format_args!("{} in {}", answer.refusal, state));
+            }
+            Entry::Online => return self.points.hit("command or transmitting", format_args!("online in {}", state)),
+            Entry::Offline | Entry::Passive => {
+                return self.points.hit("command or transmitting", format_args!("offline in {}", state))
+            }
+            Entry::Poll(bytes) => bytes,
+        };
+        let record = PollRecord::decode(runner.applications, bytes).expect("an accepted record");
+        let earlier = clock.replace(record.clock);
+        let places = [
+            earlier.map_or(false, |earlier| record.clock < earlier),
+            earlier == Some(record.clock),
+            earlier.is_some() && record.clock == 0,
+            earlier.is_some() && record.clock == LAST_CLOCK,
+        ];
+        for (place, _) in CLOCKS.iter().zip(places).filter(|(_, met)| *met) {
+            self.points.hit("event", place);
+        }
+        let poll = Poll {
+            parameters: runner.station.parameters(),
+            own: header.address,
+            was,
+            next,
+            ready,
+            size,
+            record,
+            answer,
+            is: runner.station.watch(),
+            size_after: runner.station.inspect_token_ring().size(),
+        };
+        self.see_poll(header, &poll);
+    }
+
+    fn see_poll(&mut self, header: &Header, poll: &Poll) {
+        let (was, record, answer) = (&poll.was, &poll.record, &poll.answer);
+        let state = STATES[usize::from(was.state)];
+        let consumed = usize::from(answer.consumed);
+        self.points.hit("poll", format_args!("{} -> {}", state, STATES[usize::from(poll.is.state)]));
+        self.points.hit("outcome", format_args!("{}: {}", state, OUTCOMES[usize::from(answer.outcome)]));
+        self.points.hit("sent", format_args!("{}: {}", state, SENT[usize::from(answer.sent.kind())]));
+        let told = poll.consumed_as_document_01_says();
+        if consumed != told {
+            let said = format!("{} takes {} telegrams, document 01 says {}", state, consumed, told);
+            self.points.hit("poll", said);
+        }
+        if record.transmitting {
+            self.points.hit("command or transmitting", format_args!("transmitting in {}", state));
+        }
+        if !was.online {
+            return;
+        }
+        self.points.hit("ring of size", poll.size_after);
+        self.see_applications(poll);
+        for (question, far) in poll.times() {
+            if let Some(shift) = SHIFTS.get((far + 1) as usize) {
+                self.points.hit("time", format_args!("{}, code {}, {}", question, header.baud, shift));
+            }
+        }
+        for event in events(poll) {
+            self.points.hit("event", event);
+        }
+        let hears = STATES[usize::from(was.state.max(LISTEN_TOKEN))];
+        for (i, telegram) in record.telegrams[..consumed].iter().enumerate() {
+            let last = LAST[usize::from(i + 1 == record.telegrams.len())];
+            let kind = KINDS[kind_of(telegram, poll.own)];
+            self.points.hit("heard", format_args!("{}: {}, {}", hears, kind, last));
+        }
+        if [OFFLINE, LISTEN_TOKEN, ACTIVE_IDLE].contains(&was.state) {
+            poll.witnessed().iter().for_each(|case| self.points.hit("token witnessed", WITNESSED[*case]));
+        }
+        if let Some((station_type, ok)) = poll.gap_reply() {
+            let kind = STATION_TYPES[usize::from(station_type)];
+            self.points.hit("reply to a gap question", format_args!("{}, {}", kind, OK[usize::from(ok)]));
+        }
+    }
+
+    fn see_applications(&mut self, poll: &Poll) {
+        let mut hit = |i: u8, what: usize| self.points.hit("application", format_args!("{} {}", i, APPLICATION[what]));
+        if let Sent::Application { application, high, .. } = poll.answer.sent {
+            hit(application, 2 * usize::from(high) + usize::from(poll.is.state != AWAIT_DATA_RESPONSE));
+            hit(poll.is.next_application as u8, 6);
+        }
+        match poll.answer.notice {
+            Notice::Nothing => {}
+            Notice::Reply { application, .. } => hit(application, 4),
+            Notice::Timeout { application, .. } => hit(application, 5),
+        }
+    }
+
+    pub fn points(&self) -> &Points {
+        &self.points
+    }
+}
+
+/// The place in `KINDS`.
+fn kind_of(telegram: &Telegram, own: u8) -> usize {
+    let other = |to: u8| usize::from(to != own);
+    match *telegram {
+        Telegram::ShortConfirmation => 0,
+        Telegram::Token { destination, .. } => 1 + other(destination),
+        Telegram::Request { destination, status_request: false, .. } => 3 + other(destination),
+        Telegram::Request { destination, .. } => 5 + other(destination),
+        Telegram::Response { destination, .. } => 7 + other(destination),
+    }
+}

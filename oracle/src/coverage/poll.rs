@@ -1,0 +1,140 @@
+//! One accepted poll, as the cases look at it.
+
+use crate::fdl::{Parameters, Watched};
+use crate::records::{state::*, Answer, PollRecord, Sent, Telegram};
+use crate::ring::LAST;
+
+/// Cases of a token that the ring witnesses.
+pub const WITNESSED: [&str; 7] = [
+    "source above 125",
+    "destination above 125",
+    "source is destination",
+    "own lies between",
+    "from 125 on to 0",
+    "the ring grows",
+    "the ring shrinks",
+];
+
+/// One poll that was accepted: the station before it, what it was, its answer, and the station after it.
+pub struct Poll<'a> {
+    pub parameters: &'a Parameters,
+    pub own: u8,
+    pub was: Watched,
+    /// The ring before: the next station, whether it is ready, its size.
+    pub next: u8,
+    pub ready: bool,
+    pub size: usize,
+    pub record: PollRecord,
+    pub answer: Answer,
+    pub is: Watched,
+    pub size_after: usize,
+}
+
+impl Poll<'_> {
+    /// How long it is since the last activity, where nothing is being transmitted.
+    pub fn waited(&self) -> Option<i64> {
+        let last = self.was.last_bus_activity?.total_micros();
+        let waited = self.record.clock as i64 - last;
+        (!self.record.transmitting && waited > 0).then_some(waited)
+    }
+
+    /// The cases of the tokens that were witnessed, as numbers of `WITNESSED`. Tokens by our address are collisions.
+    pub fn witnessed(&self) -> Vec<usize> {
+        let mut cases = Vec::new();
+        for telegram in &self.record.telegrams[..usize::from(self.answer.consumed)] {
+            let (source, destination) = match *telegram {
+                Telegram::Token { source, destination } if source != self.own => (source, destination),
+                _ => continue,
+            };
+            let legal = source <= LAST && destination <= LAST;
+            let up_to = |address: u8| (u16::from(address) + 126 - u16::from(source)) % 126;
+            let met = [
+                source > LAST,
+                destination > LAST,
+                legal && source == destination,
+                legal && 0 < up_to(self.own) && up_to(self.own) < up_to(destination),
+                legal && destination < source,
+                self.size_after > self.size,
+                self.size_after < self.size,
+            ];
+            cases.extend((0..met.len()).filter(|case| met[*case]));
+        }
+        cases
+    }
+
+    /// The awaited reply to a gap question: the station's type, and whether its status is Ok.
+    pub fn gap_reply(&self) -> Option<(u8, bool)> {
+        if self.was.state != AWAIT_STATUS_RESPONSE || self.answer.consumed == 0 {
+            return None;
+        }
+        match self.record.telegrams[0] {
+            Telegram::Response { destination, source, station_type, status }
+                if destination == self.own && Some(source) == self.was.awaited =>
+            {
+                Some((station_type, status == 0))
+            }
+            _ => None,
+        }
+    }
+
+    /// "Consumed: none where a transmission is found going on (outcome 2, nothing sent). Else the two reply-waiting states
+    /// the first telegram, if any; ListenToken and ActiveIdle all, but none in a poll that claims or has a request to
+    /// answer; CheckTokenPass all, but none once the slot has expired; any other poll none." A claim and an expired slot
+    /// are seen by the token that is then sent.
+    pub fn consumed_as_document_01_says(&self) -> usize {
+        let all = self.record.telegrams.len();
+        let sends_token = matches!(self.answer.sent, Sent::Token { .. });
+        if !self.was.online || (self.answer.outcome == 2 && self.answer.sent == Sent::Nothing) {
+            return 0;
+        }
+        match self.was.state {
+            AWAIT_DATA_RESPONSE | AWAIT_STATUS_RESPONSE => all.min(1),
+            OFFLINE..=ACTIVE_IDLE if sends_token || self.was.status_request.is_some() => 0,
+            CHECK_TOKEN_PASS if sends_token => 0,
+            OFFLINE..=ACTIVE_IDLE | CHECK_TOKEN_PASS => all,
+            _ => 0,
+        }
+    }
+
+    /// The questions of time that this poll asks, each with how far it is from where the answer changes.
+    pub fn times(&self) -> Vec<(&'static str, i64)> {
+        let (was, p) = (&self.was, self.parameters);
+        let mut asked = Vec::new();
+        if let (Some(last), false) = (was.last_bus_activity, self.record.transmitting) {
+            asked.push(("a transmission going on", self.record.clock as i64 - last.total_micros()));
+        }
+        let waited = match self.waited() {
+            Some(waited) if self.record.pending <= was.pending_bytes as u16 => waited,
+            _ => return asked,
+        };
+        let pause = waited - p.bits_to_time(33).total_micros() as i64;
+        let slot = waited - p.slot_time().total_micros() as i64;
+        let lost = waited - p.token_lost_timeout().total_micros() as i64;
+        let silent = self.record.telegrams.is_empty();
+        let answers = was.status_request.is_some() && lost < 0;
+        match was.state {
+            OFFLINE | LISTEN_TOKEN => {
+                asked.push(("lost token in ListenToken", lost));
+                asked.extend(answers.then_some(("pause before an answer in ListenToken", pause)));
+            }
+            ACTIVE_IDLE => {
+                asked.push(("lost token in ActiveIdle", lost));
+                asked.extend(answers.then_some(("pause before an answer in ActiveIdle", pause)));
+            }
+            USE_TOKEN => {
+                asked.push(("pause in UseToken", pause));
+                let end = self.record.clock as i64 - self.is.end_token_hold_time.total_micros();
+                let question =
+                    if was.first_cycle_done { "end of hold, a cycle done" } else { "end of hold, no cycle done" };
+                asked.extend((pause >= 0).then_some((question, end)));
+            }
+            CLAIM_TOKEN => asked.push(("pause in ClaimToken", pause)),
+            AWAIT_DATA_RESPONSE if silent => asked.push(("slot in AwaitDataResponse", slot)),
+            PASS_TOKEN => asked.push(("pause in PassToken", pause)),
+            CHECK_TOKEN_PASS => asked.push(("slot in CheckTokenPass", slot)),
+            AWAIT_STATUS_RESPONSE if silent => asked.push(("slot in AwaitStatusResponse", slot)),
+            _ => {}
+        }
+        asked
+    }
+}

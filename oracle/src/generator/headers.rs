@@ -1,0 +1,103 @@
+//! Headers: accepted ones, and ones with a field at the edge of its range or beyond.
+
+use super::seed::Seed;
+use crate::baud::LEAST_SLOT_BITS;
+use crate::ring::LAST;
+use crate::trace::Header;
+
+/// A header that is accepted.
+pub fn good_header(seed: &mut Seed) -> Header {
+    let address = match seed.below(8) {
+        0 => 0,
+        1 => LAST,
+        _ => seed.below(126) as u8,
+    };
+    let baud = seed.below(11) as u8;
+    let least = LEAST_SLOT_BITS[usize::from(baud)];
+    let slot = match seed.below(6) {
+        0 => 65535,
+        1 => seed.between(least.into(), 65535) as u16,
+        2 | 3 => seed.between(least.into(), 2 * u64::from(least)) as u16,
+        _ => least,
+    };
+    let rotation = match seed.below(6) {
+        0 => 16_777_960,
+        1 => 256,
+        2 => seed.between(256, 16_777_960) as u32,
+        3 => 32436,
+        _ => seed.between(256, 6000) as u32,
+    };
+    let hsa = match seed.below(4) {
+        0 => address + 1,
+        1 => seed.between(u64::from(address) + 1, 126) as u8,
+        _ => 126,
+    };
+    Header {
+        address,
+        baud,
+        slot,
+        rotation,
+        gap: seed.pick(&[1, 1, 1, 2, 2, 3, 10, 100]),
+        hsa,
+        retry: seed.between(1, 15) as u8,
+        min_tsdr: seed.pick(&[11, 11, 60, 255]),
+        applications: seed.pick(&[1, 1, 1, 2, 2, 3, 4, 5, 6, 7, 8, 8]),
+        factors: seed.pick(&[(0, 0), (0, 0), (1, 1), (255, 255), (4, 250)]),
+        zero: 0,
+    }
+}
+
+/// The number of fields, and the place of the slot among them, in the order in which document 01 checks them.
+const FIELDS: u64 = 11;
+const SLOT: u64 = 2;
+
+/// Puts one field at or beyond the edge of its range, or two neighbouring ones beyond theirs.
+pub fn edge_header(seed: &mut Seed, header: &mut Header) {
+    if seed.coin() {
+        // the slot has an edge for each baud code
+        let field = if seed.one_in(3) { SLOT } else { seed.below(FIELDS) };
+        let beyond = seed.coin();
+        edge_field(seed, header, field, beyond);
+    } else {
+        let first = seed.below(FIELDS - 1);
+        // without a baud rate there is no least slot
+        let second = if first + 1 == SLOT { SLOT + 1 } else { first + 1 };
+        edge_field(seed, header, first, true);
+        edge_field(seed, header, second, true);
+    }
+}
+
+/// One field at the edge of its range, or beyond it.
+fn edge_field(seed: &mut Seed, header: &mut Header, field: u64, beyond: bool) {
+    let mut of = |inside: &[u32], outside: &[u32]| seed.pick(if beyond { outside } else { inside });
+    let own = u32::from(header.address);
+    match field {
+        0 => {
+            header.address = of(&[0, 125], &[126, 127, 128, 255]) as u8;
+            if !beyond {
+                header.hsa = 126;
+            }
+        }
+        1 => {
+            header.baud = of(&[0, 10], &[11, 12, 255]) as u8;
+            if !beyond {
+                header.slot = header.slot.max(1000);
+            }
+        }
+        SLOT => {
+            let least = u32::from(LEAST_SLOT_BITS[usize::from(header.baud.min(10))]);
+            header.slot = of(&[least, least, least + 1, 65535], &[least - 1, least - 1, 0]) as u16;
+        }
+        3 => header.hsa = of(&[own + 1, 126], &[0, own, own, 127, 127, 255]) as u8,
+        4 => header.rotation = of(&[256, 16_777_960], &[0, 255, 16_777_961, u32::MAX]),
+        5 => header.gap = of(&[1, 100], &[0, 101, 255]) as u8,
+        6 => header.retry = of(&[1, 15], &[0, 16, 255]) as u8,
+        7 => header.min_tsdr = of(&[11, 255], &[0, 10]) as u8,
+        8 => header.applications = of(&[1, 8], &[0, 9, 255]) as u8,
+        9 => {
+            let factors = of(&[0x0000, 0x01ff, 0xffff], &[0x0001, 0x0100, 0x00ff, 0xff00]);
+            header.factors = ((factors / 256) as u8, (factors % 256) as u8);
+        }
+        _ => header.zero = of(&[0], &[1, 128, 255]) as u8,
+    }
+}
