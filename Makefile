@@ -30,5 +30,5 @@ compare: ## [SEED=n] [COUNT=m] m generated traces of seed n through the proved l
 speed: ## [ENTRIES=n] entries a second of both on one long trace
 	@bash scripts/speed.sh
 
-figures: ## counts each crate anew: the tables of docs/CRATES.md and README.md
-	@python3 scripts/figures.py
+figures: ## the tables made from the sources: docs/CRATES.md, README.md, docs/FUNCTIONS.md, docs/EDITS.md
+	@python3 scripts/figures.py && python3 scripts/functions.py && python3 scripts/edits.py

@@ -56,6 +56,7 @@ part "the shell scripts (shellcheck)" shellcheck --external-sources .ci/run scri
 part "docs/FUNCTIONS.md" python3 scripts/functions.py --check
 part "the tables of crates" python3 scripts/figures.py --check
 part "a claim for each public call" python3 scripts/determined.py
+part "two must-fail edits for each public call" python3 scripts/edits.py --check
 part "the proofs (rt ci)" prove
 part "the comparison with Rust" bash scripts/compare.sh
 part "the listed differences" quietly "an answer is not as listed" bash scripts/differences.sh

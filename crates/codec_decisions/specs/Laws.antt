@@ -10,7 +10,7 @@ use lib.ListN.{getD, drop}
 use lib.Dec.{eqb, leb, lit<, lit≤}
 use Rattle.codec_fields.specs.Fields.{fieldOf, bitAt, bitNumber, zerosOr14, unpack, Within}
 use Rattle.codec_fields.specs.Widths.{field-below}
-use Rattle.codec_fields.specs.Laws.{unpack-put, put-unpack, put-below, never, zero-fields, bit-written}
+use Rattle.codec_fields.specs.Laws.{unpack-put, put-unpack, put-below, never, same-at, zero-fields, bit-written}
 use Rattle.codec_decisions.specs.declared.Decision.{Decision}
 use Rattle.codec_decisions.specs.declared.Decision.the-variants.{Decline, Send, SendExpectReply}
 use Rattle.codec_decisions.specs.Decisions.{decisionWidths, decisionOf, lengthRefusal, decisionRefusal, decisionValues, decisionWord, DecisionFits}
@@ -51,26 +51,26 @@ expect-word w a n h p e =
     (rw (sends, expects, address, length), rw (lt-leb _ _ h, sends, zero, expects, length, ne-eqb n 0 (λ z. omega arith)))
 
 -- the values of a decision whose numbers fit are within their widths
-values-within : (d : Decision) → DecisionFits d → Within decisionWidths (decisionValues d)
-values-within Decline f = (lit< tt, (lit< tt, (lit< tt, (lit< tt, (lit< tt, tt)))))
-values-within (Send n) f = (lit< tt, (lit< tt, (lit< tt, (f .1, (lit< tt, tt)))))
-values-within (SendExpectReply a n) f = (lit< tt, (lit< tt, (f .0, (f .2, (lit< tt, tt)))))
+decision-values-within : (d : Decision) → DecisionFits d → Within decisionWidths (decisionValues d)
+decision-values-within Decline f = (lit< tt, (lit< tt, (lit< tt, (lit< tt, (lit< tt, tt)))))
+decision-values-within (Send n) f = (lit< tt, (lit< tt, (lit< tt, (f .1, (lit< tt, tt)))))
+decision-values-within (SendExpectReply a n) f = (lit< tt, (lit< tt, (f .0, (f .2, (lit< tt, tt)))))
 
 -- its word has 24 bits
 pub decision-below : (d : Decision) → DecisionFits d → decisionWord d < 2 ^ 24
 unfolding decisionWord
-decision-below d f = put-below decisionWidths (lit≤ tt) (decisionValues d) (values-within d f)
+decision-below d f = put-below decisionWidths (lit≤ tt) (decisionValues d) (decision-values-within d f)
 
 -- and the values are the word's fields
-word-fields : (d : Decision) → DecisionFits d → unpack decisionWidths (decisionWord d) ≡ decisionValues d
+decision-word-fields : (d : Decision) → DecisionFits d → unpack decisionWidths (decisionWord d) ≡ decisionValues d
 unfolding decisionWord
-word-fields d f = unpack-put decisionWidths (lit≤ tt) (decisionValues d) (values-within d f)
+decision-word-fields d f = unpack-put decisionWidths (lit≤ tt) (decisionValues d) (decision-values-within d f)
 
 -- a decision whose numbers fit is what its word says, and the word is accepted
 pub decision-read : (d : Decision) → DecisionFits d → (decisionOf (decisionWord d) ≡ d) × (decisionRefusal (decisionWord d) ≡ 0)
-decision-read Decline f = decline-word _ (decision-below Decline f) (word-fields Decline f)
-decision-read (Send n) f = send-word _ n (decision-below (Send n) f) (f .0) (word-fields (Send n) f)
-decision-read (SendExpectReply a n) f = expect-word _ a n (decision-below (SendExpectReply a n) f) (f .1) (word-fields (SendExpectReply a n) f)
+decision-read Decline f = decline-word _ (decision-below Decline f) (decision-word-fields Decline f)
+decision-read (Send n) f = send-word _ n (decision-below (Send n) f) (f .0) (decision-word-fields (Send n) f)
+decision-read (SendExpectReply a n) f = expect-word _ a n (decision-below (SendExpectReply a n) f) (f .1) (decision-word-fields (SendExpectReply a n) f)
 
 -- no refusal: the length is not 0
 long-enough : (n : ℕ) → lengthRefusal n ≡ 0 → 0 < n
@@ -114,10 +114,7 @@ decision-written w h = held (accepted w h .0) (accepted w h .1)
     none : (at : ℕ) → bitAt w at ≡ false → fieldOf w at 1 ≡ 0
     none at b = sym (bit-written w at) ∙ ap bitNumber b
 
-    nth : (i : ℕ) {vs ws : List ℕ} → vs ≡ ws → getD vs i 0 ≡ getD ws i 0
-    nth i e = ap (λ (l : List ℕ). getD l i 0) e
-
     held : w < 2 ^ 24 → Accepted w → (decisionWord (decisionOf w) ≡ w) × DecisionFits (decisionOf w)
-    held l (declines s z) = (rw s (rw (none 23 s, nth 0 z, nth 1 z, nth 2 z, nth 3 z) at (put-unpack decisionWidths (lit≤ tt) w l)), rw s tt)
+    held l (declines s z) = (rw s (rw (none 23 s, same-at 0 z, same-at 1 z, same-at 2 z, same-at 3 z) at (put-unpack decisionWidths (lit≤ tt) w l)), rw s tt)
     held l (sends s x a n z) = (rw (s, x) (rw (one 23 s, none 22 x, a, z) at (put-unpack decisionWidths (lit≤ tt) w l)), rw (s, x) (n, field-below w 7 8))
     held l (expects s x n z) = (rw (s, x) (rw (one 23 s, one 22 x, z) at (put-unpack decisionWidths (lit≤ tt) w l)), rw (s, x) (field-below w 15 7, n, field-below w 7 8))

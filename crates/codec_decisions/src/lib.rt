@@ -69,7 +69,7 @@ pub fn decision_refusal(word: u64) -> u8
 }
 
 // The word of a decision's fields.
-fn put_fields(sends: bool, expects: bool, address: u8, length: u8) -> u64
+fn decision_word(sends: bool, expects: bool, address: u8, length: u8) -> u64
     ensures { λ r. ⌜ r ≡ putAll 0 decisionWidths (bitNumber sends ∷ bitNumber expects ∷ address ∷ length ∷ 0 ∷ []) ⌝ }
 {
     put(
@@ -88,8 +88,8 @@ pub fn write_decision(decision: Decision) -> u64
     ensures { λ r. ⌜ r ≡ decisionWord decision ⌝ }
 {
     match decision {
-        Decision::Decline => put_fields(false, false, 0, 0),
-        Decision::Send { length } => put_fields(true, false, 0, length),
-        Decision::SendExpectReply { address, length } => put_fields(true, true, address, length),
+        Decision::Decline => decision_word(false, false, 0, 0),
+        Decision::Send { length } => decision_word(true, false, 0, length),
+        Decision::SendExpectReply { address, length } => decision_word(true, true, address, length),
     }
 }

@@ -7,7 +7,7 @@ use mathlib.Core.Bool.{Bool, true, false, cond}
 use native.Mathlib.Omega.{arith}
 use borrow.Author.Tests.{ne-eqb, eqb-true, eqb-false}
 use borrow.Table.Steps.{cases}
-use lib.ListN.{length, replicate}
+use lib.ListN.{length, getD, replicate}
 use lib.Pow.{high, low, split, shr-shr, pow-pos}
 use lib.Dec.{eqb, lit<}
 use Rattle.codec_fields.specs.Fields.{fieldOf, bitAt, bitNumber, zeroOr14, zerosOr14, putAll, total, unpack, Within, be, beFrom, lowBytes, bytesOf, Bytes}
@@ -129,6 +129,10 @@ be-bytes word h = be-low 8 word h
 pub never : {A : Type 0} (n : ℕ) → suc n ≡ 0 → A
 never n e = absurd (omega arith)
 
+-- the same field of the same fields
+pub same-at : (i : ℕ) {vs ws : List ℕ} → vs ≡ ws → getD vs i 0 ≡ getD ws i 0
+same-at i e = ap (λ (l : List ℕ). getD l i 0) e
+
 -- no refusal: the fields are zero
 pub zero-fields : (vs : List ℕ) → zerosOr14 vs ≡ 0 → vs ≡ replicate (length vs) 0
 unfolding zerosOr14
@@ -155,7 +159,7 @@ zero-beside word at width =
 
 -- fields that end a word are zero if they are as one
 pub zeros-field : (ws : List ℕ) (word : ℕ) → zerosOr14 (unpack ws word) ≡ zeroOr14 (fieldOf word 0 (total ws))
-unfolding zerosOr14 zeroOr14
+unfolding zerosOr14
 zeros-field [] word = let e : fieldOf word 0 0 ≡ 0 = omega (arith, field-below word 0 0) in rw e
 zeros-field (w ∷ ws) word =
     rw (zero-beside word (total ws) w, zeros-field ws word)

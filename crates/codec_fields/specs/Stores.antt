@@ -3,11 +3,23 @@ use Prim.Native.Nat.{ℕ, zero, suc, _+_, _-_, _*_, _^_, _<_, _≤_}
 use mathlib.Core.Path.{_≡_, sym, ap, _∙_}
 use mathlib.Core.List.{List, [], _∷_, _++_, append-assoc}
 use native.Mathlib.Omega.{arith}
-use borrow.Author.Tests.{le-ltb}
+use mathlib.Core.Bool.{Bool, true, false}
+use borrow.Author.Tests.{le-leb, leb-true}
+use borrow.Table.Steps.{cases}
 use lib.ListN.{length, take, drop, set, length-append, length-drop, take-append-drop}
 use lib.Seq.{take-suc-set, drop-set-lt, append-snoc, length-take-le, take-at, drop-at, drop-drop}
-use Rattle.codec_fields.specs.Fields.{fieldOf, be, loadOf, lowBytes, overOf, storedOf, Bytes}
+use lib.Dec.{leb}
+use Rattle.codec_fields.specs.Fields.{fieldOf, be, hasRoom, loadOf, lowBytes, overOf, storedOf, Bytes}
 use Rattle.codec_fields.specs.Laws.{bytes-total, low-be, be-below}
+
+-- there is room for at most 8 bytes that end within the length
+pub room-is : (length at count : ℕ) → count ≤ 8 → at + count ≤ length → hasRoom length at count ≡ true
+room-is length at count c h = rw (le-leb count 8 c, le-leb (at + count) length h)
+
+-- and for no others
+pub room-of : (length at count : ℕ) → hasRoom length at count ≡ true → (count ≤ 8) × (at + count ≤ length)
+room-of length at count h =
+    cases (leb count 8) (λ a. (leb-true count 8 a, leb-true (at + count) length (rw a at h))) (λ a. let z : _≡_ {A = Bool} false true = rw a at h in let y : _≡_ {A = ℕ} 0 1 = cc in absurd (omega arith))
 
 -- one byte written, and the rest of them after it
 over-step :
@@ -57,12 +69,12 @@ pub stored-room :
     → at + count ≤ length s
     → storedOf s at count word ≡ take at s ++ (lowBytes count word ++ drop (at + count) s)
 unfolding storedOf overOf
-stored-room s at count word c h = rw (le-ltb 8 count c, le-ltb (length s) (at + count) h)
+stored-room s at count word c h = rw (room-is (length s) at count c h)
 
 -- where there is room, a load reads the bytes there
 pub load-room : (s : List ℕ) (at count : ℕ) → count ≤ 8 → at + count ≤ length s → loadOf s at count ≡ be (take count (drop at s))
 unfolding loadOf
-load-room s at count c h = rw (le-ltb 8 count c, le-ltb (length s) (at + count) h)
+load-room s at count c h = rw (room-is (length s) at count c h)
 
 -- bytes from a place on
 bytes-drop : (n : ℕ) (s : List ℕ) → Bytes s → Bytes (drop n s)

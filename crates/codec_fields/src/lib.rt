@@ -4,7 +4,7 @@
 ghost use mathlib.Core.Path.{_≡_};
 ghost use Prim.Native.Nat.{_+_, _^_, _<_, _≤_};
 ghost use lib.ListN.{length, take, drop};
-ghost use Rattle.codec_fields.specs.Fields.{fieldOf, bitAt, upTo, putOf, bitNumber, zeroOr14, be, loadOf, overOf, storedOf};
+ghost use Rattle.codec_fields.specs.Fields.{fieldOf, bitAt, upTo, putOf, bitNumber, zeroOr14, be, hasRoom, loadOf, overOf, storedOf};
 
 // The `width` bits of `word` that stand above its lowest `at`.
 pub fn field(word: u64, at: u64, width: u64) -> u64
@@ -128,20 +128,30 @@ fn number(s: &[u8], at: usize, count: usize) -> u64
     word
 }
 
+// Whether `length` bytes have `count` from `at`, at most 8.
+fn has_room(length: usize, at: usize, count: usize) -> bool
+    ensures { λ r. ⌜ r ≡ hasRoom length at count ⌝ }
+{
+    if 8 < count {
+        return false;
+    }
+    if length < at {
+        return false;
+    }
+    if length - at < count {
+        return false;
+    }
+    true
+}
+
 // The number that `count` bytes of `s` from `at` are, the first the highest; 0 where `s` ends before, and for more than 8 bytes.
 pub fn load(s: &[u8], at: usize, count: usize) -> u64
     ensures { λ r. ⌜ r ≡ loadOf (now (s .entry)) at count ⌝ }
 {
-    if 8 < count {
-        return 0;
+    if has_room(s.len(), at, count) {
+        return number(s, at, count);
     }
-    if s.len() < at {
-        return 0;
-    }
-    if s.len() - at < count {
-        return 0;
-    }
-    number(s, at, count)
+    0
 }
 
 // Writes the lowest `count` bytes of `word` over those of `s` from `at`, the highest first.
@@ -161,14 +171,7 @@ fn write_over(s: &mut [u8], at: usize, count: usize, word: u64)
 pub fn store(s: &mut [u8], at: usize, count: usize, word: u64)
     ensures { λ _. ⌜ now (s .exit) ≡ storedOf (now (s .entry)) at count word ⌝ }
 {
-    if 8 < count {
-        return;
+    if has_room(s.len(), at, count) {
+        write_over(s, at, count, word);
     }
-    if s.len() < at {
-        return;
-    }
-    if s.len() - at < count {
-        return;
-    }
-    write_over(s, at, count, word);
 }

@@ -3,7 +3,8 @@ use Prim.Native.Nat.{ℕ, zero, suc, _+_, _*_, _<_}
 use mathlib.Core.Path.{_≡_}
 use mathlib.Core.List.{List, [], _++_}
 use mathlib.Core.Bool.{Bool, true, false}
-use Rattle.codec_fields.specs.Fields.{lowBytes}
+use lib.ListN.{length}
+use Rattle.codec_fields.specs.Fields.{lowBytes, Bytes}
 use Rattle.codec_telegrams.specs.Words.{telegramWord, TelegramFits}
 use Rattle.codec_decisions.specs.Decisions.{decisionWord, DecisionFits}
 use Rattle.codec_telegrams.specs.declared.Telegram.{Telegram}
@@ -56,3 +57,33 @@ pub record Says (s : List ℕ) (h : Head) (n : ℕ) (decisions : ℕ → Bool �
   pub head : headOf s ≡ h
   pub decided : (a : ℕ) (high : Bool) → a < n → decisionAt s n a high ≡ decisions a high
   pub heard : (j : ℕ) → j < h .telegrams → telegramAt s n j ≡ telegrams j
+
+-- writing and reading undo each other
+pub record RoundTrip : Type 0 where
+  -- bytes of the right length, with a whole record written over them by the calls, are that record
+  pub written :
+      (s : List ℕ) (h : Head) (n : ℕ) (decisions : ℕ → Bool → Decision) (telegrams : ℕ → Telegram)
+      → length s ≡ 8 + 6 * n + 4 * h .telegrams
+      → recordStored s h n decisions telegrams ≡ recordBytes h n decisions telegrams
+  -- a record whose numbers fit is accepted and says what it is made of
+  pub says :
+      (h : Head) (n : ℕ) (decisions : ℕ → Bool → Decision) (telegrams : ℕ → Telegram)
+      → RecordFits h n decisions telegrams
+      → Says (recordBytes h n decisions telegrams) h n decisions telegrams
+  -- an accepted record is the record of what it says, and the numbers that it says fit
+  pub is : (s : List ℕ) (n : ℕ) → Bytes s → recordRefusal s n ≡ 0 → s ≡ recordBytes (headOf s) n (decisionAt s n) (telegramAt s n)
+  pub fits : (s : List ℕ) (n : ℕ) → recordRefusal s n ≡ 0 → RecordFits (headOf s) n (decisionAt s n) (telegramAt s n)
+  -- what is written reads back, over any bytes of the right length
+  pub reads-back :
+      (s : List ℕ) (h : Head) (n : ℕ) (decisions : ℕ → Bool → Decision) (telegrams : ℕ → Telegram)
+      → RecordFits h n decisions telegrams
+      → length s ≡ 8 + 6 * n + 4 * h .telegrams
+      → Says (recordStored s h n decisions telegrams) h n decisions telegrams
+  -- what is read is written back as it was, over any bytes of its length
+  pub writes-back :
+      (s : List ℕ) (n : ℕ)
+      → Bytes s
+      → recordRefusal s n ≡ 0
+      → (over : List ℕ)
+      → length over ≡ length s
+      → recordStored over (headOf s) n (decisionAt s n) (telegramAt s n) ≡ s

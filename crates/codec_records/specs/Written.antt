@@ -23,8 +23,8 @@ use Rattle.codec_telegrams.specs.declared.Telegram.{Telegram}
 use Rattle.codec_decisions.specs.declared.Decision.{Decision}
 use Rattle.codec_records.specs.declared.Head.{Head}
 use Rattle.codec_records.specs.Records.{headWidths, headOf, headValues, headWord, HeadFits, countOf, decisionWordAt, telegramWordAt, decisionAt, telegramAt, entryRefusal, wordsRefusal, recordRefusal, headStored, decisionStored, telegramStored}
-use Rattle.codec_records.specs.Laws.{none-first, good, good-decision, good-telegram}
-use Rattle.codec_records.specs.Whole.{each, applicationBytes, telegramBytes, recordBytes, decisionsStored, telegramsStored, recordStored, RecordFits, Says}
+use Rattle.codec_records.specs.Laws.{none-first, clock-below, pending-below, good, good-decision, good-telegram}
+use Rattle.codec_records.specs.Whole.{each, applicationBytes, telegramBytes, recordBytes, decisionsStored, telegramsStored, recordStored, RecordFits, Says, RoundTrip}
 
 -- parts of c bytes each, one after the other
 each-length : (part : ℕ → List ℕ) (c k : ℕ) → ((i : ℕ) → length (part i) ≡ c) → length (each part k) ≡ c * k
@@ -89,7 +89,7 @@ telegrams-next p s n ts (suc j) q room =
     ∙ ap (λ (x : List ℕ). x ++ drop (8 + 6 * n + 4 * suc j) s) (append-assoc p (each f j) (f j))
 
 -- bytes of the right length, with a whole record written over them by the calls, are that record
-pub record-written :
+record-written :
     (s : List ℕ) (h : Head) (n : ℕ) (ds : ℕ → Bool → Decision) (ts : ℕ → Telegram)
     → length s ≡ 8 + 6 * n + 4 * h .telegrams
     → recordStored s h n ds ts ≡ recordBytes h n ds ts
@@ -203,7 +203,7 @@ halves i =
 
 module _ (h : Head) (n : ℕ) (ds : ℕ → Bool → Decision) (ts : ℕ → Telegram) where
   -- a record has so many bytes
-  pub record-length : length (recordBytes h n ds ts) ≡ 8 + 6 * n + 4 * h .telegrams
+  record-length : length (recordBytes h n ds ts) ≡ 8 + 6 * n + 4 * h .telegrams
   unfolding recordBytes
   record-length =
       let a = each (applicationBytes ds) n in
@@ -274,7 +274,7 @@ module _ (h : Head) (n : ℕ) (ds : ℕ → Bool → Decision) (ts : ℕ → Tel
         rw (t, telegram-loads (i - 2 * n) m) (telegram-read (ts (i - 2 * n)) (fits .heard (i - 2 * n) m) .1))
 
     -- a record whose numbers fit is accepted and says what it is made of
-    pub record-says : Says (recordBytes h n ds ts) h n ds ts
+    record-says : Says (recordBytes h n ds ts) h n ds ts
     unfolding recordRefusal decisionAt telegramAt
     record-says =
         let s = recordBytes h n ds ts in
@@ -289,8 +289,18 @@ module _ (h : Head) (n : ℕ) (ds : ℕ → Bool → Decision) (ts : ℕ → Tel
         }
 
     -- bytes of the right length, written by the calls, are accepted and read back as what was written
-    pub written-reads-back : (s : List ℕ) → length s ≡ 8 + 6 * n + 4 * h .telegrams → Says (recordStored s h n ds ts) h n ds ts
+    written-reads-back : (s : List ℕ) → length s ≡ 8 + 6 * n + 4 * h .telegrams → Says (recordStored s h n ds ts) h n ds ts
     written-reads-back s long = subst (λ (l : List ℕ). Says l h n ds ts) (sym (record-written s h n ds ts long)) record-says
+
+-- the numbers that an accepted record says fit
+record-fits : (s : List ℕ) (n : ℕ) → recordRefusal s n ≡ 0 → RecordFits (headOf s) n (decisionAt s n) (telegramAt s n)
+record-fits s n ok =
+    let g = good s n ok in
+    record {
+      head = (clock-below s, g .telegrams, pending-below s);
+      decided = λ a high l. good-decision g a high l .1;
+      heard = λ j l. good-telegram g j l .1;
+    }
 
 module _ (s : List ℕ) (n : ℕ) (b : Bytes s) (ok : recordRefusal s n ≡ 0) where
   -- its head written again changes nothing
@@ -328,7 +338,7 @@ module _ (s : List ℕ) (n : ℕ) (b : Bytes s) (ok : recordRefusal s n ≡ 0) w
   telegrams-stay (suc j) l = rw (telegrams-stay j (omega arith)) (telegram-stays j (omega arith))
 
   -- an accepted record is the record of what it says
-  pub record-is : s ≡ recordBytes (headOf s) n (decisionAt s n) (telegramAt s n)
+  record-is : s ≡ recordBytes (headOf s) n (decisionAt s n) (telegramAt s n)
   unfolding recordStored
   record-is =
       let ds = decisionAt s n in
@@ -341,5 +351,17 @@ module _ (s : List ℕ) (n : ℕ) (b : Bytes s) (ok : recordRefusal s n ≡ 0) w
       ∙ record-written s (headOf s) n ds ts (good s n ok .long)
 
   -- read and written by the calls over any bytes of its length, it is the same bytes again
-  pub read-writes-back : (over : List ℕ) → length over ≡ length s → recordStored over (headOf s) n (decisionAt s n) (telegramAt s n) ≡ s
+  read-writes-back : (over : List ℕ) → length over ≡ length s → recordStored over (headOf s) n (decisionAt s n) (telegramAt s n) ≡ s
   read-writes-back over e = record-written over (headOf s) n (decisionAt s n) (telegramAt s n) (e ∙ good s n ok .long) ∙ sym record-is
+
+-- writing and reading undo each other
+pub round-trip : RoundTrip
+round-trip =
+    record {
+      written = record-written;
+      says = record-says;
+      is = record-is;
+      fits = record-fits;
+      reads-back = λ s h n ds ts fits long. written-reads-back h n ds ts fits s long;
+      writes-back = read-writes-back;
+    }

@@ -10,7 +10,7 @@ use lib.ListN.{getD, drop}
 use lib.Dec.{eqb, leb, lit<, lit≤}
 use Rattle.codec_fields.specs.Fields.{fieldOf, bitNumber, zerosOr14, unpack, Within}
 use Rattle.codec_fields.specs.Widths.{field-below}
-use Rattle.codec_fields.specs.Laws.{unpack-put, put-unpack, put-below, never, zero-fields, bit-below, bit-read, bit-written}
+use Rattle.codec_fields.specs.Laws.{unpack-put, put-unpack, put-below, never, same-at, zero-fields, bit-below, bit-read, bit-written}
 use Rattle.codec_telegrams.specs.declared.ResponseState.{ResponseState}
 use Rattle.codec_telegrams.specs.declared.ResponseState.the-variants.{Slave, MasterNotReady, MasterWithoutToken, MasterInRing}
 use Rattle.codec_telegrams.specs.declared.Telegram.{Telegram}
@@ -92,28 +92,28 @@ response-word w d s t n h e =
     )
 
 -- the values of a telegram whose numbers fit are within their widths
-values-within : (t : Telegram) → TelegramFits t → Within telegramWidths (telegramValues t)
-values-within (Token d s) f = (lit< tt, (f .0, (f .1, (lit< tt, (lit< tt, (lit< tt, (lit< tt, tt)))))))
-values-within ShortConfirmation f = (lit< tt, (lit< tt, (lit< tt, (lit< tt, (lit< tt, (lit< tt, (lit< tt, tt)))))))
-values-within (Request d s q) f = (lit< tt, (f .0, (f .1, (bit-below q, (lit< tt, (lit< tt, (lit< tt, tt)))))))
-values-within (Response d s t n) f = (lit< tt, (f .0, (f .1, (lit< tt, (state-below t, (f .2, (lit< tt, tt)))))))
+telegram-values-within : (t : Telegram) → TelegramFits t → Within telegramWidths (telegramValues t)
+telegram-values-within (Token d s) f = (lit< tt, (f .0, (f .1, (lit< tt, (lit< tt, (lit< tt, (lit< tt, tt)))))))
+telegram-values-within ShortConfirmation f = (lit< tt, (lit< tt, (lit< tt, (lit< tt, (lit< tt, (lit< tt, (lit< tt, tt)))))))
+telegram-values-within (Request d s q) f = (lit< tt, (f .0, (f .1, (bit-below q, (lit< tt, (lit< tt, (lit< tt, tt)))))))
+telegram-values-within (Response d s t n) f = (lit< tt, (f .0, (f .1, (lit< tt, (state-below t, (f .2, (lit< tt, tt)))))))
 
 -- its word has 32 bits
 pub telegram-below : (t : Telegram) → TelegramFits t → telegramWord t < 2 ^ 32
 unfolding telegramWord
-telegram-below t f = put-below telegramWidths (lit≤ tt) (telegramValues t) (values-within t f)
+telegram-below t f = put-below telegramWidths (lit≤ tt) (telegramValues t) (telegram-values-within t f)
 
 -- and the values are the word's fields
-word-fields : (t : Telegram) → TelegramFits t → unpack telegramWidths (telegramWord t) ≡ telegramValues t
+telegram-word-fields : (t : Telegram) → TelegramFits t → unpack telegramWidths (telegramWord t) ≡ telegramValues t
 unfolding telegramWord
-word-fields t f = unpack-put telegramWidths (lit≤ tt) (telegramValues t) (values-within t f)
+telegram-word-fields t f = unpack-put telegramWidths (lit≤ tt) (telegramValues t) (telegram-values-within t f)
 
 -- a telegram whose numbers fit is what its word says, and the word is accepted
 pub telegram-read : (t : Telegram) → TelegramFits t → (telegramOf (telegramWord t) ≡ t) × (telegramRefusal (telegramWord t) ≡ 0)
-telegram-read (Token d s) f = token-word _ d s (telegram-below (Token d s) f) (word-fields (Token d s) f)
-telegram-read ShortConfirmation f = short-word _ (telegram-below ShortConfirmation f) (word-fields ShortConfirmation f)
-telegram-read (Request d s q) f = request-word _ d s q (telegram-below (Request d s q) f) (word-fields (Request d s q) f)
-telegram-read (Response d s t n) f = response-word _ d s t n (telegram-below (Response d s t n) f) (word-fields (Response d s t n) f)
+telegram-read (Token d s) f = token-word _ d s (telegram-below (Token d s) f) (telegram-word-fields (Token d s) f)
+telegram-read ShortConfirmation f = short-word _ (telegram-below ShortConfirmation f) (telegram-word-fields ShortConfirmation f)
+telegram-read (Request d s q) f = request-word _ d s q (telegram-below (Request d s q) f) (telegram-word-fields (Request d s q) f)
+telegram-read (Response d s t n) f = response-word _ d s t n (telegram-below (Response d s t n) f) (telegram-word-fields (Response d s t n) f)
 
 -- every word says a telegram whose numbers fit
 pub telegram-fits : (w : ℕ) → TelegramFits (telegramOf w)
@@ -134,22 +134,19 @@ telegram-written w h =
     cases (eqb (fieldOf w 30 2) 0)
     (λ a.
     let zeros = zero-fields (unpack (1 ∷ 2 ∷ 4 ∷ 9 ∷ []) w) (rw (l, a) at h) in
-    rw a (rw (eqb-true (fieldOf w 30 2) 0 a, nth 0 zeros, nth 1 zeros, nth 2 zeros, nth 3 zeros) at whole))
+    rw a (rw (eqb-true (fieldOf w 30 2) 0 a, same-at 0 zeros, same-at 1 zeros, same-at 2 zeros, same-at 3 zeros) at whole))
     (λ a.
     cases (eqb (fieldOf w 30 2) 1)
     (λ b.
     let zeros = zero-fields (unpack (7 ∷ 7 ∷ 1 ∷ 2 ∷ 4 ∷ 9 ∷ []) w) (rw (l, a, b) at h) in
-    rw (a, b) (rw (eqb-true (fieldOf w 30 2) 1 b, nth 0 zeros, nth 1 zeros, nth 2 zeros, nth 3 zeros, nth 4 zeros, nth 5 zeros) at whole))
+    rw (a, b) (rw (eqb-true (fieldOf w 30 2) 1 b, same-at 0 zeros, same-at 1 zeros, same-at 2 zeros, same-at 3 zeros, same-at 4 zeros, same-at 5 zeros) at whole))
     (λ b.
     cases (eqb (fieldOf w 30 2) 2)
     (λ k.
     let zeros = zero-fields (unpack (2 ∷ 4 ∷ 9 ∷ []) w) (rw (l, a, b, k) at h) in
-    rw (a, b, k, bit-written w 15) (rw (eqb-true (fieldOf w 30 2) 2 k, nth 0 zeros, nth 1 zeros, nth 2 zeros) at whole))
+    rw (a, b, k, bit-written w 15) (rw (eqb-true (fieldOf w 30 2) 2 k, same-at 0 zeros, same-at 1 zeros, same-at 2 zeros) at whole))
     (λ k.
     let zeros = zero-fields (fieldOf w 15 1 ∷ fieldOf w 0 9 ∷ []) (rw (l, a, b, k) at h) in
     let kind : fieldOf w 30 2 ≡ 3 =
     omega (arith, field-below w 30 2, eqb-false (fieldOf w 30 2) 0 a, eqb-false (fieldOf w 30 2) 1 b, eqb-false (fieldOf w 30 2) 2 k) in
-    rw (a, b, k, state-written (fieldOf w 13 2) (field-below w 13 2)) (rw (kind, nth 0 zeros, nth 1 zeros) at whole)))))
-  where
-    nth : (i : ℕ) {vs ws : List ℕ} → vs ≡ ws → getD vs i 0 ≡ getD ws i 0
-    nth i e = ap (λ (l : List ℕ). getD l i 0) e
+    rw (a, b, k, state-written (fieldOf w 13 2) (field-below w 13 2)) (rw (kind, same-at 0 zeros, same-at 1 zeros) at whole)))))

@@ -124,7 +124,14 @@ pub fn telegram_refusal(word: u64) -> u8
 }
 
 // The word of a telegram's fields.
-fn put_fields(kind: u64, destination: u8, source: u8, request: bool, state: u8, status: u8) -> u64
+fn telegram_word(
+    kind: u64,
+    destination: u8,
+    source: u8,
+    request: bool,
+    state: u8,
+    status: u8,
+) -> u64
     ensures { λ r. ⌜ r ≡ putAll 0 telegramWidths (kind ∷ destination ∷ source ∷ bitNumber request ∷ state ∷ status ∷ 0 ∷ []) ⌝ }
 {
     let addresses = put_byte(put_byte(put(0, 2, kind), 7, destination), 7, source);
@@ -143,19 +150,19 @@ pub fn write_telegram(telegram: Telegram) -> u64
         Telegram::Token {
             destination,
             source,
-        } => put_fields(0, destination, source, false, 0, 0),
-        Telegram::ShortConfirmation => put_fields(1, 0, 0, false, 0, 0),
+        } => telegram_word(0, destination, source, false, 0, 0),
+        Telegram::ShortConfirmation => telegram_word(1, 0, 0, false, 0, 0),
         Telegram::Request {
             destination,
             source,
             status_request,
-        } => put_fields(2, destination, source, status_request, 0, 0),
+        } => telegram_word(2, destination, source, status_request, 0, 0),
         Telegram::Response {
             destination,
             source,
             state,
             status,
-        } => put_fields(
+        } => telegram_word(
             3,
             destination,
             source,

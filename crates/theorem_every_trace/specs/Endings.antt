@@ -1,13 +1,13 @@
 -- A header's refusal is a number of document 01's table, at most 17. Assumes nothing.
 use Prim.Native.Nat.{ℕ, _+_, _^_, _≤_}
 use mathlib.Core.Bool.{_&&_}
-use mathlib.Core.List.{List, []}
+use mathlib.Core.List.{List, [], _∷_}
 use lib.ListN.{length}
 use lib.Dec.{leb, eqb, lit≤}
 use Rattle.bit_times.specs.declared.Coded.{Coded}
 use Rattle.bit_times.specs.declared.Coded.the-variants.{Rate, Unknown}
 use Rattle.bit_times.specs.Times.{baudOf}
-use Rattle.codec_fields.specs.Fields.{zeroOr14}
+use Rattle.codec_fields.specs.Fields.{zeroOr14, zerosOr14}
 use Rattle.settings.specs.declared.Parameters.{Parameters}
 use Rattle.settings.specs.declared.Created.{Created}
 use Rattle.settings.specs.declared.Created.the-variants as created
@@ -49,34 +49,45 @@ unfolding applicationsRefusal
 applications-small n = outside-small 1 n 8 11 (lit≤ tt)
 
 zero-small : (n : ℕ) → zeroOr14 n ≤ 17
-unfolding zeroOr14
+unfolding zerosOr14
 zero-small n = either Number (eqb n 0) 0 14 (lit≤ tt) (lit≤ tt)
 
 -- so are the settings' refusals
 early-small : (f : PlainSettings) → earlyRefusal f ≤ 17
 unfolding earlyRefusal addressRefusal slotBitsRefusal hsaRefusal rotationRefusal gapWaitRefusal retryRefusal minTsdrRefusal
 early-small f =
-    first-small 17 _ _ (outside-small 0 (f .address) 125 1 (lit≤ tt))
-    (first-small 17 _ _ (baud-small (baudOf (f .«baud_code»)))
-    (first-small 17 _ _ (below-small (leastOf (baudOf (f .«baud_code»))) (f .«slot_bits») 2 (lit≤ tt))
-    (first-small 17 _ _ (outside-small (f .address + 1) (f .«highest_station_address») 126 3 (lit≤ tt))
-    (first-small 17 _ _ (outside-small 256 (f .«token_rotation_bits») 16777960 4 (lit≤ tt))
-    (first-small 17 _ _ (outside-small 1 (f .«gap_wait_rotations») 100 5 (lit≤ tt))
-    (first-small 17 _ _ (outside-small 1 (f .«max_retry_limit») 15 6 (lit≤ tt))
-    (first-small 17 _ [] (below-small 11 (f .«min_tsdr_bits») 7 (lit≤ tt)) (lit≤ tt))))))))
+    let seven : List ℕ = minTsdrRefusal (f .«min_tsdr_bits») ∷ [] in
+    let six : List ℕ = retryRefusal (f .«max_retry_limit») ∷ seven in
+    let five : List ℕ = gapWaitRefusal (f .«gap_wait_rotations») ∷ six in
+    let four : List ℕ = rotationRefusal (f .«token_rotation_bits») ∷ five in
+    let three : List ℕ = hsaRefusal (f .address) (f .«highest_station_address») ∷ four in
+    let two : List ℕ = slotBitsRefusal (leastOf (baudOf (f .«baud_code»))) (f .«slot_bits») ∷ three in
+    let ten : List ℕ = baudRefusal (baudOf (f .«baud_code»)) ∷ two in
+    first-small 17 (addressRefusal (f .address)) ten (outside-small 0 (f .address) 125 1 (lit≤ tt))
+    (first-small 17 (baudRefusal (baudOf (f .«baud_code»))) two (baud-small (baudOf (f .«baud_code»)))
+    (first-small 17 (slotBitsRefusal (leastOf (baudOf (f .«baud_code»))) (f .«slot_bits»)) three (below-small (leastOf (baudOf (f .«baud_code»))) (f .«slot_bits») 2 (lit≤ tt))
+    (first-small 17 (hsaRefusal (f .address) (f .«highest_station_address»)) four (outside-small (f .address + 1) (f .«highest_station_address») 126 3 (lit≤ tt))
+    (first-small 17 (rotationRefusal (f .«token_rotation_bits»)) five (outside-small 256 (f .«token_rotation_bits») 16777960 4 (lit≤ tt))
+    (first-small 17 (gapWaitRefusal (f .«gap_wait_rotations»)) six (outside-small 1 (f .«gap_wait_rotations») 100 5 (lit≤ tt))
+    (first-small 17 (retryRefusal (f .«max_retry_limit»)) seven (outside-small 1 (f .«max_retry_limit») 15 6 (lit≤ tt))
+    (first-small 17 (minTsdrRefusal (f .«min_tsdr_bits»)) [] (below-small 11 (f .«min_tsdr_bits») 7 (lit≤ tt)) (lit≤ tt))))))))
 
 settings-small : (f : PlainSettings) → firstRefusal f ≤ 17
 unfolding firstRefusal
-settings-small f = first-small 17 (earlyRefusal f) _ (early-small f) (first-small 17 _ [] (factors-small (f .«factor_1») (f .«factor_2»)) (lit≤ tt))
+settings-small f =
+    let factors : ℕ = factorsRefusal (f .«factor_1») (f .«factor_2») in
+    first-small 17 (earlyRefusal f) (factors ∷ []) (early-small f) (first-small 17 factors [] (factors-small (f .«factor_1») (f .«factor_2»)) (lit≤ tt))
 
 -- and a header's
 header-small : (h : Header) → headerRefusal h ≤ 17
 unfolding headerRefusal
 header-small h =
-    first-small 17 (earlyRefusal (h .settings)) _ (early-small (h .settings))
-    (first-small 17 (applicationsRefusal (h .applications)) _ (applications-small (h .applications))
-    (first-small 17 _ _ (factors-small (h .settings .«factor_1») (h .settings .«factor_2»))
-    (first-small 17 _ [] (zero-small (h .«zero_bits»)) (lit≤ tt))))
+    let zero-bits : List ℕ = zeroOr14 (h .«zero_bits») ∷ [] in
+    let factors : ℕ = factorsRefusal (h .settings .«factor_1») (h .settings .«factor_2») in
+    first-small 17 (earlyRefusal (h .settings)) (applicationsRefusal (h .applications) ∷ factors ∷ zero-bits) (early-small (h .settings))
+    (first-small 17 (applicationsRefusal (h .applications)) (factors ∷ zero-bits) (applications-small (h .applications))
+    (first-small 17 factors zero-bits (factors-small (h .settings .«factor_1») (h .settings .«factor_2»))
+    (first-small 17 (zeroOr14 (h .«zero_bits»)) [] (zero-small (h .«zero_bits»)) (lit≤ tt))))
 
 -- a start that is refused is refused with at most 17
 abbrev pub Small : Started → Type 0

@@ -12,7 +12,7 @@ use Rattle.settings_build.specs.Build.{earlyRefusal, firstRefusal, pairOf, buil
 use Rattle.ring_addresses.specs.Set.{walk, nearest, betweenOf, addTo, takeOut, keeps, sameSet}
 use Rattle.ring_addresses.specs.Words.{bitOf, wordOf, hasIn}
 use Rattle.ring.specs.Ring.{has, make, claimOf, others, nextOf, prevOf, freshOf, addOf, removeOf, roundOf, lapsOf, passed, witnessOf, candidateOf, polls, gapOf}
-use Rattle.codec_fields.specs.Fields.{fieldOf, putOf, zeroOr14, zerosOr14, beFrom, loadOf, overOf, storedOf}
+use Rattle.codec_fields.specs.Fields.{fieldOf, putOf, zerosOr14, beFrom, loadOf, overOf, storedOf}
 use Rattle.codec_telegrams.specs.Words.{responseStateOf, telegramOf, telegramRefusal, telegramWord}
 use Rattle.codec_decisions.specs.Decisions.{decisionOf, lengthRefusal, decisionRefusal, decisionWord}
 use Rattle.codec_records.specs.Records.{headOf, decisionAt, telegramAt, entryRefusal, wordsRefusal, recordRefusal}
@@ -58,7 +58,7 @@ left-by trace fresh left start after = ap (λ (x : Started). leftOn x (trace .en
 
 -- the three stations that traces leave
 stations-left : (leftBy example9 ≡ started.Accepted aloneStation) × (leftBy example10 ≡ started.Accepted neighbourStation) × (leftBy example11 ≡ started.Accepted collidedOnce)
-unfolding baudOf rounded timeOf refuseBelow refuseOutside addressRefusal baudRefusal slotBitsRefusal hsaRefusal rotationRefusal gapWaitRefusal retryRefusal minTsdrRefusal watchdogRefusal factorsRefusal applicationsRefusal earlyRefusal firstRefusal pairOf builtAt buildOf plainOf slotTimeOf tokenLostOf rotationTimeOf has make claimOf others nextOf freshOf passed witnessOf polls gapOf walk nearest betweenOf addTo takeOut keeps sameSet roundOf lapsOf candidateOf bitOf wordOf hasIn fieldOf beFrom loadOf responseStateOf telegramOf zeroOr14 zerosOr14 telegramRefusal decisionOf lengthRefusal decisionRefusal headOf decisionAt telegramAt entryRefusal wordsRefusal recordRefusal withState withActivity withGap withPending withTokenTimes withNextApplication withOnline freshCore freshStation newStation withTokenTime toListenToken toActiveIdle toUseToken toClaimToken toAwaitDataResponse toPassToken toCheckTokenPass toAwaitStatusResponse knownAt elapsedOf markedAt busyOf ongoingOf pauseOf sentAt busActivityOf rxOf slotExpiredOf tokenLostWaitOf doneOf transmitOf claimNext claimAfter claimTokenOf declinesOn declinesAt usePassOf appTransmitOf firstOr turnOf askedFrom askedOf holdLess holdEndOf holdsOf useAppsAfter useAppsOf useTokenAfter useTokenTimed useTokenOf validResponse receivedOf awaitDataOf heardOf lostTokenOf collided listenHeard listenTelegramOn listenTelegram activeCollided tokenWitnessed tokenHeard activeHeard handleTelegramOn handleTelegram heardTelegram heardAll receivedAll consumedAll listenTokenOn listenTokenAfter listenTokenOf activeIdleOn activeIdleAfter activeIdleOf gapAdvanced passSent passSend passPollOn passPoll passAfter passTokenOf statusTimeout awaitStatusAfter awaitStatusOf connectedOn connectedOf dispatchOn dispatchOf pollOnline pollInner polledOf acceptedAfter acceptedPoll pollOf onlineOf headerAt headerOf headerRefusal startedAfter startedOf startOf entryOf
+unfolding baudOf rounded timeOf refuseBelow refuseOutside addressRefusal baudRefusal slotBitsRefusal hsaRefusal rotationRefusal gapWaitRefusal retryRefusal minTsdrRefusal watchdogRefusal factorsRefusal applicationsRefusal earlyRefusal firstRefusal pairOf builtAt buildOf plainOf slotTimeOf tokenLostOf rotationTimeOf has make claimOf others nextOf freshOf passed witnessOf polls gapOf walk nearest betweenOf addTo takeOut keeps sameSet roundOf lapsOf candidateOf bitOf wordOf hasIn fieldOf beFrom loadOf responseStateOf telegramOf zerosOr14 telegramRefusal decisionOf lengthRefusal decisionRefusal headOf decisionAt telegramAt entryRefusal wordsRefusal recordRefusal withState withActivity withGap withPending withTokenTimes withNextApplication withOnline freshCore freshStation newStation withTokenTime toListenToken toActiveIdle toUseToken toClaimToken toAwaitDataResponse toPassToken toCheckTokenPass toAwaitStatusResponse knownAt elapsedOf markedAt busyOf ongoingOf pauseOf sentAt busActivityOf rxOf slotExpiredOf tokenLostWaitOf doneOf transmitOf claimNext claimAfter claimTokenOf declinesOn declinesAt usePassOf appTransmitOf firstOr turnOf askedFrom askedOf holdLess holdEndOf holdsOf useAppsAfter useAppsOf useTokenAfter useTokenTimed useTokenOf validResponse receivedOf awaitDataOf heardOf lostTokenOf collided listenHeard listenTelegramOn listenTelegram activeCollided tokenWitnessed tokenHeard activeHeard handleTelegramOn handleTelegram heardTelegram heardAll receivedAll consumedAll listenTokenOn listenTokenAfter listenTokenOf activeIdleOn activeIdleAfter activeIdleOf gapAdvanced passSent passSend passPollOn passPoll passAfter passTokenOf statusTimeout awaitStatusAfter awaitStatusOf connectedOn connectedOf dispatchOn dispatchOf pollOnline pollInner polledOf acceptedAfter acceptedPoll pollOf onlineOf headerAt headerOf headerRefusal startedAfter startedOf startOf entryOf
 stations-left = (
   let fresh = freshStation (example 10) 1 in
       let after = afterEntries fresh (example9 .entries) in
@@ -73,5 +73,5 @@ stations-left = (
 
 -- every row of the table holds
 pub examples-1-to-12 : AllHold table
-unfolding baudOf rounded timeOf refuseBelow refuseOutside trial factorsOf newAt unless slotBitsOf hsaOf rotationOf gapWaitOf retryOf minTsdrOf withWatchdog watchdogAt watchdogOf slotCheckOf addressRefusal baudRefusal slotBitsRefusal hsaRefusal rotationRefusal gapWaitRefusal retryRefusal minTsdrRefusal watchdogRefusal factorsRefusal applicationsRefusal earlyRefusal firstRefusal pairOf builtAt buildOf plainOf slotTimeOf minTsdrTimeOf tokenLostOf rotationTimeOf watchdogTimeOf newOf has make claimOf others nextOf prevOf freshOf addOf removeOf passed witnessOf polls gapOf walk nearest betweenOf addTo takeOut keeps sameSet roundOf lapsOf candidateOf bitOf wordOf hasIn fieldOf putOf beFrom loadOf overOf storedOf responseStateOf telegramOf zeroOr14 zerosOr14 telegramRefusal telegramWord decisionOf lengthRefusal decisionRefusal decisionWord headOf decisionAt telegramAt entryRefusal wordsRefusal recordRefusal outcomeOf sentFields sentFrom noticeFields noticeFrom refusedAnswer answerWord fullOf answerOf refusalKnown sentMeant meant unpackOf withState withActivity withGap withPending withTokenTimes withNextApplication withOnline freshCore freshStation newStation withTokenTime toListenToken toActiveIdle toUseToken toClaimToken toAwaitDataResponse toPassToken toCheckTokenPass toAwaitStatusResponse knownAt elapsedOf markedAt busyOf ongoingOf pauseOf sentAt busActivityOf rxOf slotExpiredOf tokenLostWaitOf doneOf transmitOf claimNext claimAfter claimTokenOf declinesOn declinesAt usePassOf appTransmitOf firstOr turnOf askedFrom askedOf holdLess holdEndOf holdsOf useAppsAfter useAppsOf useTokenAfter useTokenTimed useTokenOf validResponse receivedOf withNotice timeoutOf awaitDataAfter awaitDataOf heardOf lostTokenOf responseState listenAnswered listenResponseAfter listenResponse collided lastRequestToUs listened listenHeard listenTelegramOn listenTelegram activeCollided remembers acceptedOf tokenToUs tokenWitnessed tokenHeard activeRequested activeHeard handleTelegramOn handleTelegram heardTelegram heardAll receivedAll consumedAll listenTokenOn listenTokenAfter listenTokenOf activeResponseAfter activeResponse activeIdleOn activeIdleAfter activeIdleOf gapAdvanced passSent passSend passPollOn passPoll passAfter passTokenOf statusRingOn statusRing statusAnswered statusUnexpected statusReceived statusTimeout awaitStatusAfter awaitStatusOf resendOf checkReceived checkAfter checkTokenPassOf connectedOn connectedOf dispatchOn dispatchOf pollOnline pollInner stepAnswer polledOf refusedPoll acceptedAfter acceptedPoll pollOf onlineOf offlineOf passiveOf headerAt headerOf headerRefusal startedAfter startedOf startOf recordLength entryOf runFrom ranOf replayOn replayOf numberOf written bufferOf
+unfolding baudOf rounded timeOf refuseBelow refuseOutside trial factorsOf newAt unless slotBitsOf hsaOf rotationOf gapWaitOf retryOf minTsdrOf withWatchdog watchdogAt watchdogOf slotCheckOf addressRefusal baudRefusal slotBitsRefusal hsaRefusal rotationRefusal gapWaitRefusal retryRefusal minTsdrRefusal watchdogRefusal factorsRefusal applicationsRefusal earlyRefusal firstRefusal pairOf builtAt buildOf plainOf slotTimeOf minTsdrTimeOf tokenLostOf rotationTimeOf watchdogTimeOf newOf has make claimOf others nextOf prevOf freshOf addOf removeOf passed witnessOf polls gapOf walk nearest betweenOf addTo takeOut keeps sameSet roundOf lapsOf candidateOf bitOf wordOf hasIn fieldOf putOf beFrom loadOf overOf storedOf responseStateOf telegramOf zerosOr14 telegramRefusal telegramWord decisionOf lengthRefusal decisionRefusal decisionWord headOf decisionAt telegramAt entryRefusal wordsRefusal recordRefusal outcomeOf sentFields sentFrom noticeFields noticeFrom refusedAnswer answerWord fullOf answerOf refusalKnown sentMeant meant unpackOf withState withActivity withGap withPending withTokenTimes withNextApplication withOnline freshCore freshStation newStation withTokenTime toListenToken toActiveIdle toUseToken toClaimToken toAwaitDataResponse toPassToken toCheckTokenPass toAwaitStatusResponse knownAt elapsedOf markedAt busyOf ongoingOf pauseOf sentAt busActivityOf rxOf slotExpiredOf tokenLostWaitOf doneOf transmitOf claimNext claimAfter claimTokenOf declinesOn declinesAt usePassOf appTransmitOf firstOr turnOf askedFrom askedOf holdLess holdEndOf holdsOf useAppsAfter useAppsOf useTokenAfter useTokenTimed useTokenOf validResponse receivedOf withNotice timeoutOf awaitDataAfter awaitDataOf heardOf lostTokenOf responseState listenAnswered listenResponseAfter listenResponse collided lastRequestToUs listened listenHeard listenTelegramOn listenTelegram activeCollided remembers acceptedOf tokenToUs tokenWitnessed tokenHeard activeRequested activeHeard handleTelegramOn handleTelegram heardTelegram heardAll receivedAll consumedAll listenTokenOn listenTokenAfter listenTokenOf activeResponseAfter activeResponse activeIdleOn activeIdleAfter activeIdleOf gapAdvanced passSent passSend passPollOn passPoll passAfter passTokenOf statusRingOn statusRing statusAnswered statusUnexpected statusReceived statusTimeout awaitStatusAfter awaitStatusOf resendOf checkReceived checkAfter checkTokenPassOf connectedOn connectedOf dispatchOn dispatchOf pollOnline pollInner stepAnswer polledOf refusedPoll acceptedAfter acceptedPoll pollOf onlineOf offlineOf passiveOf headerAt headerOf headerRefusal startedAfter startedOf startOf recordLength entryOf runFrom ranOf replayOn replayOf numberOf written bufferOf
 examples-1-to-12 = (refl, (refl, (refl, (refl, (refl, (refl, (refl, (refl, (refl, (refl, (refl, ((refl, refl), ((refl, refl), ((refl, refl), ((stations-left .0, refl), ((stations-left .1, refl), ((stations-left .2, refl), ((stations-left .2, refl), ((refl, refl, refl), tt)))))))))))))))))))

@@ -5,10 +5,10 @@ use mathlib.Core.Path.{_≡_, refl, sym, ap, _∙_}
 use mathlib.Core.List.{List, [], _∷_, _++_, append-assoc}
 use native.Mathlib.Omega.{arith}
 use native.Mathlib.Nat.{mod-lt}
-use borrow.Author.Tests.{le-ltb}
 use lib.ListN.{length, drop, length-append}
 use lib.Seq.{drop-at}
-use lib.Dec.{lit<}
+use lib.Dec.{lit<, lit≤}
+use Rattle.codec_fields.specs.Stores.{room-is}
 use Rattle.codec_fields.specs.Fields.{putOf, loadOf, bytesOf}
 use Rattle.codec_fields.specs.Laws.{be-bytes}
 use Rattle.codec_answers.specs.declared.Answer.{Answer}
@@ -84,7 +84,7 @@ word-below a = put-below-64 _ _ _
 pub word-here : (given : List Answer) (a : Answer) (more : List Answer) (old : List ℕ) → wordAt (written (given ++ (a ∷ more)) ++ old) (length given) ≡ answerWord a
 unfolding loadOf written
 word-here given a more old =
-    rw (shape, le-ltb _ _ long, drop-at (written given) (bytesOf (answerWord a) ++ (written more ++ old)) (8 * length given) (written-length given))
+    rw (shape, room-is _ _ 8 (lit≤ tt) long, drop-at (written given) (bytesOf (answerWord a) ++ (written more ++ old)) (8 * length given) (written-length given))
     (be-bytes (answerWord a) (word-below a))
   where
     shape : written (given ++ (a ∷ more)) ++ old ≡ written given ++ (bytesOf (answerWord a) ++ (written more ++ old))

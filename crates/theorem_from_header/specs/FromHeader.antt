@@ -12,6 +12,7 @@ use lib.Dec.{eqb, leb}
 use Rattle.settings.specs.declared.Parameters.{Parameters}
 use Rattle.settings.specs.declared.Created.{Created}
 use Rattle.settings.specs.declared.Created.the-variants as created
+use Rattle.settings.specs.Rules.{applicationsRefusal}
 use Rattle.settings_build.specs.Build.{firstRefusal, buildOf, plainOf}
 use Rattle.codec_records.specs.Records.{recordRefusal}
 use Rattle.station.specs.declared.PassTokenAttempt.the-variants.{First}
@@ -121,7 +122,7 @@ run-applications (c ∷ cs) s = run-applications cs (after s c) ∙ after-applic
 
 new-applications : (p : Parameters) (n : ℕ) (s : Station) → newStation p n ≡ started.Accepted s → s .applications ≡ n
 unfolding newStation freshStation
-new-applications p n s e = let same : freshStation p n ≡ s = taken (chosen (leb 1 n && leb n 8) _ 11 s e) in rw (← same)
+new-applications p n s e = let same : freshStation p n ≡ s = taken (chosen (eqb (applicationsRefusal n) 0) _ (applicationsRefusal n) s e) in rw (← same)
   where
     taken : started.Accepted (freshStation p n) ≡ started.Accepted s → freshStation p n ≡ s
     taken h = cc

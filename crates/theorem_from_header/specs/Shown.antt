@@ -7,7 +7,7 @@ use mathlib.Core.List.{List, [], _∷_, _++_, append-nil}
 use lib.ListN.{length, replicate}
 use lib.Dec.{lit<}
 use native.Mathlib.Omega.{arith}
-use Rattle.codec_fields.specs.Fields.{fieldOf, zeroOr14, zerosOr14, beFrom, loadOf}
+use Rattle.codec_fields.specs.Fields.{fieldOf, zerosOr14, beFrom, loadOf}
 use Rattle.bit_times.specs.declared.Baud.the-variants.{B500000}
 use Rattle.bit_times.specs.Times.{baudOf, rounded, timeOf}
 use Rattle.settings_watchdog.specs.declared.WatchdogFactors.the-variants as wf
@@ -88,7 +88,7 @@ settings =
     }
 
 starts : startOf trace ≡ started.Accepted (freshStation settings 1)
-unfolding fieldOf beFrom loadOf headers.headerAt headers.headerOf zeroOr14 headers.headerRefusal rules.refuseBelow rules.refuseOutside rules.addressRefusal rules.baudRefusal rules.slotBitsRefusal rules.hsaRefusal rules.rotationRefusal rules.gapWaitRefusal rules.retryRefusal rules.minTsdrRefusal rules.factorsRefusal rules.applicationsRefusal earlyRefusal firstRefusal pairOf builtAt buildOf baudOf startedAfter startedOf startOf newStation
+unfolding fieldOf beFrom loadOf headers.headerAt headers.headerOf headers.headerRefusal rules.refuseBelow rules.refuseOutside rules.addressRefusal rules.baudRefusal rules.slotBitsRefusal rules.hsaRefusal rules.rotationRefusal rules.gapWaitRefusal rules.retryRefusal rules.minTsdrRefusal rules.factorsRefusal rules.applicationsRefusal earlyRefusal firstRefusal pairOf builtAt buildOf baudOf startedAfter startedOf startOf newStation zerosOr14
 starts = refl
 
 one-application : headers.headerOf trace .applications ≡ 1

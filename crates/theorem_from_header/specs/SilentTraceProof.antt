@@ -35,7 +35,7 @@ use Rattle.trace.specs.Entries.{recordLength, entryOf}
 use Rattle.trace.specs.Trace.{Run, runOf, ranOf, replayOf, written, bufferOf}
 use Rattle.trace.specs.Laws.{replay-started}
 use Rattle.theorem_sound.specs.Keeps.{either}
-use Rattle.theorem_sound.specs.Sound.{SoundStation, poll-sound}
+use Rattle.theorem_sound.specs.Sound.{SoundStation, poll, after, call-sound}
 use Rattle.theorem_sound.specs.Fits.{poll-fits}
 use Rattle.theorem_silence.specs.Silence.{Quiet, AllQuiet, holdsToken, until, told, sentUntil, tokens, Silence}
 use Rattle.theorem_silence.specs.Calls.{poll-settings}
@@ -45,6 +45,11 @@ use Rattle.theorem_every_trace.specs.EveryTrace.{each-entry-is-answered, longer
 use Rattle.theorem_from_header.specs.FromHeader.{OfHeader, from-header, silence-inside}
 use Rattle.theorem_from_header.specs.AnswersRead.{along-append, word-here}
 use Rattle.theorem_from_header.specs.SilentTrace.{answersFrom, sentByAnswers, heldByAnswers, nextByAnswers, pollEntries, SilentTrace, passingStation, silentAnswers, SilenceInTrace}
+
+-- a poll leaves a sound station sound
+poll-sound : (s : Station) (bytes : List ℕ) → SoundStation s → SoundStation (pollOf s bytes .station)
+unfolding after
+poll-sound s bytes w = call-sound s (poll bytes) w
 
 -- Silent polls as entries.
 

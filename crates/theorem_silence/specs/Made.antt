@@ -177,7 +177,7 @@ tokens-same d s k a b = cc
 token-word : (k : ℕ) → k < 128 → (words.telegramRefusal (k * 65536) ≡ 0) × (words.telegramOf (k * 65536) ≡ telegram.Token 0 k)
 unfolding words.telegramRefusal words.telegramOf zerosOr14 fieldOf
 token-word k l = (
-  rw (lt-leb (2 ^ 32) (k * 65536) (omega arith), eq-eqb (k * 65536 / 2 ^ 30 % 2 ^ 2) 0 (omega arith), eq-eqb (k * 65536 / 2 ^ 0 % 2 ^ 16) 0 (omega arith)),
+  rw (lt-leb (2 ^ 32) (k * 65536) (omega arith), eq-eqb (k * 65536 / 2 ^ 30 % 2 ^ 2) 0 (omega arith), eq-eqb (k * 65536 / 2 ^ 15 % 2 ^ 1) 0 (omega arith), eq-eqb (k * 65536 / 2 ^ 13 % 2 ^ 2) 0 (omega arith), eq-eqb (k * 65536 / 2 ^ 9 % 2 ^ 4) 0 (omega arith), eq-eqb (k * 65536 / 2 ^ 0 % 2 ^ 9) 0 (omega arith)),
   rw (eq-eqb (k * 65536 / 2 ^ 30 % 2 ^ 2) 0 (omega arith)) (tokens-same (k * 65536 / 2 ^ 23 % 2 ^ 7) (k * 65536 / 2 ^ 16 % 2 ^ 7) k (omega arith) (omega arith)),
 )
 

@@ -6,9 +6,11 @@ use lib.ListN.{length, take, drop, replicate, length-replicate}
 use lib.Seq.{drop-append-add}
 use native.Mathlib.Omega.{arith}
 use native.Mathlib.Nat.{zero-add, suc-add}
+use lib.Dec.{lit≤}
 use borrow.Author.Tests.{eq-eqb, ne-eqb, le-ltb, lt-ltb}
 use Rattle.codec_fields.specs.Fields.{fieldOf, zerosOr14, be, beFrom, loadOf, bytesOf}
 use Rattle.codec_fields.specs.Laws.{be-bytes}
+use Rattle.codec_fields.specs.Stores.{load-room}
 use Rattle.codec_decisions.specs.Decisions.{decisionRefusal}
 use Rattle.codec_records.specs.Records.{headOf, countOf, decisionWordAt, entryRefusal, recordRefusal}
 use Rattle.codec_records.specs.Laws.{none-first}
@@ -23,10 +25,9 @@ silent-length n clock = simp length-replicate (omega arith)
 
 -- its first 64 bits are the clock's number
 head-word : (n clock : ℕ) → clock < 2 ^ 48 → loadOf (silentAt n clock) 0 8 ≡ clock * 2 ^ 16
-unfolding loadOf
 head-word n clock l =
     let room : 8 ≤ length (silentAt n clock) = omega (arith, silent-length n clock) in
-    rw (le-ltb (length (silentAt n clock)) 8 room) (be-bytes (clock * 2 ^ 16) (omega arith))
+    load-room (silentAt n clock) 0 8 (lit≤ tt) room ∙ be-bytes (clock * 2 ^ 16) (omega arith)
 
 -- zeros behind zeros
 drop-zeros : (k m : ℕ) → drop {A = ℕ} k (replicate (k + m) 0) ≡ replicate m 0
@@ -45,11 +46,10 @@ zero-bytes k m l =
 
 -- each decision is the word 0
 zero-decision : (n clock i : ℕ) → i < 2 * n → decisionWordAt (silentAt n clock) i ≡ 0
-unfolding loadOf
 zero-decision n clock i l =
     let room : 8 + 3 * i + 3 ≤ length (silentAt n clock) = omega (arith, silent-length n clock) in
-    rw (le-ltb (length (silentAt n clock)) (8 + 3 * i + 3) room)
-    (ap (λ (l : List ℕ). be (take 3 l)) (drop-append-add (bytesOf (clock * 2 ^ 16)) (replicate (6 * n) 0) (3 * i)) ∙ zero-bytes (3 * i) (6 * n) (omega arith))
+    load-room (silentAt n clock) (8 + 3 * i) 3 (lit≤ tt) room
+    ∙ (ap (λ (l : List ℕ). be (take 3 l)) (drop-append-add (bytesOf (clock * 2 ^ 16)) (replicate (6 * n) 0) (3 * i)) ∙ zero-bytes (3 * i) (6 * n) (omega arith))
 
 -- and none is refused
 zero-accepted : (n clock i : ℕ) → i < 2 * n → entryRefusal (silentAt n clock) n i ≡ 0

@@ -1,20 +1,19 @@
 -- What accepted settings give: a slot time that is not zero and not shorter than the pause; and what a counted poll then knows.
-use Prim.Native.Nat.{ℕ, _+_, _*_, _<_, _≤_}
+use Prim.Native.Nat.{ℕ, _+_, _<_, _≤_}
 use mathlib.Core.Bool.{true, false}
 use mathlib.Core.Path.{_≡_, refl, sym}
 use native.Mathlib.Omega.{arith}
-use native.Mathlib.Nat.{le-div-iff-mul-le}
 use borrow.Author.Tests.{le-leb, lt-leb, leb-true}
 use lib.Dec.{leb}
-use Rattle.bit_times.specs.declared.Baud.{Baud}
 use Rattle.bit_times.specs.declared.Micros.{Micros}
-use Rattle.bit_times.specs.Times.{leastSlotBits, rateOf, rounded, timeOf}
+use Rattle.bit_times.specs.Times.{leastSlotBits, timeOf}
 use Rattle.bit_times.specs.Laws.{listed, time-grows}
 use Rattle.settings.specs.declared.Parameters.{Parameters}
 use Rattle.ring_addresses.specs.SetLaws.{true≢false}
 use Rattle.station.specs.declared.Activity.{Activity}
 use Rattle.station.specs.declared.Activity.the-variants as activity
 use Rattle.station.specs.Steps.{knownAt, elapsedOf, busyOf, pauseOf, slotExpiredOf}
+use Rattle.theorem_sound.specs.Keeps.{time-some}
 use Rattle.theorem_silence.specs.Silence.{slotAfter}
 use Rattle.settings.specs.Rules.{slotBitsRefusal}
 use Rattle.settings.specs.RuleLaws.{below-in}
@@ -31,14 +30,6 @@ slot-bits-least p e = below-in _ _ 2 (omega arith) (rw (listed (p .baudrate) .ba
 abbrev pub pauseTime : Parameters → ℕ
 pauseTime p = timeOf (record { 0 = 33 }) (p .baudrate) .0
 
--- a hundred bits take some time
-time-some : (a : ℕ) (baud : Baud) → 100 ≤ a → 1 ≤ timeOf (record { 0 = a }) baud .0
-unfolding timeOf rounded
-time-some a baud l =
-    let some : 0 < rateOf baud = omega (arith, listed baud .slowest) in
-    let whole : 1 * rateOf baud ≤ a * 1000000 = omega (arith, listed baud .fastest) in
-    le-div-iff-mul-le some .1 whole
-
 -- accepted settings: the slot time is not zero, and the pause is not longer
 pub record Slotted (p : Parameters) : Type 0 where
   pub some : 1 ≤ slotTimeOf p .0
@@ -49,7 +40,7 @@ unfolding slotTimeOf
 slotted p e =
     let least = slot-bits-least p e in
     let hundred : 100 ≤ p .«slot_bits» = omega (arith, listed (p .baudrate) .slot-low) in
-    record { some = time-some _ (p .baudrate) hundred; pause = time-grows 33 _ (p .baudrate) (omega arith) }
+    record { some = time-some _ (p .baudrate) (omega arith); pause = time-grows 33 _ (p .baudrate) (omega arith) }
 
 -- What the poll's tests say of a counted poll, and what a counted poll's tests say.
 module _ (p : Parameters) (w : Slotted p) (a : Activity) (now : Micros) where

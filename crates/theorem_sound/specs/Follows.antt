@@ -57,7 +57,7 @@ SlotCoversPause p = timeOf (record { 0 = 33 }) (p .baudrate) .0 ≤ slotTimeOf p
 -- so it is where the slot has at least 33 bits; accepted settings have at least 100
 pub slot-covers-pause : (p : Parameters) → 33 ≤ p .«slot_bits» → SlotCoversPause p
 unfolding slotTimeOf
-slot-covers-pause p l = time-grows 33 (p .«slot_bits») (p .baudrate) l
+slot-covers-pause p l = time-grows _ (p .«slot_bits») (p .baudrate) (omega arith)
 
 -- a poll of a station in the state x leaves it in the state y
 pub record Follows (p : Parameters) (x y : State) : Type 0 where

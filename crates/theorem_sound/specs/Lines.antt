@@ -85,7 +85,7 @@ abbrev pub ActivityFits : Baud → Activity → Type 0
 ActivityFits baud activity.Unknown = Unit {0}
 ActivityFits baud (activity.At last) = last .0 < 2 ^ 48 + timeOf (record { 0 = 11 * 255 }) baud .0
 
--- no token yet: last token time and end of hold are a fresh station's
+-- no token was used yet but one that came at the clock 0: last token time and end of hold are a fresh station's
 pub record NoToken (last : Micros) (end : HoldEnd) : Type 0 where
   pub no-last : last .0 ≡ 0
   pub no-from : end .from .0 ≡ 0
@@ -101,7 +101,7 @@ pub record HoldSet (p : Parameters) (last : Micros) (end : HoldEnd) : Type 0 whe
   pub gap : GapState
   pub gap-poll : end .less ≡ holdLess p gap
 
--- The end of hold: there was no token yet, or it was set with the last token time.
+-- The end of hold is a fresh station's, or it was set with the last token time.
 abbrev pub HoldMade : Parameters → Micros → HoldEnd → Type 0
 HoldMade p last end = NoToken last end ⊎ HoldSet p last end
 
@@ -129,5 +129,5 @@ pub record SoundCore (p : Parameters) (n : ℕ) (c : Core) : Type 0 where
   pub last-token : LastToken (c .state) (c .«last_token_time»)
   -- the last token time is a clock's
   pub token-time : Clock (c .«last_token_time»)
-  -- the end of hold was set with the last token time
+  -- the end of hold is a fresh station's, or was set with the last token time
   pub hold-made : HoldMade p (c .«last_token_time») (c .«end_token_hold_time»)

@@ -1,5 +1,5 @@
 -- What the steps of the two hearing crates, station_listen and station_claim come to.
-use Prim.Native.Nat.{ℕ, zero, suc, _<_}
+use Prim.Native.Nat.{ℕ, zero, suc, _<_, _≤_}
 use mathlib.Core.Bool.{Bool, true, false}
 use mathlib.Core.Path.{_≡_, refl, sym}
 use mathlib.Core.List.{List}
@@ -15,6 +15,7 @@ use Rattle.codec_telegrams.specs.Words.{TelegramFits}
 use Rattle.codec_answers.specs.declared.Outcome.the-variants as outcome
 use Rattle.codec_answers.specs.declared.Sent.{Sent}
 use Rattle.codec_answers.specs.declared.Sent.the-variants as sent
+use Rattle.codec_answers.specs.Answers.{sentBytes}
 use Rattle.station.specs.declared.OptionAddress.{OptionAddress}
 use Rattle.station.specs.declared.OptionAddress.the-variants as optionAddress
 use Rattle.station.specs.declared.UseTokenData.{UseTokenData}
@@ -59,7 +60,7 @@ ListenedEnds E (optionAddress.Some source) k =
 
 module _ {p : Parameters} {n : ℕ} {now : Micros} {c₀ : Core} {E : State → Type 0} where
   -- do_claim_token
-  claim-next-made : {c : Core} (first : Bool) → ((f : Bool) → E (ClaimToken f)) → (first ≡ false → (held : UseTokenData) → E (UseToken held false)) → Came p n now c₀ (ClaimToken first) c → Made p n now c₀ E (transmitOf p (claimNext c now first) now 3 (sent.Token (p .address)))
+  claim-next-made : {c : Core} (first : Bool) → ((f : Bool) → E (ClaimToken f)) → (first ≡ false → (held : UseTokenData) → E (UseToken held false)) → Came p n now c₀ (ClaimToken first) c → Made p n now c₀ E (transmitOf p (claimNext c now first) now (sent.Token (p .address)))
   unfolding claimNext
   claim-next-made true e u k = transmit-made _ (lit≤ tt) (claim-again k) (e false)
   claim-next-made false e u k = transmit-made _ (lit≤ tt) (to-use _ refl (new-token n now (k .clock)) k) (u refl _)
@@ -77,17 +78,17 @@ module _ {p : Parameters} {n : ℕ} {now : Micros} {c₀ : Core} {E : State → 
   lost-made r e i o k g = claim-token-made r e (λ z. not-true (sym z)) (to-claim i o k) g
 
   -- do_listen_token
-  answered-made : {q : OptionAddress} {k : ℕ} {c : Core} (r : Ring) → E (ListenToken optionAddress.None k) → E (ActiveIdle optionAddress.None optionAddress.None 0) → Known (c .«last_bus_activity») → Came p n now c₀ (ListenToken q k) c → (s : Sent) → Made p n now c₀ E (transmitOf p (listenAnswered c r k) now 6 s)
+  answered-made : {q : OptionAddress} {k : ℕ} {c : Core} (r : Ring) → E (ListenToken optionAddress.None k) → E (ActiveIdle optionAddress.None optionAddress.None 0) → Known (c .«last_bus_activity») → Came p n now c₀ (ListenToken q k) c → (s : Sent) → sentBytes s ≤ 255 → Made p n now c₀ E (transmitOf p (listenAnswered c r k) now s)
   unfolding listenAnswered
-  answered-made r e i o k s =
-      either (λ (d : Core). Made p n now c₀ E (transmitOf p d now s)) (r .ready) _ _ (transmit-made s (lit≤ tt) (to-idle refl o k) i)
-      (transmit-made s (lit≤ tt) (listen-fields _ _ tt (collided-at k) k) e)
+  answered-made r e i o k s l =
+      either (λ (d : Core). Made p n now c₀ E (transmitOf p d now s)) (r .ready) _ _ (transmit-made s l (to-idle refl o k) i)
+      (transmit-made s l (listen-fields _ _ tt (collided-at k) k) e)
 
   response-made : {k : ℕ} {c : Core} (r : Ring) (source : ℕ) → ListenedEnds E (optionAddress.Some source) k → Came p n now c₀ (ListenToken (optionAddress.Some source) k) c → RingGood p r → RingMade p n now c₀ E (listenResponse p c r now source k)
   unfolding listenResponse listenResponseAfter
   response-made {c = c} r source e k g =
       either (RingMade p n now c₀ E) (pauseOf p (c .«last_bus_activity») now .over) _ _
-      (record { made-step = answered-made r (e .1) (e .2) (waited-known c _) (paused k) _; made-ring = g })
+      (record { made-step = answered-made r (e .1) (e .2) (waited-known c _) (paused k) _ (lit≤ tt); made-ring = g })
       (record { made-step = done-made _ (paused k) (e .0); made-ring = g })
 
   collided-made : {q : OptionAddress} {k : ℕ} {c : Core} (r : Ring) → ListenEnds E → Came p n now c₀ (ListenToken q k) c → RingGood p r → HeardMade p n now c₀ E (collided p c r q k)

@@ -1,8 +1,10 @@
 -- What calls do to a station's core, move by move, and from which states the published text lets each transition start.
 --
 -- A move is one of the places where active.rs writes to the station. Its transitions carry the assertion of the Rust
--- (`debug_assert_state!`) as a premise. That a call is a list of moves (`Moves`) says that each transition of the call starts from a
--- state that its assertion allows; and what each move keeps, each call keeps.
+-- (`debug_assert_state!`) as a premise. That a call's moves (`Moves`) lead from the core before it to the core after it says that
+-- transitions lead there, each from a state that its assertion allows; and what each move keeps, each call keeps. The proof takes the
+-- transitions where the definitions make them, one by one; the statement alone says that such moves exist. Which states a poll joins
+-- is said by the table in Follows.antt.
 use Prim.Native.Nat.{ℕ, _+_, _≤_, _<_, _^_}
 use mathlib.Core.Bool.{Bool, true, false, cond}
 use mathlib.Core.Path.{_≡_}

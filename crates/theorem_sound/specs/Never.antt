@@ -227,7 +227,7 @@ rx-state : (c : Core) (now : Micros) → rxOf c now .state ≡ c .state
 unfolding rxOf withActivity withPending
 rx-state c now = refl
 
--- do_listen_token: a telegram that is not the last
+-- what was heard so far leaves the station listening
 abbrev ListeningOn : Heard → Type 0
 ListeningOn h = Listening (h .core .state)
 
@@ -262,7 +262,7 @@ listen-on-listening (PassToken g k) p c r t e l = absurd l
 listen-on-listening (CheckTokenPass k) p c r t e l = absurd l
 listen-on-listening (AwaitStatusResponse a) p c r t e l = absurd l
 
--- handle_telegram: a telegram that is not the last
+-- what was heard so far leaves the station in a state that handles telegrams
 abbrev HandlingOn : Heard → Type 0
 HandlingOn h = Handling (h .core .state)
 

@@ -241,7 +241,8 @@ offline-made : (s : Station) (now : Micros) → SoundStation s → CallMade s no
 unfolding offlineOf freshCore doneOf
 offline-made s now w = polled-made s now _ (record { made-step = record { moves = then none goes-offline; ends = λ z. tt }; made-ring = again-good (s .p) (s .«token_ring») (part-ring s w) })
 
--- Every call of a sound station is made of moves, so each transition in it starts from a state that its `debug_assert_state!` names.
+-- Every call of a sound station is made of moves: transitions, each from a state that its `debug_assert_state!` names, and writes to the
+-- parts.
 pub call-made : (s : Station) (c : Call) → SoundStation s → CallMade s (clockOf c) (after s c)
 unfolding after passiveOf
 call-made s (poll bytes) w = poll-made s bytes w

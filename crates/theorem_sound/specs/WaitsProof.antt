@@ -1,17 +1,13 @@
 -- The two theorems of Waits.antt: from the steps (Guarded) to the calls.
-use Prim.Native.Nat.{ℕ, _+_, _*_, _<_, _≤_}
+use Prim.Native.Nat.{ℕ, _+_, _<_, _≤_}
 use mathlib.Core.Bool.{Bool, true, false, cond}
 use mathlib.Core.Path.{_≡_, refl, sym, subst, _∙_}
 use mathlib.Core.Logic.{_⊎_, inl, inr}
 use mathlib.Core.List.{List, [], _∷_}
 use native.Mathlib.Omega.{arith}
-use native.Mathlib.Nat.{le-div-iff-mul-le}
 use borrow.Author.Tests.{leb-true, leb-false}
-use lib.Dec.{ltb, eqb}
+use lib.Dec.{ltb, eqb, lit≤}
 use Rattle.bit_times.specs.declared.Micros.{Micros}
-use Rattle.bit_times.specs.declared.Baud.{Baud}
-use Rattle.bit_times.specs.Times.{rateOf, rounded, timeOf}
-use Rattle.bit_times.specs.Laws.{listed}
 use Rattle.settings.specs.declared.Parameters.{Parameters}
 use Rattle.settings.specs.Settings.{slotTimeOf}
 use Rattle.ring.specs.declared.Ring.{Ring}
@@ -38,20 +34,12 @@ use Rattle.station_poll.specs.Poll.{connectedOn, connectedOf, dispatchOn, dispa
 use Rattle.theorem_sound.specs.Moves.{lists, Known}
 use Rattle.theorem_sound.specs.Kept.{not-true, known-from}
 use Rattle.theorem_sound.specs.Walk.{bus-state}
-use Rattle.theorem_sound.specs.Keeps.{either}
+use Rattle.theorem_sound.specs.Keeps.{either, time-some}
 use Rattle.theorem_sound.specs.Sound.{SoundStation, SoundStarted, Call, poll, online, offline, passive, after, clockOf, new-sound, call-sound}
 use Rattle.station_command.specs.Command.{onlineOf, offlineOf, passiveOf}
 use Rattle.theorem_sound.specs.Fits.{answerTo}
 use Rattle.theorem_sound.specs.Waits.{Sends, TellsTimeout, Since, syncPause, PauseKept, waiting, SlotWaited, SlotKept, Throughout, ThroughoutNew, NoSendBeforePause, NoRetryBeforeSlot}
 use Rattle.theorem_sound.specs.Guarded.{Guarded, Told, weaken, retold, done-guarded, done-told, dispatch-guarded, slot-guarded, slot-told}
-
--- the pause takes some time at every rate
-pause-some : (baud : Baud) → 1 ≤ timeOf (record { 0 = 33 }) baud .0
-unfolding timeOf rounded
-pause-some baud =
-    let some : 0 < rateOf baud = omega (arith, listed baud .slowest) in
-    let whole : 1 * rateOf baud ≤ 33 * 1000000 = omega (arith, listed baud .fastest) in
-    le-div-iff-mul-le some .1 whole
 
 -- an activity that a poll does not find going on lies before its clock
 free-before : (last now : Micros) (t : Bool) → ongoingOf (activity.At last) now t ≡ false → last .0 < now .0
@@ -138,7 +126,7 @@ since-at e w = record { last = w .last; known = sym e ∙ w .known; passed = w .
 module _ (p : Parameters) (now : Micros) (r : Ring) (t : Bool) (pending : ℕ) (bytes : List ℕ) (n count : ℕ) where
   pause-since : (c : Core) → ongoingOf (c .«last_bus_activity») now t ≡ false → pauseOf p (busActivityOf c now pending .«last_bus_activity») now .over ≡ true → Since (c .«last_bus_activity») now (syncPause p)
   unfolding pauseOf
-  pause-since c o e = since-bus now (syncPause p) c pending t o (inr (pause-some (p .baudrate))) e
+  pause-since c o e = since-bus now (syncPause p) c pending t o (inr (time-some _ (p .baudrate) (lit≤ tt))) e
 
   slot-since : (c : Core) → Known (c .«last_bus_activity») → ongoingOf (c .«last_bus_activity») now t ≡ false → slotExpiredOf p (busActivityOf c now pending .«last_bus_activity») now .over ≡ true → Since (c .«last_bus_activity») now (slotTimeOf p)
   unfolding slotExpiredOf

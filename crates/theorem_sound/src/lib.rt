@@ -1,3 +1,3 @@
-// Sound: every station that the public calls make is sound, and a refused call leaves it as it was. No code stands here: the
-// theorems are in specs/Sound.antt and specs/Unchanged.antt, what they lean on in the files beside them. It leans on every
-// crate of the station.
+// Sound: what calls can make of a station. Every station that the public calls make is sound, a refused call leaves it as it was, no poll
+// sends before the pause or tries again before the slot, and the arms that are there for totality are never reached. No code stands
+// here: specs/Lib.antt says which file has what. It leans on every crate of the station.

@@ -22,7 +22,18 @@ headerAt high low =
     reads lowWidths
     (λ gap hsa retry min-tsdr applications factor-1 factor-2 zero.
     record {
-      settings = record { «token_rotation_bits» = rotation; «slot_bits» = slot; address = address; «baud_code» = baud; «gap_wait_rotations» = gap; «highest_station_address» = hsa; «max_retry_limit» = retry; «min_tsdr_bits» = min-tsdr; «factor_1» = factor-1; «factor_2» = factor-2 };
+      settings = record {
+        «token_rotation_bits» = rotation;
+        «slot_bits» = slot;
+        address = address;
+        «baud_code» = baud;
+        «gap_wait_rotations» = gap;
+        «highest_station_address» = hsa;
+        «max_retry_limit» = retry;
+        «min_tsdr_bits» = min-tsdr;
+        «factor_1» = factor-1;
+        «factor_2» = factor-2;
+      };
       applications = applications;
       «zero_bits» = zero;
     })

@@ -11,7 +11,7 @@ use Rattle.codec_telegrams.proofs.telegram_refusal.Statement.{statement
 use Rattle.codec_telegrams.proofs.telegram_refusal.Tie as tie
 
 pub telegram-refusal-spec : {M : Type 1} → statement M
-unfolding telegramRefusal zerosOr14 zeroOr14
+unfolding telegramRefusal zerosOr14
 telegram-refusal-spec =
     tie.close
     (tie.spec

@@ -1,10 +1,10 @@
--- `codec_telegrams::put_fields` meets its contract, return by return. Assumes nothing.
+-- `codec_telegrams::telegram_word` meets its contract, return by return. Assumes nothing.
 use borrow.Author.Needs.{needs}
-use Rattle.codec_telegrams.proofs.put_fields.Statement.{statement}
-use Rattle.codec_telegrams.proofs.put_fields.Tie as tie
+use Rattle.codec_telegrams.proofs.telegram_word.Statement.{statement}
+use Rattle.codec_telegrams.proofs.telegram_word.Tie as tie
 
-pub put-fields-spec : {M : Type 1} → statement M
-put-fields-spec =
+pub telegram-word-spec : {M : Type 1} → statement M
+telegram-word-spec =
     tie.close
     (tie.spec
     (λ c κs. search needs)

@@ -1,10 +1,10 @@
--- `codec_decisions::put_fields` meets its contract, return by return. Assumes nothing.
+-- `codec_decisions::decision_word` meets its contract, return by return. Assumes nothing.
 use borrow.Author.Needs.{needs}
-use Rattle.codec_decisions.proofs.put_fields.Statement.{statement}
-use Rattle.codec_decisions.proofs.put_fields.Tie as tie
+use Rattle.codec_decisions.proofs.decision_word.Statement.{statement}
+use Rattle.codec_decisions.proofs.decision_word.Tie as tie
 
-pub put-fields-spec : {M : Type 1} → statement M
-put-fields-spec =
+pub decision-word-spec : {M : Type 1} → statement M
+decision-word-spec =
     tie.close
     (tie.spec
     (λ c κs. search needs)
