@@ -1,7 +1,7 @@
 # The commands of README.md. Each is a script under scripts/, which says on one line what it lacks. Variables on the command
 # line reach the scripts through the environment. `make help` prints what stands after each ##, variables in brackets first.
 .DEFAULT_GOAL := help
-.PHONY: help test replay explain picture compare speed figures
+.PHONY: help test replay explain picture watchdog compare speed figures
 
 help: ## prints this list
 	@awk -F ': ## ' '/^[a-z]+: ## / { \
@@ -20,6 +20,9 @@ explain: ## [TRACE=file] [FROM=n] [TO=m] the same answers in words, a line for e
 
 picture: ## [TRACE=file] [OUT=file] [FROM=n] [TO=m] the same as a picture that any browser opens
 	@bash scripts/picture.sh
+
+watchdog: ## [MS=n] how the two watchdog factors of n milliseconds come about, as the proved calls give them
+	@bash scripts/watchdog.sh
 
 compare: ## [SEED=n] [COUNT=m] m generated traces of seed n through the proved library and the published Rust
 	@bash scripts/compare_traces.sh

@@ -79,12 +79,16 @@ find_trace() {
 # The program replay reads no more bytes of a trace.
 largest=4096
 
-# Proves and builds the program replay where that is not done yet.
-build_replay() {
+# build_program NAME: proves and builds a program where that is not done yet.
+build_program() {
     need_rt
     find_runner
-    [ -f target/bin/run_replay ] || echo "$me: the program run_replay is proved and built first, which takes some minutes" >&2
-    quietly "the program run_replay was not proved" rt check run_replay
+    [ -f "target/bin/$1" ] || echo "$me: the program $1 is proved and built first, which takes some minutes" >&2
+    quietly "the program $1 was not proved" rt check "$1"
+}
+
+build_replay() {
+    build_program run_replay
 }
 
 # Proves the library and writes target/staticlib/libamsulfezd.a, if it is not there yet of the sources as they are: rt's stamp of

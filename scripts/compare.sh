@@ -29,6 +29,10 @@ echo "oracle: its tests pass, each wrong call is found"
 table=crates/run_settings_table/stdout
 target/oracle/release/settings_table | cmp - "$table" || fail "$table is not what the published parameters.rs answers"
 echo "settings: $(wc -l <"$table") lines of the published parameters.rs, 0 differ"
+shown=crates/run_watchdog/stdout
+mapfile -t times <crates/run_watchdog/args
+target/oracle/release/watchdog_lines "${times[@]}" | cmp - "$shown" || fail "$shown is not what the published parameters.rs answers"
+echo "watchdog: ${#times[@]} times by the published parameters.rs, 0 differ"
 
 # The whole station: the proved trace call and the published active.rs. Where the library is linked, some traces also go
 # the way of the other machines, through a program that answers them.

@@ -63,6 +63,9 @@ pub mod comparison {
 /// The settings table by the published `parameters.rs`.
 pub mod settings_table;
 
+/// What the program run_watchdog prints, by the published `parameters.rs`.
+pub mod watchdog_lines;
+
 // The published files find these names at the root.
 pub use helpers::{baud, baud::Baudrate, dp, fdl, phy, port, records, ring, time, trace};
 

@@ -25,16 +25,29 @@ fn builder(address: u8, code: u8) -> ParametersBuilder {
     ParametersBuilder::new(address, BAUDRATES[usize::from(code)].0)
 }
 
-fn factors_line(ms: u64) -> String {
+/// The published factors of a time. A time that the published code cannot take is refused, as by document 01's 9.
+pub fn factors(ms: u64) -> Option<Result<(u8, u8), ()>> {
     // A duration counts microseconds in 64 bits: a longer time cannot be asked of the published code.
     let askable = ms <= u64::MAX / 1000;
     let answer = askable.then(|| tried(|| parameters::factors(Duration::from_millis(ms)))).flatten();
-    let words = match answer {
-        Some(None) => "none".to_string(),
-        Some(Some(Ok((f1, f2)))) => format!("{} {}", f1, f2),
-        Some(Some(Err(()))) | None => "refused 9".to_string(),
+    answer.unwrap_or(Some(Err(())))
+}
+
+fn factors_line(ms: u64) -> String {
+    let words = match factors(ms) {
+        None => "none".to_string(),
+        Some(Ok((f1, f2))) => format!("{} {}", f1, f2),
+        Some(Err(())) => "refused 9".to_string(),
     };
     format!("watchdog_factors {} ms: {}", ms, words)
+}
+
+/// The published setter takes the time.
+pub fn takes_watchdog(ms: u64) -> bool {
+    tried(|| {
+        builder(0, 0).watchdog_timeout(Duration::from_millis(ms));
+    })
+    .is_some()
 }
 
 fn new_line((address, code): (u8, u8)) -> String {

@@ -1,6 +1,7 @@
--- Document 01, "Settings": the watchdog's two factors, refusal 9, and the time that they make, beside profirust's parameters.rs.
+-- Document 01, "Settings": the watchdog's two factors, refusal 9, and the time that they make, beside profirust's parameters.rs;
+-- and document 02, P2: the same factors by a rule.
 -- A refusal is document 01's number. `cond t a b` is a if the test t holds, else b.
-use Prim.Native.Nat.{ℕ, zero, suc, _+_, _-_, _*_, _/_}
+use Prim.Native.Nat.{ℕ, zero, suc, _+_, _-_, _*_, _/_, max}
 use mathlib.Core.Bool.{cond}
 use lib.Dec.{ltb, eqb}
 use Rattle.settings_watchdog.specs.declared.WatchdogFactors.{WatchdogFactors}
@@ -34,6 +35,26 @@ trial u (suc k) f = let rest = trial u k (suc f) in cond (ltb (ceilOf u f) 256) 
 -- watchdog_factors: none of 0 ms, else by trial from 1 to 255, in units of 10 ms
 unfoldable pub factorsOf : ℕ → Factored
 factorsOf ms = cond (eqb ms 0) factored.None (trial (ms / 10) 255 1)
+
+-- document 02, P2: the units of 10 ms in a time, rounded down
+abbrev pub unitsOf : ℕ → ℕ
+unitsOf ms = ms / 10
+
+-- document 01, refusal 9: the most units that two factors make, 255 × 255
+abbrev pub mostUnits : ℕ
+mostUnits = 65025
+
+-- document 02, P2: the first factor is the units divided by 255, rounded up, and at least 1
+abbrev pub firstFactor : ℕ → ℕ
+firstFactor u = max 1 (ceilOf u 255)
+
+-- document 02, P2: the factors without a trial. 0 ms have none; more than 65,025 units are refused with 9; else they are the
+-- first factor, and the units divided by it, rounded up. It gives what `factorsOf` gives (factors-by-rule of Laws.antt).
+unfoldable pub factorsRule : ℕ → Factored
+factorsRule ms =
+    let u = unitsOf ms in
+    let f1 = firstFactor u in
+    cond (eqb ms 0) factored.None (cond (ltb mostUnits u) (factored.Refused 9) (factored.Factors f1 (ceilOf u f1)))
 
 -- Parameters::watchdog_timeout: f1 × f2 × 10 ms, where there are factors
 unfoldable pub watchdogTimeOf : WatchdogFactors → Timeout
