@@ -2,7 +2,7 @@
 """Writes docs/EDITS.md: for each public call of each library the must-fail edits that speak for it. An edit speaks for a call
 where it changes the call's own code, code of its crate that the call goes through, or a definition that the contract of either
 cites; and, where a call has fewer than two of its own, where it speaks for a function that calls it. Fails where fewer than two
-edits speak for a call.
+edits speak for a call. Constants and `requires` lines are not read: an edit of one speaks for no call here.
 
     python3 scripts/edits.py [--check]"""
 import glob

@@ -240,7 +240,7 @@ def functions_of(path, crate):
         elif text.startswith("ensures "):
             ensures = contract(line, "ensures")
             current.ensures.append(ensures)
-            current.cites.extend((taken.get(word, crate), word) for word in words_of(ensures))
+            current.cites.extend((taken[word], word) for word in words_of(ensures) if word in taken)
         if not text.startswith("#["):
             comment = []
     return found
