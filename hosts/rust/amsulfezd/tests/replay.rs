@@ -3,30 +3,13 @@
 #![allow(unknown_lints, unexpected_cfgs)]
 #![cfg(linked)]
 
+mod stored;
+
 use amsulfezd::answer::{answers, Answer};
 use amsulfezd::refusal::Refusal;
 use amsulfezd::replay::{replay, replay_whole};
 use amsulfezd::run::{from_text, to_text};
-use std::path::{Path, PathBuf};
-
-fn traces() -> PathBuf {
-    Path::new(env!("CARGO_MANIFEST_DIR")).join("../../../traces")
-}
-
-/// Every file below a folder with this ending.
-fn files(folder: &Path, ending: &str) -> Vec<PathBuf> {
-    let mut found = Vec::new();
-    for entry in std::fs::read_dir(folder).expect("the folder of traces") {
-        let path = entry.expect("an entry of the folder").path();
-        if path.is_dir() {
-            found.extend(files(&path, ending));
-        } else if path.extension().map_or(false, |there| there == ending) {
-            found.push(path);
-        }
-    }
-    found.sort();
-    found
-}
+use stored::{files, traces};
 
 #[test]
 fn the_proved_call_answers_as_the_stories_say() {

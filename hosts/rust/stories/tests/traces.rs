@@ -1,26 +1,11 @@
 //! The files of traces/: they are what their stories say.
 
-use std::path::{Path, PathBuf};
+#[path = "../../amsulfezd/tests/stored/mod.rs"]
+mod stored;
+
+use std::path::Path;
 use std::process::Command;
-
-fn traces() -> PathBuf {
-    Path::new(env!("CARGO_MANIFEST_DIR")).join("../../../traces")
-}
-
-/// Every file below a folder with this ending.
-fn files(folder: &Path, ending: &str) -> Vec<PathBuf> {
-    let mut found = Vec::new();
-    for entry in std::fs::read_dir(folder).expect("the folder of traces") {
-        let path = entry.expect("an entry of the folder").path();
-        if path.is_dir() {
-            found.extend(files(&path, ending));
-        } else if path.extension().map_or(false, |there| there == ending) {
-            found.push(path);
-        }
-    }
-    found.sort();
-    found
-}
+use stored::{files, traces};
 
 #[test]
 fn the_files_are_what_their_stories_say() {

@@ -7,6 +7,7 @@ use amsulfezd::answer::Answer;
 use amsulfezd::run::{from_text, Run};
 use std::io::{ErrorKind, Read, Write};
 use std::path::Path;
+use std::process::ExitCode;
 
 /// A trace and the answers that the proved program or library gave.
 pub struct Replay {
@@ -19,17 +20,20 @@ pub struct Replay {
 }
 
 /// The whole of a program `NAME TRACE [FROM=n] [TO=m] < ANSWERS`: prints the text that `make` makes, or one line that says why there is
-/// none, and ends with a status that tells which.
-pub fn print(program: &str, make: fn(&Replay) -> Result<String, NotThisTrace>) {
+/// none, and gives the status that tells which.
+pub fn print(program: &str, make: fn(&Replay) -> Result<String, NotThisTrace>) -> ExitCode {
     let printed = read(program).and_then(|replay| {
         let text = make(&replay).map_err(|error| error.to_string())?;
         std::io::stdout()
             .write_all(text.as_bytes())
             .map_err(|error| format!("standard output: {}", error))
     });
-    if let Err(why) = printed {
-        eprintln!("{}: {}", program, why);
-        std::process::exit(1);
+    match printed {
+        Ok(()) => ExitCode::SUCCESS,
+        Err(why) => {
+            eprintln!("{}: {}", program, why);
+            ExitCode::FAILURE
+        }
     }
 }
 

@@ -3,9 +3,10 @@
 
 use amsulfezd_tools::explain::explain;
 use amsulfezd_tools::from_replay::print;
+use std::process::ExitCode;
 
-fn main() {
+fn main() -> ExitCode {
     print("explain", |replay| {
         explain(&replay.trace, &replay.answers, &replay.run, &replay.view)
-    });
+    })
 }

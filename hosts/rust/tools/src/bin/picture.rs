@@ -3,7 +3,8 @@
 
 use amsulfezd_tools::from_replay::print;
 use amsulfezd_tools::picture::picture;
+use std::process::ExitCode;
 
-fn main() {
-    print("picture", picture);
+fn main() -> ExitCode {
+    print("picture", picture)
 }
