@@ -53,6 +53,7 @@ def is_law(path, has_code):
         "Neighbours.antt",
         "Numbers.antt",
         "Passes.antt",
+        "Shortcut.antt",
         "Stores.antt",
         "Widths.antt",
         "Written.antt",

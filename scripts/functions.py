@@ -34,6 +34,11 @@ NOT_TAKEN = {
     "State::have_token": ASKED,
     "State::transition_offline": "never called: going offline makes a fresh station",
     "State::transition_passive_idle": PASSIVE,
+    "State::transition_claim_token": "the state itself, `ClaimToken true`: `handleLostToken` enters it by `claimTokenOf .. true`",
+    "State::transition_await_data_response": "the state itself, `AwaitDataResponse address held`: `appTransmitOf` enters it",
+    "State::transition_pass_token": "the state itself, `PassToken gap attempt`: `usePassOf`, `statusAnswered`; the resends begin in it",
+    "State::transition_check_token_pass": "the state itself, `CheckTokenPass attempt`: `passSent` enters it",
+    "State::transition_await_status_response": "the state itself, `AwaitStatusResponse current`: `passPollOn` enters it",
     "State::get_listen_token_status_request": SHAPE,
     "State::get_listen_token_collision_count": SHAPE,
     "State::get_active_idle_status_request": SHAPE,
@@ -54,7 +59,7 @@ NOT_TAKEN = {
     "FdlActiveStation::inspect_token_ring": ASKED,
     "PollDone::with_events": "the events of a poll are fields of its answer",
     "PollResult::from": "the events of a poll are fields of its answer",
-    "return_if_done!": "an early return: a definition has a case for it (`..After`)",
+    "return_if_done!": "an early return: a definition has a case for it",
     "Parameters::debug_assert_consistency": "a check of debug builds: the check of a whole record covers it",
 }
 

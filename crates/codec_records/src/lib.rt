@@ -3,9 +3,10 @@
 // is total on every slice and none reads or writes past its end. It leans on codec_fields for the bits and on codec_telegrams and codec_decisions for the
 // words.
 ghost use mathlib.Core.Path.{_≡_};
-ghost use Prim.Native.Nat.{_+_, _*_, _<_};
+ghost use Prim.Native.Nat.{_+_, _*_};
 ghost use Rattle.codec_fields.specs.Fields.{bitNumber};
-ghost use Rattle.codec_records.specs.Records.{headOf, entryRefusal, wordsRefusal, recordRefusal, decisionAt, telegramAt, headWord, headStored, decisionStored, telegramStored};
+ghost use Rattle.codec_records.specs.Records.{headOf, recordRefusal, decisionAt, telegramAt, headWord, headStored, decisionStored, telegramStored};
+ghost use Rattle.codec_records.specs.Shortcut.{decisionsRefusal, entriesRefusal};
 use codec_decisions::Decision;
 use codec_decisions::decision_refusal;
 use codec_decisions::read_decision;
@@ -85,30 +86,41 @@ pub fn telegram(bytes: &[u8], applications: u8, index: u8) -> Telegram
     read_telegram(load(bytes, at, 4))
 }
 
-// The refusal of an entry: of a decision, and after the decisions of a telegram.
-fn entry_refusal(bytes: &[u8], applications: u8, entry: usize) -> u8
-    requires { ⌜ entry < 1024 ⌝ }
-    ensures { λ r. ⌜ r ≡ entryRefusal (now (bytes .entry)) applications entry ⌝ }
+// The first refusal of an application's two decisions. Most decline, and six zero bytes are not read bit by bit. Bytes that are not
+// there count as zero: record_refusal tests the length before.
+fn decisions_refusal(bytes: &[u8], application: u8) -> u8
+    ensures { λ r. ⌜ r ≡ decisionsRefusal (now (bytes .entry)) application ⌝ }
 {
-    let n = applications as usize;
-    if entry < 2 * n {
-        return decision_refusal(load(bytes, 8 + 3 * entry, 3));
+    let at = decision_place(application, false);
+    if load(bytes, at, 6) == 0 {
+        return 0;
     }
-    telegram_refusal(load(bytes, 8 + 6 * n + 4 * (entry - 2 * n), 4))
+    let number = decision_refusal(load(bytes, at, 3));
+    if number != 0 {
+        return number;
+    }
+    decision_refusal(load(bytes, decision_place(application, true), 3))
 }
 
-// The first refusal among a record's entries from the left.
+// The first refusal among a record's entries from the left: the decisions, then the telegrams.
 fn entries_refusal(bytes: &[u8], applications: u8, telegrams: u8) -> u8
-    ensures { λ r. ⌜ r ≡ wordsRefusal (entryRefusal (now (bytes .entry)) applications) (2 * applications + telegrams) ⌝ }
+    ensures { λ r. ⌜ r ≡ entriesRefusal (now (bytes .entry)) applications telegrams ⌝ }
 {
-    let n = 2 * (applications as usize) + telegrams as usize;
-    let mut entry: usize = 0;
-    while entry < n {
-        let number = entry_refusal(bytes, applications, entry);
+    let mut application: u8 = 0;
+    while application < applications {
+        let number = decisions_refusal(bytes, application);
         if number != 0 {
             return number;
         }
-        entry += 1;
+        application += 1;
+    }
+    let mut index: u8 = 0;
+    while index < telegrams {
+        let number = telegram_refusal(load(bytes, telegram_place(applications, index), 4));
+        if number != 0 {
+            return number;
+        }
+        index += 1;
     }
     0
 }

@@ -7,7 +7,6 @@ use libc::STDIN_FILENO;
 use libc::STDOUT_FILENO;
 use settings::Created;
 use settings::Parameters;
-use station::Started;
 use station::Station;
 use station_answer::Polled;
 
@@ -51,12 +50,13 @@ fn main() {
         io::write_all(STDOUT_FILENO, b"run_polls: the first byte is no address\n");
         return;
     };
-    let Started::Accepted(fresh) = Station::new(p, space[1]) else {
+    let started = Station::new(p, space[1]);
+    if started.refusal != 0 {
         io::write_all(
             STDOUT_FILENO,
             b"run_polls: the second byte is no number of applications\n",
         );
         return;
-    };
-    run(fresh, &space[..n]);
+    }
+    run(started.station, &space[..n]);
 }

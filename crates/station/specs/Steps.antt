@@ -1,5 +1,8 @@
--- What every state leans on, nearly in the order of active.rs: transitions, bus activity, the pause, sending, the slot.
--- transition_offline, which the Rust never calls, and transition_passive_idle are not taken.
+-- What every state leans on, nearly in the order of active.rs: transitions, bus activity, the pause, sending, the slot. A step takes
+-- what its state holds and gives the new state. A transition is that state: the three that clear what it holds have a name here;
+-- transition_claim_token is ClaimToken true, transition_await_data_response AwaitDataResponse, transition_pass_token PassToken,
+-- transition_check_token_pass CheckTokenPass, transition_await_status_response AwaitStatusResponse. transition_offline, which the
+-- Rust never calls, and transition_passive_idle are not taken.
 use Prim.Native.Nat.{ℕ, _+_, _*_}
 use mathlib.Core.Bool.{Bool, true, false, cond}
 use lib.Dec.{ltb, leb, eqb}
@@ -18,52 +21,31 @@ use Rattle.station.specs.declared.OptionAddress.the-variants as optionAd
 use Rattle.station.specs.declared.OptionApplication.the-variants as optionApplication
 use Rattle.station.specs.declared.Activity.{Activity}
 use Rattle.station.specs.declared.Activity.the-variants as activity
-use Rattle.station.specs.declared.PassTokenAttempt.{PassTokenAttempt}
 use Rattle.station.specs.declared.UseTokenData.{UseTokenData}
 use Rattle.station.specs.declared.State.{State}
-use Rattle.station.specs.declared.State.the-variants.{ListenToken, ActiveIdle, UseToken, ClaimToken, AwaitDataResponse, PassToken, CheckTokenPass, AwaitStatusResponse}
+use Rattle.station.specs.declared.State.the-variants.{ListenToken, ActiveIdle, UseToken}
 use Rattle.station.specs.declared.Core.{Core}
 use Rattle.station.specs.declared.Waited.{Waited}
 use Rattle.station.specs.declared.Step.{Step}
 use Rattle.station.specs.declared.RingStep.{RingStep}
 use Rattle.station.specs.declared.Heard.{Heard}
-use Rattle.station.specs.Parts.{withState, withActivity, withPending}
+use Rattle.station.specs.Parts.{withActivity, withPending}
 
 -- UseTokenData::with_token_time: a new token has no first application
 unfoldable pub withTokenTime : Micros → UseTokenData
 withTokenTime now = record { «token_time» = now; «first_app» = optionApplication.None }
 
 -- State::transition_listen_token
-unfoldable pub toListenToken : Core → Core
-toListenToken c = withState c (ListenToken optionAddress.None 0)
+abbrev pub toListenToken : State
+toListenToken = ListenToken optionAddress.None 0
 
 -- State::transition_active_idle: it clears request, predecessor and collisions. While in ActiveIdle nothing else clears a remembered predecessor
-unfoldable pub toActiveIdle : Core → Core
-toActiveIdle c = withState c (ActiveIdle optionAddress.None optionAddress.None 0)
+abbrev pub toActiveIdle : State
+toActiveIdle = ActiveIdle optionAddress.None optionAddress.None 0
 
--- State::transition_use_token
-unfoldable pub toUseToken : Core → UseTokenData → Core
-toUseToken c held = withState c (UseToken held false)
-
--- State::transition_claim_token
-unfoldable pub toClaimToken : Core → Core
-toClaimToken c = withState c (ClaimToken true)
-
--- State::transition_await_data_response
-unfoldable pub toAwaitDataResponse : Core → ℕ → UseTokenData → Core
-toAwaitDataResponse c a held = withState c (AwaitDataResponse a held)
-
--- State::transition_pass_token
-unfoldable pub toPassToken : Core → Bool → PassTokenAttempt → Core
-toPassToken c gap attempt = withState c (PassToken gap attempt)
-
--- State::transition_check_token_pass
-unfoldable pub toCheckTokenPass : Core → PassTokenAttempt → Core
-toCheckTokenPass c attempt = withState c (CheckTokenPass attempt)
-
--- State::transition_await_status_response
-unfoldable pub toAwaitStatusResponse : Core → ℕ → Core
-toAwaitStatusResponse c a = withState c (AwaitStatusResponse a)
+-- State::transition_use_token, with a token that came now (with one that was kept the state is UseToken true)
+abbrev pub toUseToken : Micros → State
+toUseToken now = UseToken false (withTokenTime now)
 
 -- last_bus_activity.get_or_insert(now): the known activity, or now where none is known
 unfoldable pub knownAt : Activity → Micros → Micros
@@ -87,13 +69,15 @@ busyOf (activity.At last) now = leb (now .0) (last .0)
 unfoldable pub ongoingOf : Activity → Micros → Bool → Bool
 ongoingOf a now transmitting = cond transmitting true (busyOf a now)
 
--- the last activity, and whether a time has passed since
-abbrev pub waitedOf : Activity → Micros → Micros → Waited
-waitedOf a now time = record { last = knownAt a now; over = elapsedOf now (knownAt a now) time }
+-- what asking whether a time has passed does: the last activity is known from then on; and whether the time has passed since
+unfoldable pub waitedOf : Core → Micros → Micros → Waited
+waitedOf c now time =
+    let last = knownAt (c .«last_bus_activity») now in
+    record { core = withActivity c (activity.At last); over = elapsedOf now last time }
 
 -- wait_synchronization_pause: 33 bits
-unfoldable pub pauseOf : Parameters → Activity → Micros → Waited
-pauseOf p a now = waitedOf a now (timeOf (record { 0 = pauseBits }) (p .baudrate))
+unfoldable pub pauseOf : Parameters → Core → Micros → Waited
+pauseOf p c now = waitedOf c now (timeOf (record { 0 = pauseBits }) (p .baudrate))
 
 -- mark_tx: sending n bytes sets last activity to now + time of 11n bits
 unfoldable pub sentAt : Parameters → Micros → ℕ → Activity
@@ -109,26 +93,30 @@ unfoldable pub rxOf : Core → Micros → Core
 rxOf c now = withActivity (withPending c 0) (markedAt (c .«last_bus_activity») now)
 
 -- check_slot_expired: the slot time
-unfoldable pub slotExpiredOf : Parameters → Activity → Micros → Waited
-slotExpiredOf p a now = waitedOf a now (slotTimeOf p)
+unfoldable pub slotExpiredOf : Parameters → Core → Micros → Waited
+slotExpiredOf p c now = waitedOf c now (slotTimeOf p)
 
 -- handle_lost_token, its test: the time of slot bits × (6 + 2 × address)
-unfoldable pub tokenLostWaitOf : Parameters → Activity → Micros → Waited
-tokenLostWaitOf p a now = waitedOf a now (tokenLostOf p)
+unfoldable pub tokenLostWaitOf : Parameters → Core → Micros → Waited
+tokenLostWaitOf p c now = waitedOf c now (tokenLostOf p)
 
 -- PollDone::waiting_for_transmission, PollDone::waiting_for_bus, PollDone::waiting_for_delay, PollDone::offline, by the outcome: a
 -- step that sends, tells and consumes nothing
-unfoldable pub doneOf : Core → Outcome → Step
-doneOf c o = record { core = c; sent = sent.Nothing; notice = notice.NoNotice; outcome = o; consumed = 0 }
+unfoldable pub doneOf : State → Core → Outcome → Step
+doneOf s c o = record { state = s; core = c; sent = sent.Nothing; notice = notice.NoNotice; outcome = o; consumed = 0 }
 
 -- mark_tx, in a step that sends: the bytes of what is sent
-unfoldable pub transmitOf : Parameters → Core → Micros → Sent → Step
-transmitOf p c now x =
-    record { core = withActivity c (sentAt p now (sentBytes x)); sent = x; notice = notice.NoNotice; outcome = outcome.Transmission; consumed = 0 }
+unfoldable pub transmitOf : Parameters → State → Core → Micros → Sent → Step
+transmitOf p s c now x =
+    record { state = s; core = withActivity c (sentAt p now (sentBytes x)); sent = x; notice = notice.NoNotice; outcome = outcome.Transmission; consumed = 0 }
+
+-- a step and the ring that it leaves
+abbrev pub ringStepOf : Step → Ring → RingStep
+ringStepOf s ring = record { step = s; ring = ring }
 
 -- what the telegrams of a poll have led to
-unfoldable pub heardOf : Core → Ring → Outcome → Heard
-heardOf c ring o = record { core = c; ring = ring; outcome = o }
+unfoldable pub heardOf : State → Core → Ring → Outcome → Heard
+heardOf s c ring o = record { state = s; core = c; ring = ring; outcome = o }
 
 -- do_listen_token and handle_telegram: a status request, to us, that is the last telegram of its poll
 unfoldable pub lastRequestToUs : ℕ → ℕ → Bool → Bool → Bool

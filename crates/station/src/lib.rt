@@ -3,11 +3,12 @@
 // bit_times, settings and ring, and on codec_answers and codec_telegrams for what a step reports.
 //
 // A step takes the settings, which never change, the part of the station that it may change (`Core`, and the ring where
-// it needs it) and the clock, and hands back that part with what the poll came to.
+// it needs it), the clock and what its own state holds, and hands back the new state beside that part, with what the poll
+// came to. The state stands in no other part: no step can be handed two states that differ.
 ghost use mathlib.Core.Path.{_≡_};
 ghost use Prim.Native.Nat.{_<_, _^_};
-ghost use Rattle.station.specs.Parts.{withState, withActivity, withPending, withGap, withTokenTimes, withNextApplication, withOnline, stateNumber, freshCore, newStation};
-ghost use Rattle.station.specs.Steps.{toListenToken, toActiveIdle, toUseToken, toClaimToken, toAwaitDataResponse, toPassToken, toCheckTokenPass, toAwaitStatusResponse, withTokenTime, knownAt, elapsedOf, markedAt, ongoingOf, pauseOf, sentAt, busActivityOf, rxOf, slotExpiredOf, tokenLostWaitOf, doneOf, transmitOf, heardOf, lastRequestToUs};
+ghost use Rattle.station.specs.Parts.{withActivity, withPending, withGap, withTokenTimes, withNextApplication, withOnline, stateNumber, freshCore, newStation};
+ghost use Rattle.station.specs.Steps.{withTokenTime, toListenToken, toActiveIdle, toUseToken, knownAt, elapsedOf, markedAt, ongoingOf, waitedOf, pauseOf, sentAt, busActivityOf, rxOf, slotExpiredOf, tokenLostWaitOf, doneOf, transmitOf, heardOf, lastRequestToUs};
 use bit_times::Bits;
 use bit_times::Micros;
 use codec_answers::Notice;
@@ -60,9 +61,10 @@ pub enum State {
         new_previous_station: OptionAddress,
         collision_count: u8,
     },
+    // The flag comes first: it then stands beside the kind, and a state has 24 bytes.
     UseToken {
-        data: UseTokenData,
         first_cycle_done: bool,
+        data: UseTokenData,
     },
     ClaimToken {
         first: bool,
@@ -83,19 +85,11 @@ pub enum State {
     },
 }
 
-// The end of the token hold time, which may lie below zero: `from + span - less`.
-pub struct HoldEnd {
-    pub from: Micros,
-    pub span: Micros,
-    pub less: Micros,
-}
-
-// What a poll may change besides the ring, with FdlActiveStation's names. `online` is its connectivity state.
+// What a poll may change besides the state and the ring, with FdlActiveStation's names. `online` is its connectivity state.
 pub struct Core {
     pub last_token_time: Micros,
-    pub end_token_hold_time: HoldEnd,
+    pub end_token_hold_time: Micros,
     pub last_bus_activity: Activity,
-    pub state: State,
     pub gap_state: GapState,
     pub pending_bytes: u16,
     pub next_application: u8,
@@ -104,27 +98,29 @@ pub struct Core {
 
 // FdlActiveStation, and the number of applications, which is fixed for life.
 pub struct Station {
+    pub state: State,
     pub core: Core,
     pub token_ring: Ring,
     pub p: Parameters,
     pub applications: u8,
 }
 
-// A new station, or the refusal's number and no station.
-pub enum Started {
-    Accepted(Station),
-    Refused(u8),
+// A new station, or the refusal's number: 0 where there is none. Of a refused one the station is not to be used.
+pub struct Started {
+    pub station: Station,
+    pub refusal: u8,
 }
 
-// How long the bus has been quiet: the last activity, which is now where none was known, and whether the time asked for
-// has passed since.
+// What asking for a time of quiet came to: the core, whose last activity is now where none was known, and whether the time
+// has passed since the last activity.
 pub struct Waited {
-    pub last: Micros,
+    pub core: Core,
     pub over: bool,
 }
 
-// What a step came to: the part that it changed, what it sent and told, and how the poll ended.
+// What a step came to: the new state, the part that it changed, what it sent and told, and how the poll ended.
 pub struct Step {
+    pub state: State,
     pub core: Core,
     pub sent: Sent,
     pub notice: Notice,
@@ -140,6 +136,7 @@ pub struct RingStep {
 
 // What the telegrams of a poll have led to so far.
 pub struct Heard {
+    pub state: State,
     pub core: Core,
     pub ring: Ring,
     pub outcome: Outcome,
@@ -147,39 +144,17 @@ pub struct Heard {
 
 // One part changed.
 
-// The same but for the state.
-pub fn with_state(core: Core, state: State) -> Core
-    ensures { λ r. ⌜ r ≡ withState core state ⌝ }
-{
-    let last_token_time = core.last_token_time;
-    let end_token_hold_time = core.end_token_hold_time;
-    let last_bus_activity = core.last_bus_activity;
-    let gap_state = core.gap_state;
-    Core {
-        last_token_time,
-        end_token_hold_time,
-        last_bus_activity,
-        state,
-        gap_state,
-        pending_bytes: core.pending_bytes,
-        next_application: core.next_application,
-        online: core.online,
-    }
-}
-
 // The same but for the last bus activity.
 pub fn with_activity(core: Core, activity: Activity) -> Core
     ensures { λ r. ⌜ r ≡ withActivity core activity ⌝ }
 {
     let last_token_time = core.last_token_time;
     let end_token_hold_time = core.end_token_hold_time;
-    let state = core.state;
     let gap_state = core.gap_state;
     Core {
         last_token_time,
         end_token_hold_time,
         last_bus_activity: activity,
-        state,
         gap_state,
         pending_bytes: core.pending_bytes,
         next_application: core.next_application,
@@ -194,12 +169,10 @@ pub fn with_gap(core: Core, gap: GapState) -> Core
     let last_token_time = core.last_token_time;
     let end_token_hold_time = core.end_token_hold_time;
     let last_bus_activity = core.last_bus_activity;
-    let state = core.state;
     Core {
         last_token_time,
         end_token_hold_time,
         last_bus_activity,
-        state,
         gap_state: gap,
         pending_bytes: core.pending_bytes,
         next_application: core.next_application,
@@ -208,7 +181,7 @@ pub fn with_gap(core: Core, gap: GapState) -> Core
 }
 
 // The same but for the pending bytes.
-pub fn with_pending(mut core: Core, pending: u16) -> Core
+fn with_pending(mut core: Core, pending: u16) -> Core
     ensures { λ r. ⌜ r ≡ withPending core pending ⌝ }
 {
     core.pending_bytes = pending;
@@ -216,7 +189,7 @@ pub fn with_pending(mut core: Core, pending: u16) -> Core
 }
 
 // The same but for the last token time and the end of the hold time.
-pub fn with_token_times(mut core: Core, token: Micros, hold: HoldEnd) -> Core
+pub fn with_token_times(mut core: Core, token: Micros, hold: Micros) -> Core
     ensures { λ r. ⌜ r ≡ withTokenTimes core token hold ⌝ }
 {
     core.last_token_time = token;
@@ -257,85 +230,12 @@ pub fn state_number(state: State) -> u8
     }
 }
 
-// The transitions of State.
-
-// transition_listen_token.
-pub fn transition_listen_token(core: Core) -> Core
-    ensures { λ r. ⌜ r ≡ toListenToken core ⌝ }
-{
-    with_state(
-        core,
-        State::ListenToken {
-            status_request: OptionAddress::None,
-            collision_count: 0,
-        },
-    )
-}
-
-// transition_active_idle.
-pub fn transition_active_idle(core: Core) -> Core
-    ensures { λ r. ⌜ r ≡ toActiveIdle core ⌝ }
-{
-    with_state(
-        core,
-        State::ActiveIdle {
-            status_request: OptionAddress::None,
-            new_previous_station: OptionAddress::None,
-            collision_count: 0,
-        },
-    )
-}
-
-// transition_use_token.
-pub fn transition_use_token(core: Core, data: UseTokenData) -> Core
-    ensures { λ r. ⌜ r ≡ toUseToken core «data» ⌝ }
-{
-    with_state(
-        core,
-        State::UseToken {
-            data,
-            first_cycle_done: false,
-        },
-    )
-}
-
-// transition_claim_token.
-pub fn transition_claim_token(core: Core) -> Core
-    ensures { λ r. ⌜ r ≡ toClaimToken core ⌝ }
-{
-    with_state(core, State::ClaimToken { first: true })
-}
-
-// transition_await_data_response.
-pub fn transition_await_data_response(core: Core, address: u8, data: UseTokenData) -> Core
-    ensures { λ r. ⌜ r ≡ toAwaitDataResponse core address «data» ⌝ }
-{
-    with_state(core, State::AwaitDataResponse { address, data })
-}
-
-// transition_pass_token.
-pub fn transition_pass_token(core: Core, do_gap: bool, attempt: PassTokenAttempt) -> Core
-    ensures { λ r. ⌜ r ≡ toPassToken core «do_gap» attempt ⌝ }
-{
-    with_state(core, State::PassToken { do_gap, attempt })
-}
-
-// transition_check_token_pass.
-pub fn transition_check_token_pass(core: Core, attempt: PassTokenAttempt) -> Core
-    ensures { λ r. ⌜ r ≡ toCheckTokenPass core attempt ⌝ }
-{
-    with_state(core, State::CheckTokenPass { attempt })
-}
-
-// transition_await_status_response.
-pub fn transition_await_status_response(core: Core, address: u8) -> Core
-    ensures { λ r. ⌜ r ≡ toAwaitStatusResponse core address ⌝ }
-{
-    with_state(core, State::AwaitStatusResponse { address })
-}
+// The transitions of State that clear what the new state holds, or all but the token's time. Each of the others
+// (transition_claim_token, transition_await_data_response, transition_pass_token, transition_check_token_pass,
+// transition_await_status_response) is the state itself, written where it is entered.
 
 // UseTokenData::with_token_time.
-pub fn with_token_time(now: Micros) -> UseTokenData
+fn with_token_time(now: Micros) -> UseTokenData
     ensures { λ r. ⌜ r ≡ withTokenTime now ⌝ }
 {
     UseTokenData {
@@ -344,21 +244,47 @@ pub fn with_token_time(now: Micros) -> UseTokenData
     }
 }
 
+// transition_listen_token.
+pub fn transition_listen_token() -> State
+    ensures { λ r. ⌜ r ≡ toListenToken ⌝ }
+{
+    State::ListenToken {
+        status_request: OptionAddress::None,
+        collision_count: 0,
+    }
+}
+
+// transition_active_idle.
+pub fn transition_active_idle() -> State
+    ensures { λ r. ⌜ r ≡ toActiveIdle ⌝ }
+{
+    State::ActiveIdle {
+        status_request: OptionAddress::None,
+        new_previous_station: OptionAddress::None,
+        collision_count: 0,
+    }
+}
+
+// transition_use_token, with a token that came now.
+pub fn transition_use_token(now: Micros) -> State
+    ensures { λ r. ⌜ r ≡ toUseToken now ⌝ }
+{
+    State::UseToken {
+        first_cycle_done: false,
+        data: with_token_time(now),
+    }
+}
+
 // The station.
 
-// FdlActiveStation::new but for the settings and the ring, as document 01 has it: offline, nothing known, the gap waiting.
+// FdlActiveStation::new but for the state, the settings and the ring, as document 01 has it: nothing known, the gap waiting.
 pub fn fresh_core() -> Core
     ensures { λ r. ⌜ r ≡ freshCore ⌝ }
 {
     Core {
         last_token_time: Micros(0),
-        end_token_hold_time: HoldEnd {
-            from: Micros(0),
-            span: Micros(0),
-            less: Micros(0),
-        },
+        end_token_hold_time: Micros(0),
         last_bus_activity: Activity::Unknown,
-        state: State::Offline,
         gap_state: GapState::Waiting { rotation_count: 0 },
         pending_bytes: 0,
         next_application: 0,
@@ -367,27 +293,27 @@ pub fn fresh_core() -> Core
 }
 
 impl Station {
-    // FdlActiveStation::new, for 1 to 8 applications. Refusal 11.
+    // FdlActiveStation::new, for 1 to 8 applications: offline. Refusal 11.
     pub fn new(p: Parameters, applications: u8) -> Started
         ensures { λ r. ⌜ r ≡ newStation p applications ⌝ }
     {
-        let n = settings::applications_refusal(applications);
-        if n != 0 {
-            return Started::Refused(n);
+        Started {
+            station: Station {
+                state: State::Offline,
+                core: fresh_core(),
+                token_ring: Ring::fresh(p.address),
+                p,
+                applications,
+            },
+            refusal: settings::applications_refusal(applications),
         }
-        Started::Accepted(Station {
-            core: fresh_core(),
-            token_ring: Ring::fresh(p.address),
-            p,
-            applications,
-        })
     }
 }
 
 // Times and bus activity.
 
 // last_bus_activity.get_or_insert(now).
-pub fn known(activity: Activity, now: Micros) -> Micros
+fn known(activity: Activity, now: Micros) -> Micros
     ensures { λ r. ⌜ r ≡ knownAt activity now ⌝ }
 {
     match activity {
@@ -430,18 +356,28 @@ pub fn check_for_ongoing_transmission(activity: Activity, now: Micros, transmitt
     }
 }
 
+// The last activity, known from now on, and whether this time has passed since.
+fn wait_for(core: Core, now: Micros, time: Micros) -> Waited
+    ensures { λ r. ⌜ r ≡ waitedOf core now time ⌝ }
+{
+    let activity = core.last_bus_activity;
+    let last = known(activity, now);
+    Waited {
+        core: with_activity(core, Activity::At(last)),
+        over: elapsed(now, last, time),
+    }
+}
+
 // wait_synchronization_pause: 33 bits since the last activity.
-pub fn wait_synchronization_pause(p: Parameters, activity: Activity, now: Micros) -> Waited
-    ensures { λ r. ⌜ r ≡ pauseOf p activity now ⌝ }
+pub fn wait_synchronization_pause(p: Parameters, core: Core, now: Micros) -> Waited
+    ensures { λ r. ⌜ r ≡ pauseOf p core now ⌝ }
 {
     let baud = p.baudrate;
-    let last = known(activity, now);
-    let over = elapsed(now, last, bit_times::time_of(Bits(33), baud));
-    Waited { last, over }
+    wait_for(core, now, bit_times::time_of(Bits(33), baud))
 }
 
 // mark_tx: the bus is busy until the bytes are sent.
-pub fn mark_tx(p: Parameters, now: Micros, bytes: u8) -> Activity
+fn mark_tx(p: Parameters, now: Micros, bytes: u8) -> Activity
     requires { ⌜ now .0 < 2 ^ 48 ⌝ }
     ensures { λ r. ⌜ r ≡ sentAt p now bytes ⌝ }
 {
@@ -473,30 +409,27 @@ pub fn mark_rx(core: Core, now: Micros) -> Core
 }
 
 // check_slot_expired: the slot time since the last activity.
-pub fn check_slot_expired(p: Parameters, activity: Activity, now: Micros) -> Waited
-    ensures { λ r. ⌜ r ≡ slotExpiredOf p activity now ⌝ }
+pub fn check_slot_expired(p: Parameters, core: Core, now: Micros) -> Waited
+    ensures { λ r. ⌜ r ≡ slotExpiredOf p core now ⌝ }
 {
-    let last = known(activity, now);
-    let over = elapsed(now, last, p.slot_time());
-    Waited { last, over }
+    wait_for(core, now, p.slot_time())
 }
 
 // The test of handle_lost_token: the lost-token timeout since the last activity.
-pub fn token_lost(p: Parameters, activity: Activity, now: Micros) -> Waited
-    ensures { λ r. ⌜ r ≡ tokenLostWaitOf p activity now ⌝ }
+pub fn token_lost(p: Parameters, core: Core, now: Micros) -> Waited
+    ensures { λ r. ⌜ r ≡ tokenLostWaitOf p core now ⌝ }
 {
-    let last = known(activity, now);
-    let over = elapsed(now, last, p.token_lost_timeout());
-    Waited { last, over }
+    wait_for(core, now, p.token_lost_timeout())
 }
 
 // How a poll ends.
 
 // PollDone: nothing was sent, told or consumed.
-pub fn done(core: Core, outcome: Outcome) -> Step
-    ensures { λ r. ⌜ r ≡ doneOf core outcome ⌝ }
+pub fn done(state: State, core: Core, outcome: Outcome) -> Step
+    ensures { λ r. ⌜ r ≡ doneOf state core outcome ⌝ }
 {
     Step {
+        state,
         core,
         sent: Sent::Nothing,
         notice: Notice::NoNotice,
@@ -506,12 +439,13 @@ pub fn done(core: Core, outcome: Outcome) -> Step
 }
 
 // mark_tx after a send: the bus is busy until its bytes are out.
-pub fn transmit(p: Parameters, core: Core, now: Micros, sent: Sent) -> Step
+pub fn transmit(p: Parameters, state: State, core: Core, now: Micros, sent: Sent) -> Step
     requires { ⌜ now .0 < 2 ^ 48 ⌝ }
-    ensures { λ r. ⌜ r ≡ transmitOf p core now sent ⌝ }
+    ensures { λ r. ⌜ r ≡ transmitOf p state core now sent ⌝ }
 {
     let bytes = codec_answers::sent_bytes(sent);
     Step {
+        state,
         core: with_activity(core, mark_tx(p, now, bytes)),
         sent,
         notice: Notice::NoNotice,
@@ -521,10 +455,11 @@ pub fn transmit(p: Parameters, core: Core, now: Micros, sent: Sent) -> Step
 }
 
 // What the telegrams of a poll have led to so far, made of its parts.
-pub fn hearing(core: Core, ring: Ring, outcome: Outcome) -> Heard
-    ensures { λ r. ⌜ r ≡ heardOf core ring outcome ⌝ }
+pub fn hearing(state: State, core: Core, ring: Ring, outcome: Outcome) -> Heard
+    ensures { λ r. ⌜ r ≡ heardOf state core ring outcome ⌝ }
 {
     Heard {
+        state,
         core,
         ring,
         outcome,

@@ -15,7 +15,7 @@ stepAnswer s =
     record {
       refusal = 0;
       outcome = s .step .outcome;
-      state = stateNumber (s .step .core .state);
+      state = stateNumber (s .step .state);
       sent = s .step .sent;
       consumed = s .step .consumed;
       notice = s .step .notice;
@@ -26,9 +26,9 @@ stepAnswer s =
 -- the station after a step, and the answer
 unfoldable pub polledOf : Parameters → ℕ → RingStep → Polled
 polledOf p n s =
-    record { station = record { core = s .step .core; «token_ring» = s .ring; p = p; applications = n }; answer = stepAnswer s }
+    record { station = record { state = s .step .state; core = s .step .core; «token_ring» = s .ring; p = p; applications = n }; answer = stepAnswer s }
 
 -- a refused entry: the station is unchanged
 unfoldable pub refusedPoll : Station → ℕ → Polled
 refusedPoll s refusal =
-    record { station = s; answer = refusedAnswer refusal (stateNumber (s .core .state)) (s .core .«next_application») (nextOf (s .«token_ring»)) }
+    record { station = s; answer = refusedAnswer refusal (stateNumber (s .state)) (s .core .«next_application») (nextOf (s .«token_ring»)) }

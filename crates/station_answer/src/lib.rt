@@ -20,7 +20,7 @@ fn answer_of(stepped: RingStep) -> Answer
     let ring = stepped.ring;
     let step = stepped.step;
     let core = step.core;
-    let state = core.state;
+    let state = step.state;
     let outcome = step.outcome;
     let sent = step.sent;
     let notice = step.notice;
@@ -41,10 +41,12 @@ pub fn poll_done(p: Parameters, applications: u8, stepped: RingStep) -> Polled
     ensures { λ r. ⌜ r ≡ polledOf p applications stepped ⌝ }
 {
     let step = stepped.step;
+    let state = step.state;
     let core = step.core;
     let token_ring = stepped.ring;
     Polled {
         station: Station {
+            state,
             core,
             token_ring,
             p,
@@ -59,7 +61,7 @@ pub fn refused(station: Station, refusal: u8) -> Polled
     ensures { λ r. ⌜ r ≡ refusedPoll station refusal ⌝ }
 {
     let core = station.core;
-    let state = core.state;
+    let state = station.state;
     let ring = station.token_ring;
     let answer = codec_answers::refused_answer(
         refusal,

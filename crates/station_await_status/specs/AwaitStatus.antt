@@ -15,13 +15,11 @@ use Rattle.codec_records.specs.Records.{telegramAt}
 use Rattle.codec_answers.specs.declared.Outcome.the-variants as outcome
 use Rattle.codec_answers.specs.declared.Sent.the-variants as sent
 use Rattle.codec_answers.specs.declared.Notice.the-variants as notice
-use Rattle.station.specs.declared.Activity.the-variants as activity
 use Rattle.station.specs.declared.PassTokenAttempt.the-variants.{First}
+use Rattle.station.specs.declared.State.the-variants.{PassToken, AwaitStatusResponse}
 use Rattle.station.specs.declared.Core.{Core}
-use Rattle.station.specs.declared.Waited.{Waited}
 use Rattle.station.specs.declared.RingStep.{RingStep}
-use Rattle.station.specs.Parts.{withActivity}
-use Rattle.station.specs.Steps.{toActiveIdle, toPassToken, rxOf, slotExpiredOf, doneOf}
+use Rattle.station.specs.Steps.{toActiveIdle, rxOf, slotExpiredOf, doneOf, ringStepOf}
 use Rattle.station_pass.specs.Pass.{passTokenOf}
 
 -- do_await_status_response: masters without token and in the ring come into the ring
@@ -38,12 +36,12 @@ statusRing ring address state status = cond (eqb status 0) (statusRingOn state r
 -- do_await_status_response: the awaited answer: to PassToken, without gap question; the pass itself is the next poll's
 unfoldable pub statusAnswered : Core → Ring → RingStep
 statusAnswered c ring =
-    record { step = record { core = toPassToken c false First; sent = sent.Nothing; notice = notice.NoNotice; outcome = outcome.Delay; consumed = 1 }; ring = ring }
+    ringStepOf (record { state = PassToken false First; core = c; sent = sent.Nothing; notice = notice.NoNotice; outcome = outcome.Delay; consumed = 1 }) ring
 
 -- do_await_status_response: anything else leads to ActiveIdle
 unfoldable pub statusUnexpected : Core → Ring → RingStep
 statusUnexpected c ring =
-    record { step = record { core = toActiveIdle c; sent = sent.Nothing; notice = notice.NoNotice; outcome = outcome.Bus; consumed = 1 }; ring = ring }
+    ringStepOf (record { state = toActiveIdle; core = c; sent = sent.Nothing; notice = notice.NoNotice; outcome = outcome.Bus; consumed = 1 }) ring
 
 -- do_await_status_response: a telegram came; awaited is a response to us from the station that was asked
 unfoldable pub statusReceived : Parameters → Core → Ring → ℕ → Telegram → RingStep
@@ -55,18 +53,9 @@ statusReceived p c ring address (telegram.Response destination source state stat
     (cond (eqb destination (p .address)) (statusAnswered c (statusRing ring address state status)) (statusUnexpected c ring))
     (statusUnexpected c ring)
 
--- do_await_status_response: no answer in time: the token is passed on at once
-unfoldable pub statusTimeout : Parameters → Core → Ring → Micros → RingStep
-statusTimeout p c ring now = passTokenOf p (toPassToken c false First) ring now false First
-
--- do_await_status_response, with no telegram, once the slot is known
-unfoldable pub awaitStatusAfter : Parameters → Core → Ring → Micros → Waited → RingStep
-awaitStatusAfter p c ring now slot =
-    let waited = withActivity c (activity.At (slot .last)) in
-    cond (slot .over) (statusTimeout p waited ring now) (record { step = doneOf waited outcome.Bus; ring = ring })
-
--- do_await_status_response: only the first telegram is looked at
+-- do_await_status_response: only the first telegram is looked at; with no answer in time the token is passed on at once
 unfoldable pub awaitStatusOf : Parameters → Core → Ring → Micros → ℕ → List ℕ → ℕ → ℕ → RingStep
 awaitStatusOf p c ring now address bytes n count =
     cond (ltb 0 count) (statusReceived p (rxOf c now) ring address (telegramAt bytes n 0))
-    (awaitStatusAfter p c ring now (slotExpiredOf p (c .«last_bus_activity») now))
+    (let slot = slotExpiredOf p c now in
+    cond (slot .over) (passTokenOf p (slot .core) ring now false First) (ringStepOf (doneOf (AwaitStatusResponse address) (slot .core) outcome.Bus) ring))

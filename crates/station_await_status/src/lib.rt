@@ -4,7 +4,7 @@
 ghost use mathlib.Core.Path.{_≡_};
 ghost use Prim.Native.Nat.{_<_, _^_};
 ghost use denote.Ref.{now as contents};
-ghost use Rattle.station_await_status.specs.AwaitStatus.{statusRing, statusAnswered, statusUnexpected, statusReceived, statusTimeout, awaitStatusOf};
+ghost use Rattle.station_await_status.specs.AwaitStatus.{statusRing, statusAnswered, statusUnexpected, statusReceived, awaitStatusOf};
 use bit_times::Micros;
 use codec_answers::Notice;
 use codec_answers::Outcome;
@@ -13,10 +13,10 @@ use codec_telegrams::ResponseState;
 use codec_telegrams::Telegram;
 use ring::Ring;
 use settings::Parameters;
-use station::Activity;
 use station::Core;
 use station::PassTokenAttempt;
 use station::RingStep;
+use station::State;
 use station::Step;
 
 // do_await_status_response: a master that is ready for the token, or has it at times, is the next station from now on.
@@ -40,7 +40,11 @@ fn do_await_status_response_answered(core: Core, ring: Ring) -> RingStep
 {
     RingStep {
         step: Step {
-            core: station::transition_pass_token(core, false, PassTokenAttempt::First),
+            state: State::PassToken {
+                do_gap: false,
+                attempt: PassTokenAttempt::First,
+            },
+            core,
             sent: Sent::Nothing,
             notice: Notice::NoNotice,
             outcome: Outcome::Delay,
@@ -56,7 +60,8 @@ fn do_await_status_response_unexpected(core: Core, ring: Ring) -> RingStep
 {
     RingStep {
         step: Step {
-            core: station::transition_active_idle(core),
+            state: station::transition_active_idle(),
+            core,
             sent: Sent::Nothing,
             notice: Notice::NoNotice,
             outcome: Outcome::Bus,
@@ -103,22 +108,8 @@ fn do_await_status_response_received(
     }
 }
 
-// do_await_status_response: no answer came in time. The bus is free, so the token is passed on at once.
-fn do_await_status_response_timeout(p: Parameters, core: Core, ring: Ring, now: Micros) -> RingStep
-    requires { ⌜ now .0 < 2 ^ 48 ⌝ }
-    ensures { λ r. ⌜ r ≡ statusTimeout p core ring now ⌝ }
-{
-    station_pass::do_pass_token(
-        p,
-        station::transition_pass_token(core, false, PassTokenAttempt::First),
-        ring,
-        now,
-        false,
-        PassTokenAttempt::First,
-    )
-}
-
-// do_await_status_response: only the first telegram is looked at.
+// do_await_status_response: only the first telegram is looked at. With no answer in time the bus is free, and the token is passed on
+// at once.
 pub fn do_await_status_response(
     p: Parameters,
     core: Core,
@@ -137,15 +128,13 @@ pub fn do_await_status_response(
         let marked = station::mark_rx(core, now);
         return do_await_status_response_received(p, marked, ring, address, telegram);
     }
-    let activity = core.last_bus_activity;
-    let slot = station::check_slot_expired(p, activity, now);
-    let last = slot.last;
-    let waited = station::with_activity(core, Activity::At(last));
+    let slot = station::check_slot_expired(p, core, now);
+    let waited = slot.core;
     if slot.over {
-        return do_await_status_response_timeout(p, waited, ring, now);
+        return station_pass::do_pass_token(p, waited, ring, now, false, PassTokenAttempt::First);
     }
     RingStep {
-        step: station::done(waited, Outcome::Bus),
+        step: station::done(State::AwaitStatusResponse { address }, waited, Outcome::Bus),
         ring,
     }
 }

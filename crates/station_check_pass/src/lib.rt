@@ -9,10 +9,10 @@ use bit_times::Micros;
 use codec_answers::Outcome;
 use ring::Ring;
 use settings::Parameters;
-use station::Activity;
 use station::Core;
 use station::PassTokenAttempt;
 use station::RingStep;
+use station::State;
 
 // do_check_token_pass: the token was not taken up. It is sent again at once; after the third attempt the next station is
 // taken out of the ring, and the one behind it is tried.
@@ -29,7 +29,7 @@ fn do_check_token_pass_resend(
     match attempt {
         PassTokenAttempt::First => station_pass::do_pass_token(
             p,
-            station::transition_pass_token(core, false, PassTokenAttempt::Second),
+            core,
             ring,
             now,
             false,
@@ -37,7 +37,7 @@ fn do_check_token_pass_resend(
         ),
         PassTokenAttempt::Second => station_pass::do_pass_token(
             p,
-            station::transition_pass_token(core, false, PassTokenAttempt::Third),
+            core,
             ring,
             now,
             false,
@@ -45,7 +45,7 @@ fn do_check_token_pass_resend(
         ),
         PassTokenAttempt::Third => station_pass::do_pass_token(
             p,
-            station::transition_pass_token(core, false, PassTokenAttempt::First),
+            core,
             ring.remove_station(ring.next_station()),
             now,
             false,
@@ -60,17 +60,19 @@ fn do_check_token_pass_received(
     core: Core,
     ring: Ring,
     now: Micros,
+    attempt: PassTokenAttempt,
     bytes: &[u8],
     applications: u8,
     telegrams: u8,
 ) -> RingStep
-    ensures { λ r. ⌜ r ≡ checkReceived p core ring now (contents (bytes .entry)) applications telegrams ⌝ }
+    ensures { λ r. ⌜ r ≡ checkReceived p core ring now attempt (contents (bytes .entry)) applications telegrams ⌝ }
 {
     if 0 < telegrams {
-        let idle = station::transition_active_idle(core);
+        let idle = station::transition_active_idle();
         let all = station_listen::receive_all_telegrams(
             p,
             idle,
+            core,
             ring,
             now,
             false,
@@ -81,7 +83,7 @@ fn do_check_token_pass_received(
         return station_listen::consumed_all(all, telegrams);
     }
     RingStep {
-        step: station::done(core, Outcome::Bus),
+        step: station::done(State::CheckTokenPass { attempt }, core, Outcome::Bus),
         ring,
     }
 }
@@ -100,12 +102,19 @@ pub fn do_check_token_pass(
     requires { ⌜ now .0 < 2 ^ 48 ⌝ }
     ensures { λ r. ⌜ r ≡ checkTokenPassOf p core ring now attempt (contents (bytes .entry)) applications telegrams ⌝ }
 {
-    let activity = core.last_bus_activity;
-    let slot = station::check_slot_expired(p, activity, now);
-    let last = slot.last;
-    let waited = station::with_activity(core, Activity::At(last));
+    let slot = station::check_slot_expired(p, core, now);
+    let waited = slot.core;
     if slot.over {
         return do_check_token_pass_resend(p, waited, ring, now, attempt);
     }
-    do_check_token_pass_received(p, waited, ring, now, bytes, applications, telegrams)
+    do_check_token_pass_received(
+        p,
+        waited,
+        ring,
+        now,
+        attempt,
+        bytes,
+        applications,
+        telegrams,
+    )
 }

@@ -8,19 +8,18 @@ use codec_answers::Outcome;
 use codec_answers::Sent;
 use ring::Ring;
 use settings::Parameters;
-use station::Activity;
 use station::Core;
 use station::RingStep;
 use station::State;
 
 // The state after a claiming token: once more, or the token is ours.
-fn claim_next(core: Core, now: Micros, first: bool) -> Core
-    ensures { λ r. ⌜ r ≡ claimNext core now first ⌝ }
+fn claim_next(now: Micros, first: bool) -> State
+    ensures { λ r. ⌜ r ≡ claimNext now first ⌝ }
 {
     if first {
-        return station::with_state(core, State::ClaimToken { first: false });
+        return State::ClaimToken { first: false };
     }
-    station::transition_use_token(core, station::with_token_time(now))
+    station::transition_use_token(now)
 }
 
 // do_claim_token: the token is claimed by sending it to ourselves twice.
@@ -28,20 +27,18 @@ pub fn do_claim_token(p: Parameters, core: Core, ring: Ring, now: Micros, first:
     requires { ⌜ now .0 < 2 ^ 48 ⌝ }
     ensures { λ r. ⌜ r ≡ claimTokenOf p core ring now first ⌝ }
 {
-    let activity = core.last_bus_activity;
-    let pause = station::wait_synchronization_pause(p, activity, now);
-    let last = pause.last;
-    let waited = station::with_activity(core, Activity::At(last));
+    let pause = station::wait_synchronization_pause(p, core, now);
+    let waited = pause.core;
     if pause.over {
-        let next = claim_next(waited, now, first);
+        let next = claim_next(now, first);
         let own = p.address;
         return RingStep {
-            step: station::transmit(p, next, now, Sent::Token { destination: own }),
+            step: station::transmit(p, next, waited, now, Sent::Token { destination: own }),
             ring: ring.claim_token(),
         };
     }
     RingStep {
-        step: station::done(waited, Outcome::Delay),
+        step: station::done(State::ClaimToken { first }, waited, Outcome::Delay),
         ring,
     }
 }

@@ -5,6 +5,7 @@ ghost use Rattle.station_command.specs.Command.{onlineOf, offlineOf, pas
 use codec_answers::Outcome;
 use ring::Ring;
 use station::RingStep;
+use station::State;
 use station::Station;
 use station_answer::Polled;
 use station_answer::poll_done;
@@ -14,11 +15,12 @@ use station_answer::refused;
 pub fn set_online(station: Station) -> Polled
     ensures { λ r. ⌜ r ≡ onlineOf station ⌝ }
 {
+    let state = station.state;
     let core = station.core;
     let ring = station.token_ring;
     let p = station.p;
     let stepped = RingStep {
-        step: station::done(station::with_online(core, true), Outcome::None),
+        step: station::done(state, station::with_online(core, true), Outcome::None),
         ring,
     };
     poll_done(p, station.applications, stepped)
@@ -30,7 +32,7 @@ pub fn set_offline(station: Station) -> Polled
 {
     let p = station.p;
     let stepped = RingStep {
-        step: station::done(station::fresh_core(), Outcome::None),
+        step: station::done(State::Offline, station::fresh_core(), Outcome::None),
         ring: Ring::fresh(p.address),
     };
     poll_done(p, station.applications, stepped)

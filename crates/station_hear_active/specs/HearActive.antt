@@ -1,5 +1,5 @@
 -- One telegram heard in ActiveIdle, in the order of active.rs: handle_telegram. request (status_request),
--- newPreviousStation (new_previous_station) and collisions are the fields of c's state, last whether the telegram is the last of its poll.
+-- newPreviousStation (new_previous_station) and collisions are the fields of the state, last whether the telegram is the last of its poll.
 use Prim.Native.Nat.{ℕ}
 use mathlib.Core.Bool.{Bool, false, cond}
 use lib.Dec.{eqb}
@@ -15,15 +15,14 @@ use Rattle.station.specs.declared.OptionAddress.the-variants as optionAddress
 use Rattle.station.specs.declared.State.{State}
 use Rattle.station.specs.declared.State.the-variants.{Offline, ListenToken, ActiveIdle, UseToken, ClaimToken, AwaitDataResponse, PassToken, CheckTokenPass, AwaitStatusResponse}
 use Rattle.station.specs.declared.Core.{Core}
-use Rattle.station.specs.Parts.{withState}
-use Rattle.station.specs.Steps.{toListenToken, toUseToken, withTokenTime, heardOf, lastRequestToUs}
+use Rattle.station.specs.Steps.{toListenToken, toUseToken, heardOf, lastRequestToUs}
 use Rattle.station.specs.declared.Heard.{Heard}
 
 -- handle_telegram: a token with our own source: the first is counted, the second back to back leads to ListenToken
 unfoldable pub activeCollided : Core → Ring → OptionAddress → OptionAddress → ℕ → Heard
 activeCollided c ring request newPreviousStation collisions =
-    cond (eqb collisions 0) (heardOf (withState c (ActiveIdle request newPreviousStation 1)) ring outcome.Bus)
-    (heardOf (toListenToken c) ring outcome.Bus)
+    cond (eqb collisions 0) (heardOf (ActiveIdle request newPreviousStation 1) c ring outcome.Bus)
+    (heardOf toListenToken c ring outcome.Bus)
 
 -- handle_telegram: is this the remembered station
 unfoldable pub remembers : OptionAddress → ℕ → Bool
@@ -32,7 +31,7 @@ remembers (optionAddress.Some b) a = eqb b a
 
 -- handle_telegram: the token is ours to use
 unfoldable pub acceptedOf : Core → Ring → Micros → Heard
-acceptedOf c ring now = heardOf (toUseToken c (withTokenTime now)) ring outcome.Delay
+acceptedOf c ring now = heardOf (toUseToken now) c ring outcome.Delay
 
 -- handle_telegram: a token to us, last of its poll: accepted from the previous station or the remembered one (only the
 -- remembered one's pass is witnessed); from any other its sender is remembered. Previous is the ring's at this telegram, after the
@@ -41,12 +40,12 @@ unfoldable pub tokenToUs : Core → Ring → Micros → OptionAddress → Option
 tokenToUs c ring now request newPreviousStation destination source =
     cond (eqb source (prevOf ring)) (acceptedOf c ring now)
     (cond (remembers newPreviousStation source) (acceptedOf c (witnessOf ring source destination) now)
-    (heardOf (withState c (ActiveIdle request (optionAddress.Some source) 0)) ring outcome.Bus))
+    (heardOf (ActiveIdle request (optionAddress.Some source) 0) c ring outcome.Bus))
 
 -- handle_telegram: any other token of another station is witnessed, and collisions count from 0 again
 unfoldable pub tokenWitnessed : Core → Ring → OptionAddress → OptionAddress → ℕ → ℕ → Heard
 tokenWitnessed c ring request newPreviousStation destination source =
-    heardOf (withState c (ActiveIdle request newPreviousStation 0)) (witnessOf ring source destination) outcome.Bus
+    heardOf (ActiveIdle request newPreviousStation 0) c (witnessOf ring source destination) outcome.Bus
 
 -- handle_telegram: a token telegram
 unfoldable pub tokenHeard : Parameters → Core → Ring → Micros → OptionAddress → OptionAddress → ℕ → ℕ → ℕ → Bool → Heard
@@ -57,34 +56,32 @@ tokenHeard p c ring now request newPreviousStation collisions destination source
     (tokenWitnessed c ring request newPreviousStation destination source))
 
 -- handle_telegram: a status request to us that is last of its poll is noted
-unfoldable pub activeRequested : Core → Ring → OptionAddress → ℕ → ℕ → Bool → Heard
-activeRequested c ring newPreviousStation collisions source noted =
-    cond noted (heardOf (withState c (ActiveIdle (optionAddress.Some source) newPreviousStation collisions)) ring outcome.Delay)
-    (heardOf c ring outcome.Bus)
+unfoldable pub activeRequested : Core → Ring → OptionAddress → OptionAddress → ℕ → ℕ → Bool → Heard
+activeRequested c ring request newPreviousStation collisions source noted =
+    cond noted (heardOf (ActiveIdle (optionAddress.Some source) newPreviousStation collisions) c ring outcome.Delay)
+    (heardOf (ActiveIdle request newPreviousStation collisions) c ring outcome.Bus)
 
 -- handle_telegram: one telegram, in ActiveIdle
 unfoldable pub activeHeard : Parameters → Core → Ring → Micros → OptionAddress → OptionAddress → ℕ → Telegram → Bool → Heard
 activeHeard p c ring now request newPreviousStation collisions (telegram.Token destination source) last =
     tokenHeard p c ring now request newPreviousStation collisions destination source last
-activeHeard p c ring now request newPreviousStation collisions telegram.ShortConfirmation last = heardOf c ring outcome.Bus
+activeHeard p c ring now request newPreviousStation collisions telegram.ShortConfirmation last =
+    heardOf (ActiveIdle request newPreviousStation collisions) c ring outcome.Bus
 activeHeard p c ring now request newPreviousStation collisions (telegram.Request destination source asks) last =
-    activeRequested c ring newPreviousStation collisions source (lastRequestToUs destination (p .address) asks last)
+    activeRequested c ring request newPreviousStation collisions source (lastRequestToUs destination (p .address) asks last)
 activeHeard p c ring now request newPreviousStation collisions (telegram.Response destination source state status) last =
-    heardOf c ring outcome.Bus
+    heardOf (ActiveIdle request newPreviousStation collisions) c ring outcome.Bus
 
 -- handle_telegram: one telegram; once in ListenToken by collision the rest of the poll only marks activity, and is consumed
-unfoldable pub handleTelegramOn : State → Parameters → Core → Ring → Micros → Telegram → Bool → Heard
-handleTelegramOn Offline p c ring now t last = heardOf c ring outcome.Bus
-handleTelegramOn (ListenToken r k) p c ring now t last = heardOf c ring outcome.Bus
-handleTelegramOn (ActiveIdle request newPreviousStation collisions) p c ring now t last =
+-- (no other state can be here)
+unfoldable pub handleTelegram : Parameters → State → Core → Ring → Micros → Telegram → Bool → Heard
+handleTelegram p Offline c ring now t last = heardOf Offline c ring outcome.Bus
+handleTelegram p (ListenToken r k) c ring now t last = heardOf (ListenToken r k) c ring outcome.Bus
+handleTelegram p (ActiveIdle request newPreviousStation collisions) c ring now t last =
     activeHeard p c ring now request newPreviousStation collisions t last
-handleTelegramOn (UseToken d k) p c ring now t last = heardOf c ring outcome.Bus
-handleTelegramOn (ClaimToken f) p c ring now t last = heardOf c ring outcome.Bus
-handleTelegramOn (AwaitDataResponse a d) p c ring now t last = heardOf c ring outcome.Bus
-handleTelegramOn (PassToken g a) p c ring now t last = heardOf c ring outcome.Bus
-handleTelegramOn (CheckTokenPass a) p c ring now t last = heardOf c ring outcome.Bus
-handleTelegramOn (AwaitStatusResponse a) p c ring now t last = heardOf c ring outcome.Bus
-
--- handle_telegram: one telegram, by the state
-unfoldable pub handleTelegram : Parameters → Core → Ring → Micros → Telegram → Bool → Heard
-handleTelegram p c ring now t last = handleTelegramOn (c .state) p c ring now t last
+handleTelegram p (UseToken k d) c ring now t last = heardOf (UseToken k d) c ring outcome.Bus
+handleTelegram p (ClaimToken f) c ring now t last = heardOf (ClaimToken f) c ring outcome.Bus
+handleTelegram p (AwaitDataResponse a d) c ring now t last = heardOf (AwaitDataResponse a d) c ring outcome.Bus
+handleTelegram p (PassToken g a) c ring now t last = heardOf (PassToken g a) c ring outcome.Bus
+handleTelegram p (CheckTokenPass a) c ring now t last = heardOf (CheckTokenPass a) c ring outcome.Bus
+handleTelegram p (AwaitStatusResponse a) c ring now t last = heardOf (AwaitStatusResponse a) c ring outcome.Bus

@@ -24,19 +24,17 @@ fn handle_telegram_collision(
 {
     if collision_count == 0 {
         return station::hearing(
-            station::with_state(
-                core,
-                State::ActiveIdle {
-                    status_request,
-                    new_previous_station,
-                    collision_count: 1,
-                },
-            ),
+            State::ActiveIdle {
+                status_request,
+                new_previous_station,
+                collision_count: 1,
+            },
+            core,
             ring,
             Outcome::Bus,
         );
     }
-    station::hearing(station::transition_listen_token(core), ring, Outcome::Bus)
+    station::hearing(station::transition_listen_token(), core, ring, Outcome::Bus)
 }
 
 // Is this the remembered address?
@@ -54,7 +52,8 @@ fn handle_telegram_accept(core: Core, ring: Ring, now: Micros) -> Heard
     ensures { λ r. ⌜ r ≡ acceptedOf core ring now ⌝ }
 {
     station::hearing(
-        station::transition_use_token(core, station::with_token_time(now)),
+        station::transition_use_token(now),
+        core,
         ring,
         Outcome::Delay,
     )
@@ -80,14 +79,12 @@ fn handle_telegram_to_us(
         return handle_telegram_accept(core, ring.witness_token_pass(source, destination), now);
     }
     station::hearing(
-        station::with_state(
-            core,
-            State::ActiveIdle {
-                status_request,
-                new_previous_station: OptionAddress::Some(source),
-                collision_count: 0,
-            },
-        ),
+        State::ActiveIdle {
+            status_request,
+            new_previous_station: OptionAddress::Some(source),
+            collision_count: 0,
+        },
+        core,
         ring,
         Outcome::Bus,
     )
@@ -105,14 +102,12 @@ fn handle_telegram_witness(
     ensures { λ r. ⌜ r ≡ tokenWitnessed core ring «status_request» «new_previous_station» destination source ⌝ }
 {
     station::hearing(
-        station::with_state(
-            core,
-            State::ActiveIdle {
-                status_request,
-                new_previous_station,
-                collision_count: 0,
-            },
-        ),
+        State::ActiveIdle {
+            status_request,
+            new_previous_station,
+            collision_count: 0,
+        },
+        core,
         ring.witness_token_pass(source, destination),
         Outcome::Bus,
     )
@@ -177,28 +172,36 @@ fn handle_telegram_token(
 fn handle_telegram_request(
     core: Core,
     ring: Ring,
+    status_request: OptionAddress,
     new_previous_station: OptionAddress,
     collision_count: u8,
     source: u8,
     noted: bool,
 ) -> Heard
-    ensures { λ r. ⌜ r ≡ activeRequested core ring «new_previous_station» «collision_count» source noted ⌝ }
+    ensures { λ r. ⌜ r ≡ activeRequested core ring «status_request» «new_previous_station» «collision_count» source noted ⌝ }
 {
     if noted {
         return station::hearing(
-            station::with_state(
-                core,
-                State::ActiveIdle {
-                    status_request: OptionAddress::Some(source),
-                    new_previous_station,
-                    collision_count,
-                },
-            ),
+            State::ActiveIdle {
+                status_request: OptionAddress::Some(source),
+                new_previous_station,
+                collision_count,
+            },
+            core,
             ring,
             Outcome::Delay,
         );
     }
-    station::hearing(core, ring, Outcome::Bus)
+    station::hearing(
+        State::ActiveIdle {
+            status_request,
+            new_previous_station,
+            collision_count,
+        },
+        core,
+        ring,
+        Outcome::Bus,
+    )
 }
 
 // handle_telegram: one telegram, while in ActiveIdle.
@@ -231,7 +234,16 @@ fn handle_telegram_active(
             source,
             last,
         ),
-        Telegram::ShortConfirmation => station::hearing(core, ring, Outcome::Bus),
+        Telegram::ShortConfirmation => station::hearing(
+            State::ActiveIdle {
+                status_request,
+                new_previous_station,
+                collision_count,
+            },
+            core,
+            ring,
+            Outcome::Bus,
+        ),
         Telegram::Request {
             destination,
             source,
@@ -239,27 +251,37 @@ fn handle_telegram_active(
         } => handle_telegram_request(
             core,
             ring,
+            status_request,
             new_previous_station,
             collision_count,
             source,
             station::is_last_request_to_us(destination, p.address, asks, last),
         ),
-        Telegram::Response { .. } => station::hearing(core, ring, Outcome::Bus),
+        Telegram::Response { .. } => station::hearing(
+            State::ActiveIdle {
+                status_request,
+                new_previous_station,
+                collision_count,
+            },
+            core,
+            ring,
+            Outcome::Bus,
+        ),
     }
 }
 
 // handle_telegram: one telegram. Once a collision has led to ListenToken, the rest of the poll only marks activity.
 pub fn handle_telegram(
     p: Parameters,
+    state: State,
     core: Core,
     ring: Ring,
     now: Micros,
     telegram: Telegram,
     last: bool,
 ) -> Heard
-    ensures { λ r. ⌜ r ≡ handleTelegram p core ring now telegram last ⌝ }
+    ensures { λ r. ⌜ r ≡ handleTelegram p state core ring now telegram last ⌝ }
 {
-    let state = core.state;
     match state {
         State::ActiveIdle {
             status_request,
@@ -276,13 +298,13 @@ pub fn handle_telegram(
             telegram,
             last,
         ),
-        State::Offline => station::hearing(core, ring, Outcome::Bus),
-        State::ListenToken { .. } => station::hearing(core, ring, Outcome::Bus),
-        State::UseToken { .. } => station::hearing(core, ring, Outcome::Bus),
-        State::ClaimToken { .. } => station::hearing(core, ring, Outcome::Bus),
-        State::AwaitDataResponse { .. } => station::hearing(core, ring, Outcome::Bus),
-        State::PassToken { .. } => station::hearing(core, ring, Outcome::Bus),
-        State::CheckTokenPass { .. } => station::hearing(core, ring, Outcome::Bus),
-        State::AwaitStatusResponse { .. } => station::hearing(core, ring, Outcome::Bus),
+        State::Offline => station::hearing(state, core, ring, Outcome::Bus),
+        State::ListenToken { .. } => station::hearing(state, core, ring, Outcome::Bus),
+        State::UseToken { .. } => station::hearing(state, core, ring, Outcome::Bus),
+        State::ClaimToken { .. } => station::hearing(state, core, ring, Outcome::Bus),
+        State::AwaitDataResponse { .. } => station::hearing(state, core, ring, Outcome::Bus),
+        State::PassToken { .. } => station::hearing(state, core, ring, Outcome::Bus),
+        State::CheckTokenPass { .. } => station::hearing(state, core, ring, Outcome::Bus),
+        State::AwaitStatusResponse { .. } => station::hearing(state, core, ring, Outcome::Bus),
     }
 }

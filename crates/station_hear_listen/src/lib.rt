@@ -23,44 +23,54 @@ fn do_listen_token_collision(
 {
     if collision_count == 0 {
         return station::hearing(
-            station::with_state(
-                core,
-                State::ListenToken {
-                    status_request,
-                    collision_count: 1,
-                },
-            ),
+            State::ListenToken {
+                status_request,
+                collision_count: 1,
+            },
+            core,
             ring,
             Outcome::Bus,
         );
     }
-    station::hearing(station::fresh_core(), Ring::fresh(p.address), Outcome::Bus)
+    station::hearing(
+        State::Offline,
+        station::fresh_core(),
+        Ring::fresh(p.address),
+        Outcome::Bus,
+    )
 }
 
 // do_listen_token: a status request to us that is last of its poll is noted.
 fn do_listen_token_request(
     core: Core,
     ring: Ring,
+    status_request: OptionAddress,
     source: u8,
     collision_count: u8,
     noted: bool,
 ) -> Heard
-    ensures { λ r. ⌜ r ≡ listened core ring source «collision_count» noted ⌝ }
+    ensures { λ r. ⌜ r ≡ listened core ring «status_request» «collision_count» source noted ⌝ }
 {
     if noted {
         return station::hearing(
-            station::with_state(
-                core,
-                State::ListenToken {
-                    status_request: OptionAddress::Some(source),
-                    collision_count,
-                },
-            ),
+            State::ListenToken {
+                status_request: OptionAddress::Some(source),
+                collision_count,
+            },
+            core,
             ring,
             Outcome::Delay,
         );
     }
-    station::hearing(core, ring, Outcome::Bus)
+    station::hearing(
+        State::ListenToken {
+            status_request,
+            collision_count,
+        },
+        core,
+        ring,
+        Outcome::Bus,
+    )
 }
 
 // do_listen_token: one telegram, while in ListenToken.
@@ -85,13 +95,25 @@ fn do_listen_token_heard(
                 do_listen_token_collision(p, core, ring, status_request, collision_count)
             } else {
                 station::hearing(
+                    State::ListenToken {
+                        status_request,
+                        collision_count,
+                    },
                     core,
                     ring.witness_token_pass(source, destination),
                     Outcome::Bus,
                 )
             }
         }
-        Telegram::ShortConfirmation => station::hearing(core, ring, Outcome::Bus),
+        Telegram::ShortConfirmation => station::hearing(
+            State::ListenToken {
+                status_request,
+                collision_count,
+            },
+            core,
+            ring,
+            Outcome::Bus,
+        ),
         Telegram::Request {
             destination,
             source,
@@ -103,6 +125,7 @@ fn do_listen_token_heard(
                 do_listen_token_request(
                     core,
                     ring,
+                    status_request,
                     source,
                     collision_count,
                     station::is_last_request_to_us(destination, own, asks, last),
@@ -113,7 +136,15 @@ fn do_listen_token_heard(
             if source == own {
                 do_listen_token_collision(p, core, ring, status_request, collision_count)
             } else {
-                station::hearing(core, ring, Outcome::Bus)
+                station::hearing(
+                    State::ListenToken {
+                        status_request,
+                        collision_count,
+                    },
+                    core,
+                    ring,
+                    Outcome::Bus,
+                )
             }
         }
     }
@@ -122,14 +153,14 @@ fn do_listen_token_heard(
 // do_listen_token: one telegram. Once a collision has led offline, the rest of the poll only marks activity.
 pub fn do_listen_token_telegram(
     p: Parameters,
+    state: State,
     core: Core,
     ring: Ring,
     telegram: Telegram,
     last: bool,
 ) -> Heard
-    ensures { λ r. ⌜ r ≡ listenTelegram p core ring telegram last ⌝ }
+    ensures { λ r. ⌜ r ≡ listenTelegram p state core ring telegram last ⌝ }
 {
-    let state = core.state;
     match state {
         State::ListenToken {
             status_request,
@@ -143,13 +174,13 @@ pub fn do_listen_token_telegram(
             telegram,
             last,
         ),
-        State::Offline => station::hearing(core, ring, Outcome::Bus),
-        State::ActiveIdle { .. } => station::hearing(core, ring, Outcome::Bus),
-        State::UseToken { .. } => station::hearing(core, ring, Outcome::Bus),
-        State::ClaimToken { .. } => station::hearing(core, ring, Outcome::Bus),
-        State::AwaitDataResponse { .. } => station::hearing(core, ring, Outcome::Bus),
-        State::PassToken { .. } => station::hearing(core, ring, Outcome::Bus),
-        State::CheckTokenPass { .. } => station::hearing(core, ring, Outcome::Bus),
-        State::AwaitStatusResponse { .. } => station::hearing(core, ring, Outcome::Bus),
+        State::Offline => station::hearing(state, core, ring, Outcome::Bus),
+        State::ActiveIdle { .. } => station::hearing(state, core, ring, Outcome::Bus),
+        State::UseToken { .. } => station::hearing(state, core, ring, Outcome::Bus),
+        State::ClaimToken { .. } => station::hearing(state, core, ring, Outcome::Bus),
+        State::AwaitDataResponse { .. } => station::hearing(state, core, ring, Outcome::Bus),
+        State::PassToken { .. } => station::hearing(state, core, ring, Outcome::Bus),
+        State::CheckTokenPass { .. } => station::hearing(state, core, ring, Outcome::Bus),
+        State::AwaitStatusResponse { .. } => station::hearing(state, core, ring, Outcome::Bus),
     }
 }

@@ -5,7 +5,7 @@
 ghost use mathlib.Core.Path.{_≡_};
 ghost use Prim.Native.Nat.{_<_, _^_};
 ghost use denote.Ref.{now as contents};
-ghost use Rattle.station_hold.specs.Hold.{declinesAt, firstOr, turnOf, askedOf, appTransmitOf, holdEndOf, holdsOf, usePassOf, useAppsOf, useTokenOf, validResponse, receivedOf, withNotice, timeoutOf, awaitDataOf};
+ghost use Rattle.station_hold.specs.Hold.{declinesAt, firstOr, turnOf, askedOf, appTransmitOf, endOf, holdEndOf, holdsOf, usePassOf, useAppsOf, useTokenOf, validResponse, receivedOf, withNotice, timeoutOf, awaitDataOf};
 use bit_times::Bits;
 use bit_times::Micros;
 use codec_answers::Notice;
@@ -15,9 +15,7 @@ use codec_decisions::Decision;
 use codec_telegrams::Telegram;
 use ring::GapState;
 use settings::Parameters;
-use station::Activity;
 use station::Core;
-use station::HoldEnd;
 use station::OptionApplication;
 use station::PassTokenAttempt;
 use station::State;
@@ -61,6 +59,10 @@ fn app_transmit_telegram(
         Decision::Decline => do_use_token_pass(core),
         Decision::Send { length } => station::transmit(
             p,
+            State::UseToken {
+                first_cycle_done: true,
+                data,
+            },
             core,
             now,
             Sent::Application {
@@ -72,7 +74,8 @@ fn app_transmit_telegram(
         ),
         Decision::SendExpectReply { address, length } => station::transmit(
             p,
-            station::transition_await_data_response(core, address, data),
+            State::AwaitDataResponse { address, data },
+            core,
             now,
             Sent::Application {
                 destination: address,
@@ -146,6 +149,24 @@ fn apps_transmit_telegram(
     }
 }
 
+// The end of the hold time, from + span - less: 0 if it lies below, the largest number if it lies above.
+fn hold_end(from: Micros, span: Micros, less: Micros) -> Micros
+    ensures { λ r. ⌜ r ≡ endOf from span less ⌝ }
+{
+    if less.0 <= span.0 {
+        let more = span.0 - less.0;
+        if from.0 <= 18446744073709551615 - more {
+            return Micros(from.0 + more);
+        }
+        return Micros(18446744073709551615);
+    }
+    let over = less.0 - span.0;
+    if over <= from.0 {
+        return Micros(from.0 - over);
+    }
+    Micros(0)
+}
+
 // do_use_token: a new token sets the end of the hold time, less the time of a gap poll while the gap is polled.
 fn do_use_token_hold(p: Parameters, core: Core, token_time: Micros) -> Core
     ensures { λ r. ⌜ r ≡ holdEndOf p core «token_time» ⌝ }
@@ -158,44 +179,21 @@ fn do_use_token_hold(p: Parameters, core: Core, token_time: Micros) -> Core
     let span = p.token_rotation_time();
     let gap = core.gap_state;
     match gap {
-        GapState::Waiting { .. } => station::with_token_times(
-            core,
-            token_time,
-            HoldEnd {
-                from,
-                span,
-                less: Micros(0),
-            },
-        ),
-        GapState::DoPoll { .. } => station::with_token_times(
-            core,
-            token_time,
-            HoldEnd {
-                from,
-                span,
-                less: bit_times::time_of(Bits(p.slot_bits as u32 + 100), baud),
-            },
-        ),
+        GapState::Waiting { .. } => {
+            station::with_token_times(core, token_time, hold_end(from, span, Micros(0)))
+        }
+        GapState::DoPoll { .. } => {
+            let less = bit_times::time_of(Bits(p.slot_bits as u32 + 100), baud);
+            station::with_token_times(core, token_time, hold_end(from, span, less))
+        }
     }
 }
 
 // now < end_token_hold_time.
-fn holds(now: Micros, end: HoldEnd) -> bool
+fn holds(now: Micros, end: Micros) -> bool
     ensures { λ r. ⌜ r ≡ holdsOf now end ⌝ }
 {
-    let from = end.from.0;
-    let span = end.span.0;
-    let less = end.less.0;
-    if now.0 < from {
-        if less < span {
-            return true;
-        }
-        return less - span < from - now.0;
-    }
-    if now.0 - from < span {
-        return less < span - (now.0 - from);
-    }
-    false
+    now.0 < end.0
 }
 
 // do_use_token: to PassToken, with the gap question and the first attempt; the pass itself is the next poll's.
@@ -203,7 +201,11 @@ fn do_use_token_pass(core: Core) -> Step
     ensures { λ r. ⌜ r ≡ usePassOf core ⌝ }
 {
     station::done(
-        station::transition_pass_token(core, true, PassTokenAttempt::First),
+        State::PassToken {
+            do_gap: true,
+            attempt: PassTokenAttempt::First,
+        },
+        core,
         Outcome::Delay,
     )
 }
@@ -230,18 +232,11 @@ fn do_use_token_apps(
         first_app,
     };
     let turned = station::with_next_application(core, asked.application);
-    let used = station::with_state(
-        turned,
-        State::UseToken {
-            data: held,
-            first_cycle_done: true,
-        },
-    );
     if asked.sends {
         let decision = codec_records::decision(bytes, applications, asked.application, high);
-        return app_transmit_telegram(p, used, now, held, decision, high);
+        return app_transmit_telegram(p, turned, now, held, decision, high);
     }
-    do_use_token_pass(used)
+    do_use_token_pass(turned)
 }
 
 // do_use_token: within the hold time normal telegrams; after it one cycle of high priority, only if no cycle was begun
@@ -260,10 +255,8 @@ pub fn do_use_token(
 {
     let token_time = data.token_time;
     let timed = do_use_token_hold(p, core, token_time);
-    let activity = timed.last_bus_activity;
-    let pause = station::wait_synchronization_pause(p, activity, now);
-    let last = pause.last;
-    let waited = station::with_activity(timed, Activity::At(last));
+    let pause = station::wait_synchronization_pause(p, timed, now);
+    let waited = pause.core;
     if pause.over {
         let end = waited.end_token_hold_time;
         if holds(now, end) {
@@ -274,7 +267,14 @@ pub fn do_use_token(
         }
         return do_use_token_apps(p, waited, now, data, bytes, applications, true);
     }
-    station::done(waited, Outcome::Delay)
+    station::done(
+        State::UseToken {
+            first_cycle_done,
+            data,
+        },
+        waited,
+        Outcome::Delay,
+    )
 }
 
 // do_await_data_response: a short confirmation, or a response to us from the station that was asked.
@@ -314,13 +314,11 @@ fn do_await_data_response_received(
     let application = core.next_application;
     if is_valid_response(telegram, address, p.address) {
         return Step {
-            core: station::with_state(
-                marked,
-                State::UseToken {
-                    data,
-                    first_cycle_done: true,
-                },
-            ),
+            state: State::UseToken {
+                first_cycle_done: true,
+                data,
+            },
+            core: marked,
             sent: Sent::Nothing,
             notice: Notice::Reply {
                 application,
@@ -331,7 +329,8 @@ fn do_await_data_response_received(
         };
     }
     Step {
-        core: station::transition_active_idle(marked),
+        state: station::transition_active_idle(),
+        core: marked,
         sent: Sent::Nothing,
         notice: Notice::NoNotice,
         outcome: Outcome::Bus,
@@ -343,10 +342,12 @@ fn do_await_data_response_received(
 fn with_notice(step: Step, notice: Notice) -> Step
     ensures { λ r. ⌜ r ≡ withNotice step notice ⌝ }
 {
+    let state = step.state;
     let core = step.core;
     let sent = step.sent;
     let outcome = step.outcome;
     Step {
+        state,
         core,
         sent,
         notice,
@@ -369,14 +370,7 @@ fn do_await_data_response_timeout(
     ensures { λ r. ⌜ r ≡ timeoutOf p core now address «data» (contents (bytes .entry)) applications ⌝ }
 {
     let application = core.next_application;
-    let used = station::with_state(
-        core,
-        State::UseToken {
-            data,
-            first_cycle_done: true,
-        },
-    );
-    let step = do_use_token(p, used, now, data, true, bytes, applications);
+    let step = do_use_token(p, core, now, data, true, bytes, applications);
     with_notice(
         step,
         Notice::Timeout {
@@ -404,12 +398,14 @@ pub fn do_await_data_response(
         let telegram = codec_records::telegram(bytes, applications, 0);
         return do_await_data_response_received(p, core, now, address, data, telegram);
     }
-    let activity = core.last_bus_activity;
-    let slot = station::check_slot_expired(p, activity, now);
-    let last = slot.last;
-    let waited = station::with_activity(core, Activity::At(last));
+    let slot = station::check_slot_expired(p, core, now);
+    let waited = slot.core;
     if slot.over {
         return do_await_data_response_timeout(p, waited, now, address, data, bytes, applications);
     }
-    station::done(waited, Outcome::Bus)
+    station::done(
+        State::AwaitDataResponse { address, data },
+        waited,
+        Outcome::Bus,
+    )
 }

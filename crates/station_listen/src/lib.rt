@@ -1,10 +1,10 @@
-// Listening: what a station without the token does. From profirust's active.rs, in its order: handle_lost_token,
-// do_listen_token, do_active_idle. It leans on station_hear_listen and station_hear_active for one telegram heard, on
+// Listening: what a station without the token does. From profirust's active.rs, in its order: do_listen_token and
+// do_active_idle, each of which begins with handle_lost_token. It leans on station_hear_listen and station_hear_active for one telegram heard, on
 // station_claim for a lost token, on codec_records for what was received, on station and ring.
 ghost use mathlib.Core.Path.{_≡_};
 ghost use Prim.Native.Nat.{_<_, _^_};
 ghost use denote.Ref.{now as contents};
-ghost use Rattle.station_listen.specs.Listen.{lostTokenOf, responseState, listenAnswered, listenResponse, heardTelegram, receivedAll, consumedAll, listenTokenOf, activeResponse, activeIdleOf};
+ghost use Rattle.station_listen.specs.Listen.{responseState, listenAnswered, listenResponse, heardTelegram, receivedAll, consumedAll, listenTokenOf, activeResponse, activeIdleOf};
 use bit_times::Micros;
 use codec_answers::Notice;
 use codec_answers::Outcome;
@@ -13,21 +13,12 @@ use codec_telegrams::ResponseState;
 use codec_telegrams::Telegram;
 use ring::Ring;
 use settings::Parameters;
-use station::Activity;
 use station::Core;
 use station::Heard;
 use station::OptionAddress;
 use station::RingStep;
 use station::State;
 use station::Step;
-
-// handle_lost_token, once the token is found lost: it is claimed.
-fn handle_lost_token(p: Parameters, core: Core, ring: Ring, now: Micros) -> RingStep
-    requires { ⌜ now .0 < 2 ^ 48 ⌝ }
-    ensures { λ r. ⌜ r ≡ lostTokenOf p core ring now ⌝ }
-{
-    station_claim::do_claim_token(p, station::transition_claim_token(core), ring, now, true)
-}
 
 // do_listen_token: without token exactly if ready and asked by the previous station.
 fn do_listen_token_state(ring: Ring, source: u8) -> ResponseState
@@ -43,19 +34,16 @@ fn do_listen_token_state(ring: Ring, source: u8) -> ResponseState
 }
 
 // do_listen_token: after the response a ready station goes to ActiveIdle, whoever asked.
-fn do_listen_token_answered(core: Core, ring: Ring, collision_count: u8) -> Core
-    ensures { λ r. ⌜ r ≡ listenAnswered core ring «collision_count» ⌝ }
+fn do_listen_token_answered(ring: Ring, collision_count: u8) -> State
+    ensures { λ r. ⌜ r ≡ listenAnswered ring «collision_count» ⌝ }
 {
     if ring.ready_for_ring() {
-        return station::transition_active_idle(core);
+        return station::transition_active_idle();
     }
-    station::with_state(
-        core,
-        State::ListenToken {
-            status_request: OptionAddress::None,
-            collision_count,
-        },
-    )
+    State::ListenToken {
+        status_request: OptionAddress::None,
+        collision_count,
+    }
 }
 
 // do_listen_token: a status request is answered after the pause.
@@ -70,17 +58,16 @@ fn do_listen_token_respond(
     requires { ⌜ now .0 < 2 ^ 48 ⌝ }
     ensures { λ r. ⌜ r ≡ listenResponse p core ring now source «collision_count» ⌝ }
 {
-    let activity = core.last_bus_activity;
-    let pause = station::wait_synchronization_pause(p, activity, now);
-    let last = pause.last;
-    let waited = station::with_activity(core, Activity::At(last));
+    let pause = station::wait_synchronization_pause(p, core, now);
+    let waited = pause.core;
     if pause.over {
         let state = do_listen_token_state(ring, source);
-        let answered = do_listen_token_answered(waited, ring, collision_count);
+        let answered = do_listen_token_answered(ring, collision_count);
         return RingStep {
             step: station::transmit(
                 p,
                 answered,
+                waited,
                 now,
                 Sent::StatusResponse {
                     destination: source,
@@ -91,7 +78,14 @@ fn do_listen_token_respond(
         };
     }
     RingStep {
-        step: station::done(waited, Outcome::Delay),
+        step: station::done(
+            State::ListenToken {
+                status_request: OptionAddress::Some(source),
+                collision_count,
+            },
+            waited,
+            Outcome::Delay,
+        ),
         ring,
     }
 }
@@ -107,18 +101,27 @@ fn receive_telegram(
 ) -> Heard
     ensures { λ r. ⌜ r ≡ heardTelegram p before now listening telegram last ⌝ }
 {
+    let state = before.state;
     let core = before.core;
     let ring = before.ring;
     let marked = station::mark_rx(core, now);
     if listening {
-        return station_hear_listen::do_listen_token_telegram(p, marked, ring, telegram, last);
+        return station_hear_listen::do_listen_token_telegram(
+            p,
+            state,
+            marked,
+            ring,
+            telegram,
+            last,
+        );
     }
-    station_hear_active::handle_telegram(p, marked, ring, now, telegram, last)
+    station_hear_active::handle_telegram(p, state, marked, ring, now, telegram, last)
 }
 
 // receive_all_telegrams, in their order. With none the poll waits for the bus.
 pub fn receive_all_telegrams(
     p: Parameters,
+    state: State,
     core: Core,
     ring: Ring,
     now: Micros,
@@ -127,9 +130,9 @@ pub fn receive_all_telegrams(
     applications: u8,
     telegrams: u8,
 ) -> Heard
-    ensures { λ r. ⌜ r ≡ receivedAll p core ring now listening (contents (bytes .entry)) applications telegrams ⌝ }
+    ensures { λ r. ⌜ r ≡ receivedAll p state core ring now listening (contents (bytes .entry)) applications telegrams ⌝ }
 {
-    let mut all = station::hearing(core, ring, Outcome::Bus);
+    let mut all = station::hearing(state, core, ring, Outcome::Bus);
     let mut index: u8 = 0;
     while index < telegrams {
         let telegram = codec_records::telegram(bytes, applications, index);
@@ -143,11 +146,13 @@ pub fn receive_all_telegrams(
 pub fn consumed_all(all: Heard, telegrams: u8) -> RingStep
     ensures { λ r. ⌜ r ≡ consumedAll all telegrams ⌝ }
 {
+    let state = all.state;
     let core = all.core;
     let ring = all.ring;
     let outcome = all.outcome;
     RingStep {
         step: Step {
+            state,
             core,
             sent: Sent::Nothing,
             notice: Notice::NoNotice,
@@ -158,9 +163,11 @@ pub fn consumed_all(all: Heard, telegrams: u8) -> RingStep
     }
 }
 
-// The step that the telegrams of a poll lead to. Most polls have none, and are spared the copies.
-fn received(
+// The step that the telegrams of a poll lead to, where there are some. A function of its own: what a function is handed is laid out
+// in memory where its caller begins, and a poll without telegrams is spared that.
+fn received_some(
     p: Parameters,
+    state: State,
     core: Core,
     ring: Ring,
     now: Micros,
@@ -169,17 +176,12 @@ fn received(
     applications: u8,
     telegrams: u8,
 ) -> RingStep
-    ensures { λ r. ⌜ r ≡ consumedAll (receivedAll p core ring now listening (contents (bytes .entry)) applications telegrams) telegrams ⌝ }
+    ensures { λ r. ⌜ r ≡ consumedAll (receivedAll p state core ring now listening (contents (bytes .entry)) applications telegrams) telegrams ⌝ }
 {
-    if telegrams == 0 {
-        return RingStep {
-            step: station::done(core, Outcome::Bus),
-            ring,
-        };
-    }
     consumed_all(
         receive_all_telegrams(
             p,
+            state,
             core,
             ring,
             now,
@@ -188,6 +190,39 @@ fn received(
             applications,
             telegrams,
         ),
+        telegrams,
+    )
+}
+
+// The step that the telegrams of a poll lead to. Most polls have none.
+fn received(
+    p: Parameters,
+    state: State,
+    core: Core,
+    ring: Ring,
+    now: Micros,
+    listening: bool,
+    bytes: &[u8],
+    applications: u8,
+    telegrams: u8,
+) -> RingStep
+    ensures { λ r. ⌜ r ≡ consumedAll (receivedAll p state core ring now listening (contents (bytes .entry)) applications telegrams) telegrams ⌝ }
+{
+    if telegrams == 0 {
+        return RingStep {
+            step: station::done(state, core, Outcome::Bus),
+            ring,
+        };
+    }
+    received_some(
+        p,
+        state,
+        core,
+        ring,
+        now,
+        listening,
+        bytes,
+        applications,
         telegrams,
     )
 }
@@ -207,15 +242,26 @@ pub fn do_listen_token(
     requires { ⌜ now .0 < 2 ^ 48 ⌝ }
     ensures { λ r. ⌜ r ≡ listenTokenOf p core ring now «status_request» «collision_count» (contents (bytes .entry)) applications telegrams ⌝ }
 {
-    let activity = core.last_bus_activity;
-    let lost = station::token_lost(p, activity, now);
-    let last = lost.last;
-    let waited = station::with_activity(core, Activity::At(last));
+    let lost = station::token_lost(p, core, now);
+    let waited = lost.core;
     if lost.over {
-        return handle_lost_token(p, waited, ring, now);
+        return station_claim::do_claim_token(p, waited, ring, now, true);
     }
     match status_request {
-        OptionAddress::None => received(p, waited, ring, now, true, bytes, applications, telegrams),
+        OptionAddress::None => received(
+            p,
+            State::ListenToken {
+                status_request: OptionAddress::None,
+                collision_count,
+            },
+            waited,
+            ring,
+            now,
+            true,
+            bytes,
+            applications,
+            telegrams,
+        ),
         OptionAddress::Some(source) => do_listen_token_respond(
             p,
             waited,
@@ -240,23 +286,19 @@ fn do_active_idle_respond(
     requires { ⌜ now .0 < 2 ^ 48 ⌝ }
     ensures { λ r. ⌜ r ≡ activeResponse p core ring now source «new_previous_station» «collision_count» ⌝ }
 {
-    let activity = core.last_bus_activity;
-    let pause = station::wait_synchronization_pause(p, activity, now);
-    let last = pause.last;
-    let waited = station::with_activity(core, Activity::At(last));
+    let pause = station::wait_synchronization_pause(p, core, now);
+    let waited = pause.core;
     if pause.over {
-        let answered = station::with_state(
-            waited,
-            State::ActiveIdle {
-                status_request: OptionAddress::None,
-                new_previous_station,
-                collision_count,
-            },
-        );
+        let answered = State::ActiveIdle {
+            status_request: OptionAddress::None,
+            new_previous_station,
+            collision_count,
+        };
         return RingStep {
             step: station::transmit(
                 p,
                 answered,
+                waited,
                 now,
                 Sent::StatusResponse {
                     destination: source,
@@ -267,7 +309,15 @@ fn do_active_idle_respond(
         };
     }
     RingStep {
-        step: station::done(waited, Outcome::Delay),
+        step: station::done(
+            State::ActiveIdle {
+                status_request: OptionAddress::Some(source),
+                new_previous_station,
+                collision_count,
+            },
+            waited,
+            Outcome::Delay,
+        ),
         ring,
     }
 }
@@ -288,16 +338,19 @@ pub fn do_active_idle(
     requires { ⌜ now .0 < 2 ^ 48 ⌝ }
     ensures { λ r. ⌜ r ≡ activeIdleOf p core ring now «status_request» «new_previous_station» «collision_count» (contents (bytes .entry)) applications telegrams ⌝ }
 {
-    let activity = core.last_bus_activity;
-    let lost = station::token_lost(p, activity, now);
-    let last = lost.last;
-    let waited = station::with_activity(core, Activity::At(last));
+    let lost = station::token_lost(p, core, now);
+    let waited = lost.core;
     if lost.over {
-        return handle_lost_token(p, waited, ring, now);
+        return station_claim::do_claim_token(p, waited, ring, now, true);
     }
     match status_request {
         OptionAddress::None => received(
             p,
+            State::ActiveIdle {
+                status_request: OptionAddress::None,
+                new_previous_station,
+                collision_count,
+            },
             waited,
             ring,
             now,

@@ -10,13 +10,12 @@ use Rattle.ring.specs.declared.GapState.the-variants.{Waiting, DoPoll}
 use Rattle.ring.specs.Ring.{nextOf, witnessOf, gapOf}
 use Rattle.codec_answers.specs.declared.Outcome.the-variants as outcome
 use Rattle.codec_answers.specs.declared.Sent.the-variants as sent
-use Rattle.station.specs.declared.Activity.the-variants as activity
 use Rattle.station.specs.declared.PassTokenAttempt.{PassTokenAttempt}
+use Rattle.station.specs.declared.State.the-variants.{PassToken, CheckTokenPass, AwaitStatusResponse}
 use Rattle.station.specs.declared.Core.{Core}
-use Rattle.station.specs.declared.Waited.{Waited}
 use Rattle.station.specs.declared.RingStep.{RingStep}
-use Rattle.station.specs.Parts.{withActivity, withGap}
-use Rattle.station.specs.Steps.{toUseToken, toCheckTokenPass, toAwaitStatusResponse, withTokenTime, pauseOf, doneOf, transmitOf}
+use Rattle.station.specs.Parts.{withGap}
+use Rattle.station.specs.Steps.{toUseToken, pauseOf, doneOf, transmitOf, ringStepOf}
 
 -- do_pass_token: the gap's turn: a count above the settings' starts a walk from own, a walk goes on from
 -- where it is. The pass that ends a walk is not counted
@@ -30,8 +29,8 @@ gapAdvanced p ring (DoPoll current) = gapOf ring current (p .«highest_station_a
 unfoldable pub passSent : Parameters → Core → Micros → PassTokenAttempt → ℕ → Ring → RingStep
 passSent p c now attempt next witnessed =
     cond (eqb (nextOf witnessed) (p .address))
-    (record { step = transmitOf p (toUseToken c (withTokenTime now)) now (sent.Token next); ring = witnessed })
-    (record { step = transmitOf p (toCheckTokenPass c attempt) now (sent.Token next); ring = witnessed })
+    (ringStepOf (transmitOf p (toUseToken now) c now (sent.Token next)) witnessed)
+    (ringStepOf (transmitOf p (CheckTokenPass attempt) c now (sent.Token next)) witnessed)
 
 -- do_pass_token: the token is sent to the next station, which is asked for before the pass is witnessed and again after, as in the
 -- Rust (for a sound ring both are the same)
@@ -42,20 +41,16 @@ passSend p c ring now attempt = passSent p c now attempt (nextOf ring) (witnessO
 unfoldable pub passPollOn : GapState → Parameters → Core → Ring → Micros → PassTokenAttempt → RingStep
 passPollOn (Waiting count) p c ring now attempt = passSend p c ring now attempt
 passPollOn (DoPoll current) p c ring now attempt =
-    record { step = transmitOf p (toAwaitStatusResponse c current) now (sent.StatusRequest current); ring = ring }
+    ringStepOf (transmitOf p (AwaitStatusResponse current) c now (sent.StatusRequest current)) ring
 
 -- do_pass_token: a gap question or the token
 unfoldable pub passPoll : Parameters → Core → Ring → Micros → PassTokenAttempt → RingStep
 passPoll p c ring now attempt = passPollOn (c .«gap_state») p c ring now attempt
 
--- do_pass_token, once the pause is known
-unfoldable pub passAfter : Parameters → Core → Ring → Micros → Bool → PassTokenAttempt → Waited → RingStep
-passAfter p c ring now gap attempt pause =
-    let waited = withActivity c (activity.At (pause .last)) in
-    cond (pause .over)
-    (cond gap (passPoll p (withGap waited (gapAdvanced p ring (c .«gap_state»))) ring now attempt) (passSend p waited ring now attempt))
-    (record { step = doneOf waited outcome.Delay; ring = ring })
-
 -- do_pass_token
 unfoldable pub passTokenOf : Parameters → Core → Ring → Micros → Bool → PassTokenAttempt → RingStep
-passTokenOf p c ring now gap attempt = passAfter p c ring now gap attempt (pauseOf p (c .«last_bus_activity») now)
+passTokenOf p c ring now gap attempt =
+    let pause = pauseOf p c now in
+    cond (pause .over)
+    (cond gap (passPoll p (withGap (pause .core) (gapAdvanced p ring (c .«gap_state»))) ring now attempt) (passSend p (pause .core) ring now attempt))
+    (ringStepOf (doneOf (PassToken gap attempt) (pause .core) outcome.Delay) ring)

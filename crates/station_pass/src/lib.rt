@@ -9,10 +9,10 @@ use codec_answers::Sent;
 use ring::GapState;
 use ring::Ring;
 use settings::Parameters;
-use station::Activity;
 use station::Core;
 use station::PassTokenAttempt;
 use station::RingStep;
+use station::State;
 
 // do_pass_token: the gap's turn. Waiting goes on until more rotations were counted than the settings ask for.
 fn do_pass_token_gap(p: Parameters, ring: Ring, gap: GapState) -> GapState
@@ -52,7 +52,8 @@ fn do_pass_token_send(
         return RingStep {
             step: station::transmit(
                 p,
-                station::transition_use_token(core, station::with_token_time(now)),
+                station::transition_use_token(now),
+                core,
                 now,
                 Sent::Token { destination: next },
             ),
@@ -62,7 +63,8 @@ fn do_pass_token_send(
     RingStep {
         step: station::transmit(
             p,
-            station::transition_check_token_pass(core, attempt),
+            State::CheckTokenPass { attempt },
+            core,
             now,
             Sent::Token { destination: next },
         ),
@@ -87,7 +89,10 @@ fn do_pass_token_poll(
         GapState::DoPoll { current_address } => RingStep {
             step: station::transmit(
                 p,
-                station::transition_await_status_response(core, current_address),
+                State::AwaitStatusResponse {
+                    address: current_address,
+                },
+                core,
                 now,
                 Sent::StatusRequest {
                     destination: current_address,
@@ -110,10 +115,8 @@ pub fn do_pass_token(
     requires { ⌜ now .0 < 2 ^ 48 ⌝ }
     ensures { λ r. ⌜ r ≡ passTokenOf p core ring now «do_gap» attempt ⌝ }
 {
-    let activity = core.last_bus_activity;
-    let pause = station::wait_synchronization_pause(p, activity, now);
-    let last = pause.last;
-    let waited = station::with_activity(core, Activity::At(last));
+    let pause = station::wait_synchronization_pause(p, core, now);
+    let waited = pause.core;
     if pause.over {
         if do_gap {
             let gap = core.gap_state;
@@ -123,7 +126,7 @@ pub fn do_pass_token(
         return do_pass_token_send(p, waited, ring, now, attempt);
     }
     RingStep {
-        step: station::done(waited, Outcome::Delay),
+        step: station::done(State::PassToken { do_gap, attempt }, waited, Outcome::Delay),
         ring,
     }
 }

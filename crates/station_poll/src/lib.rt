@@ -4,38 +4,79 @@
 ghost use mathlib.Core.Path.{_≡_};
 ghost use Prim.Native.Nat.{_<_, _^_};
 ghost use denote.Ref.{now as contents};
+ghost use Rattle.station.specs.Steps.{ringStepOf};
+ghost use Rattle.station_hold.specs.Hold.{useTokenOf};
+ghost use Rattle.station_pass.specs.Pass.{passTokenOf};
 ghost use Rattle.station_poll.specs.Poll.{connectedOf, dispatchOf, pollOnline, pollInner, acceptedPoll, pollOf};
 use bit_times::Micros;
 use codec_answers::Outcome;
 use ring::Ring;
 use settings::Parameters;
 use station::Core;
+use station::PassTokenAttempt;
 use station::RingStep;
 use station::State;
 use station::Station;
+use station::UseTokenData;
 use station_answer::Polled;
 
 // poll_inner: a station that was put online starts listening.
-fn poll_inner_connected(core: Core) -> Core
-    ensures { λ r. ⌜ r ≡ connectedOf core ⌝ }
+fn poll_inner_connected(state: State) -> State
+    ensures { λ r. ⌜ r ≡ connectedOf state ⌝ }
 {
-    let state = core.state;
     match state {
-        State::Offline => station::transition_listen_token(core),
-        State::ListenToken { .. } => core,
-        State::ActiveIdle { .. } => core,
-        State::UseToken { .. } => core,
-        State::ClaimToken { .. } => core,
-        State::AwaitDataResponse { .. } => core,
-        State::PassToken { .. } => core,
-        State::CheckTokenPass { .. } => core,
-        State::AwaitStatusResponse { .. } => core,
+        State::Offline => station::transition_listen_token(),
+        State::ListenToken { .. } => state,
+        State::ActiveIdle { .. } => state,
+        State::UseToken { .. } => state,
+        State::ClaimToken { .. } => state,
+        State::AwaitDataResponse { .. } => state,
+        State::PassToken { .. } => state,
+        State::CheckTokenPass { .. } => state,
+        State::AwaitStatusResponse { .. } => state,
     }
+}
+
+// do_use_token, which leaves the ring as it is. A function of its own, as the next one is: what a function is handed is laid out in
+// memory where its caller begins, and a poll in another state is spared that.
+fn poll_inner_use_token(
+    p: Parameters,
+    core: Core,
+    ring: Ring,
+    now: Micros,
+    data: UseTokenData,
+    first_cycle_done: bool,
+    bytes: &[u8],
+    applications: u8,
+) -> RingStep
+    requires { ⌜ now .0 < 2 ^ 48 ⌝ }
+    ensures { λ r. ⌜ r ≡ ringStepOf (useTokenOf p core now «data» «first_cycle_done» (contents (bytes .entry)) applications) ring ⌝ }
+{
+    RingStep {
+        step: station_hold::do_use_token(p, core, now, data, first_cycle_done, bytes, applications),
+        ring,
+    }
+}
+
+// do_pass_token.
+fn poll_inner_pass_token(
+    p: Parameters,
+    core: Core,
+    ring: Ring,
+    now: Micros,
+    do_gap: bool,
+    attempt: PassTokenAttempt,
+) -> RingStep
+    requires { ⌜ now .0 < 2 ^ 48 ⌝ }
+    ensures { λ r. ⌜ r ≡ passTokenOf p core ring now «do_gap» attempt ⌝ }
+{
+    station_pass::do_pass_token(p, core, ring, now, do_gap, attempt)
 }
 
 // poll_inner: what the state asks for. Offline cannot be: poll_inner_connected comes first.
 fn poll_inner_dispatch(
     p: Parameters,
+    state: State,
     core: Core,
     ring: Ring,
     now: Micros,
@@ -44,12 +85,11 @@ fn poll_inner_dispatch(
     telegrams: u8,
 ) -> RingStep
     requires { ⌜ now .0 < 2 ^ 48 ⌝ }
-    ensures { λ r. ⌜ r ≡ dispatchOf p core ring now (contents (bytes .entry)) applications telegrams ⌝ }
+    ensures { λ r. ⌜ r ≡ dispatchOf p state core ring now (contents (bytes .entry)) applications telegrams ⌝ }
 {
-    let state = core.state;
     match state {
         State::Offline => RingStep {
-            step: station::done(core, Outcome::Offline),
+            step: station::done(state, core, Outcome::Offline),
             ring,
         },
         State::ListenToken {
@@ -83,20 +123,18 @@ fn poll_inner_dispatch(
             telegrams,
         ),
         State::UseToken {
+            first_cycle_done,
+            data,
+        } => poll_inner_use_token(
+            p,
+            core,
+            ring,
+            now,
             data,
             first_cycle_done,
-        } => RingStep {
-            step: station_hold::do_use_token(
-                p,
-                core,
-                now,
-                data,
-                first_cycle_done,
-                bytes,
-                applications,
-            ),
-            ring,
-        },
+            bytes,
+            applications,
+        ),
         State::ClaimToken { first } => station_claim::do_claim_token(p, core, ring, now, first),
         State::AwaitDataResponse { address, data } => RingStep {
             step: station_hold::do_await_data_response(
@@ -112,7 +150,7 @@ fn poll_inner_dispatch(
             ring,
         },
         State::PassToken { do_gap, attempt } => {
-            station_pass::do_pass_token(p, core, ring, now, do_gap, attempt)
+            poll_inner_pass_token(p, core, ring, now, do_gap, attempt)
         }
         State::CheckTokenPass { attempt } => station_check_pass::do_check_token_pass(
             p,
@@ -140,6 +178,7 @@ fn poll_inner_dispatch(
 // poll_inner: while a transmission goes on nothing else is done; then the bus is looked at, then the state.
 fn poll_inner_online(
     p: Parameters,
+    state: State,
     core: Core,
     ring: Ring,
     now: Micros,
@@ -150,23 +189,28 @@ fn poll_inner_online(
     telegrams: u8,
 ) -> RingStep
     requires { ⌜ now .0 < 2 ^ 48 ⌝ }
-    ensures { λ r. ⌜ r ≡ pollOnline p core ring now transmitting pending (contents (bytes .entry)) applications telegrams ⌝ }
+    ensures { λ r. ⌜ r ≡ pollOnline p state core ring now transmitting pending (contents (bytes .entry)) applications telegrams ⌝ }
 {
     let activity = core.last_bus_activity;
     if station::check_for_ongoing_transmission(activity, now, transmitting) {
         let marked = station::mark_bus_activity(activity, now);
         return RingStep {
-            step: station::done(station::with_activity(core, marked), Outcome::Transmission),
+            step: station::done(
+                state,
+                station::with_activity(core, marked),
+                Outcome::Transmission,
+            ),
             ring,
         };
     }
     let checked = station::check_for_bus_activity(core, now, pending);
-    poll_inner_dispatch(p, checked, ring, now, bytes, applications, telegrams)
+    poll_inner_dispatch(p, state, checked, ring, now, bytes, applications, telegrams)
 }
 
 // poll_inner: a station that is not online does nothing.
 fn poll_inner(
     p: Parameters,
+    state: State,
     core: Core,
     ring: Ring,
     now: Micros,
@@ -177,12 +221,13 @@ fn poll_inner(
     telegrams: u8,
 ) -> RingStep
     requires { ⌜ now .0 < 2 ^ 48 ⌝ }
-    ensures { λ r. ⌜ r ≡ pollInner p core ring now transmitting pending (contents (bytes .entry)) applications telegrams ⌝ }
+    ensures { λ r. ⌜ r ≡ pollInner p state core ring now transmitting pending (contents (bytes .entry)) applications telegrams ⌝ }
 {
     if core.online {
         return poll_inner_online(
             p,
-            poll_inner_connected(core),
+            poll_inner_connected(state),
+            core,
             ring,
             now,
             transmitting,
@@ -193,7 +238,7 @@ fn poll_inner(
         );
     }
     RingStep {
-        step: station::done(core, Outcome::Offline),
+        step: station::done(state, core, Outcome::Offline),
         ring,
     }
 }
@@ -205,10 +250,12 @@ fn poll_accepted(station: Station, bytes: &[u8]) -> Polled
     let head = codec_records::read_head(bytes);
     let applications = station.applications;
     let p = station.p;
+    let state = station.state;
     let core = station.core;
     let ring = station.token_ring;
     let stepped = poll_inner(
         p,
+        state,
         core,
         ring,
         Micros(head.clock),

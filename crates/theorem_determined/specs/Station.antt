@@ -1,10 +1,8 @@
 -- Determined, for the public calls of station.
 use mathlib.Core.Path.{_∙_, sym}
 use Rattle.theorem_determined.specs.Claim.{Determined}
-use Rattle.station.proofs.with_state.Reads as with-state-reads
 use Rattle.station.proofs.with_activity.Reads as with-activity-reads
 use Rattle.station.proofs.with_gap.Reads as with-gap-reads
-use Rattle.station.proofs.with_pending.Reads as with-pending-reads
 use Rattle.station.proofs.with_token_times.Reads as with-token-times-reads
 use Rattle.station.proofs.with_next_application.Reads as with-next-application-reads
 use Rattle.station.proofs.with_online.Reads as with-online-reads
@@ -12,19 +10,11 @@ use Rattle.station.proofs.state_number.Reads as state-number-reads
 use Rattle.station.proofs.transition_listen_token.Reads as transition-listen-token-reads
 use Rattle.station.proofs.transition_active_idle.Reads as transition-active-idle-reads
 use Rattle.station.proofs.transition_use_token.Reads as transition-use-token-reads
-use Rattle.station.proofs.transition_claim_token.Reads as transition-claim-token-reads
-use Rattle.station.proofs.transition_await_data_response.Reads as transition-await-data-response-reads
-use Rattle.station.proofs.transition_pass_token.Reads as transition-pass-token-reads
-use Rattle.station.proofs.transition_check_token_pass.Reads as transition-check-token-pass-reads
-use Rattle.station.proofs.transition_await_status_response.Reads as transition-await-status-response-reads
-use Rattle.station.proofs.with_token_time.Reads as with-token-time-reads
 use Rattle.station.proofs.fresh_core.Reads as fresh-core-reads
 use Rattle.station.proofs.Station.new.Reads as new-reads
-use Rattle.station.proofs.known.Reads as known-reads
 use Rattle.station.proofs.mark_bus_activity.Reads as mark-bus-activity-reads
 use Rattle.station.proofs.check_for_ongoing_transmission.Reads as check-for-ongoing-transmission-reads
 use Rattle.station.proofs.wait_synchronization_pause.Reads as wait-synchronization-pause-reads
-use Rattle.station.proofs.mark_tx.Reads as mark-tx-reads
 use Rattle.station.proofs.check_for_bus_activity.Reads as check-for-bus-activity-reads
 use Rattle.station.proofs.mark_rx.Reads as mark-rx-reads
 use Rattle.station.proofs.check_slot_expired.Reads as check-slot-expired-reads
@@ -34,17 +24,11 @@ use Rattle.station.proofs.transmit.Reads as transmit-reads
 use Rattle.station.proofs.hearing.Reads as hearing-reads
 use Rattle.station.proofs.is_last_request_to_us.Reads as is-last-request-to-us-reads
 
-pub with-state : Determined with-state-reads.Post
-with-state κs a r₁ r₂ s₁ s₂ p q = p ∙ sym q
-
 pub with-activity : Determined with-activity-reads.Post
 with-activity κs a r₁ r₂ s₁ s₂ p q = p ∙ sym q
 
 pub with-gap : Determined with-gap-reads.Post
 with-gap κs a r₁ r₂ s₁ s₂ p q = p ∙ sym q
-
-pub with-pending : Determined with-pending-reads.Post
-with-pending κs a r₁ r₂ s₁ s₂ p q = p ∙ sym q
 
 pub with-token-times : Determined with-token-times-reads.Post
 with-token-times κs a r₁ r₂ s₁ s₂ p q = p ∙ sym q
@@ -67,32 +51,11 @@ transition-active-idle κs a r₁ r₂ s₁ s₂ p q = p ∙ sym q
 pub transition-use-token : Determined transition-use-token-reads.Post
 transition-use-token κs a r₁ r₂ s₁ s₂ p q = p ∙ sym q
 
-pub transition-claim-token : Determined transition-claim-token-reads.Post
-transition-claim-token κs a r₁ r₂ s₁ s₂ p q = p ∙ sym q
-
-pub transition-await-data-response : Determined transition-await-data-response-reads.Post
-transition-await-data-response κs a r₁ r₂ s₁ s₂ p q = p ∙ sym q
-
-pub transition-pass-token : Determined transition-pass-token-reads.Post
-transition-pass-token κs a r₁ r₂ s₁ s₂ p q = p ∙ sym q
-
-pub transition-check-token-pass : Determined transition-check-token-pass-reads.Post
-transition-check-token-pass κs a r₁ r₂ s₁ s₂ p q = p ∙ sym q
-
-pub transition-await-status-response : Determined transition-await-status-response-reads.Post
-transition-await-status-response κs a r₁ r₂ s₁ s₂ p q = p ∙ sym q
-
-pub with-token-time : Determined with-token-time-reads.Post
-with-token-time κs a r₁ r₂ s₁ s₂ p q = p ∙ sym q
-
 pub fresh-core : Determined fresh-core-reads.Post
 fresh-core κs a r₁ r₂ s₁ s₂ p q = p ∙ sym q
 
 pub new : Determined new-reads.Post
 new κs a r₁ r₂ s₁ s₂ p q = p ∙ sym q
-
-pub known : Determined known-reads.Post
-known κs a r₁ r₂ s₁ s₂ p q = p ∙ sym q
 
 pub mark-bus-activity : Determined mark-bus-activity-reads.Post
 mark-bus-activity κs a r₁ r₂ s₁ s₂ p q = p ∙ sym q
@@ -102,9 +65,6 @@ check-for-ongoing-transmission κs a r₁ r₂ s₁ s₂ p q = p ∙ sym q
 
 pub wait-synchronization-pause : Determined wait-synchronization-pause-reads.Post
 wait-synchronization-pause κs a r₁ r₂ s₁ s₂ p q = p ∙ sym q
-
-pub mark-tx : Determined mark-tx-reads.Post
-mark-tx κs a r₁ r₂ s₁ s₂ p q = p ∙ sym q
 
 pub check-for-bus-activity : Determined check-for-bus-activity-reads.Post
 check-for-bus-activity κs a r₁ r₂ s₁ s₂ p q = p ∙ sym q

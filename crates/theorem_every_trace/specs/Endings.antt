@@ -8,20 +8,16 @@ use Rattle.bit_times.specs.declared.Coded.{Coded}
 use Rattle.bit_times.specs.declared.Coded.the-variants.{Rate, Unknown}
 use Rattle.bit_times.specs.Times.{baudOf}
 use Rattle.codec_fields.specs.Fields.{zeroOr14, zerosOr14}
-use Rattle.settings.specs.declared.Parameters.{Parameters}
 use Rattle.settings.specs.declared.Created.{Created}
 use Rattle.settings.specs.declared.Created.the-variants as created
 use Rattle.settings.specs.Rules.{refuseBelow, refuseOutside, addressRefusal, baudRefusal, leastOf, slotBitsRefusal, hsaRefusal, rotationRefusal, gapWaitRefusal, retryRefusal, minTsdrRefusal, factorsRefusal, applicationsRefusal}
 use Rattle.settings.specs.RuleLaws.{first-small}
 use Rattle.settings_build.specs.declared.PlainSettings.{PlainSettings}
 use Rattle.settings_build.specs.Build.{earlyRefusal, firstRefusal, builtAt, buildOf}
-use Rattle.station.specs.declared.Started.{Started}
-use Rattle.station.specs.declared.Started.the-variants as started
-use Rattle.station.specs.Parts.{newStation}
 use Rattle.theorem_sound.specs.Keeps.{either}
 use Rattle.trace_headers.specs.declared.Header.{Header}
 use Rattle.trace_headers.specs.Headers.{headerOf, headerRefusal}
-use Rattle.trace.specs.Trace.{startedAfter, startedOf, startOf}
+use Rattle.trace.specs.Trace.{settingsOf, settingsAt, TraceStart, Accepted, Refused, startedWith, startOf}
 
 -- a number of document 01's table that a trace may end with before its first entry
 abbrev Number : ℕ → Type 0
@@ -90,9 +86,9 @@ header-small h =
     (first-small 17 (zeroOr14 (h .«zero_bits»)) [] (zero-small (h .«zero_bits»)) (lit≤ tt))))
 
 -- a start that is refused is refused with at most 17
-abbrev pub Small : Started → Type 0
-Small (started.Accepted s) = Unit {0}
-Small (started.Refused n) = n ≤ 17
+abbrev pub Small : TraceStart → Type 0
+Small (Accepted s) = Unit {0}
+Small (Refused n) = n ≤ 17
 
 -- a build that is refused is
 abbrev SmallBuilt : Created → Type 0
@@ -108,21 +104,20 @@ build-small : (f : PlainSettings) → SmallBuilt (buildOf f)
 unfolding buildOf
 build-small f = either SmallBuilt (eqb (firstRefusal f) 0) _ _ (at-small f (baudOf (f .«baud_code»))) (settings-small f)
 
-new-small : (p : Parameters) (n : ℕ) → Small (newStation p n)
-unfolding newStation
-new-small p n = either Small (eqb (applicationsRefusal n) 0) _ _ tt (applications-small n)
+settings-of-small : (h : Header) → SmallBuilt (settingsOf h)
+unfolding settingsOf
+settings-of-small h = either SmallBuilt (eqb (headerRefusal h) 0) _ _ (build-small (h .settings)) (header-small h)
 
-after-small : (x : Created) (n : ℕ) → SmallBuilt x → Small (startedAfter x n)
-unfolding startedAfter
-after-small (created.Accepted p) n h = new-small p n
-after-small (created.Refused k) n h = h
+settings-at-small : (trace : List ℕ) → SmallBuilt (settingsAt trace)
+unfolding settingsAt
+settings-at-small trace = either SmallBuilt (leb 16 (length trace) && leb (length trace) (2 ^ 32)) _ _ (settings-of-small (headerOf trace)) (lit≤ tt)
 
-started-small : (h : Header) → Small (startedOf h)
-unfolding startedOf
-started-small h =
-    either Small (eqb (headerRefusal h) 0) _ _ (after-small (buildOf (h .settings)) (h .applications) (build-small (h .settings))) (header-small h)
+started-small : (x : Created) (n : ℕ) → SmallBuilt x → Small (startedWith x n)
+unfolding startedWith
+started-small (created.Accepted p) n h = tt
+started-small (created.Refused k) n h = h
 
 -- a trace whose header is refused ends with at most 17
 pub start-small : (trace : List ℕ) → Small (startOf trace)
 unfolding startOf
-start-small trace = either Small (leb 16 (length trace) && leb (length trace) (2 ^ 32)) _ _ (started-small (headerOf trace)) (lit≤ tt)
+start-small trace = started-small (settingsAt trace) (headerOf trace .applications) (settings-at-small trace)

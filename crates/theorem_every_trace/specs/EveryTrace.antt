@@ -10,10 +10,8 @@ use lib.Seq.{take-at, drop-at}
 use lib.Pow.{high, low}
 use lib.Dec.{eqb}
 use Rattle.station.specs.declared.Station.{Station}
-use Rattle.station.specs.declared.Started.{Started}
-use Rattle.station.specs.declared.Started.the-variants as started
 use Rattle.theorem_sound.specs.Unchanged.{poll-unchanged, passive-unchanged, online-refusal, offline-refusal}
-use Rattle.trace.specs.Trace.{startOf, answered, runOf, ranOf, replayOn, replayOf, numberOf, written, bufferOf}
+use Rattle.trace.specs.Trace.{TraceStart, Accepted, Refused, startOf, answered, runOf, ranOf, replayOn, replayOf, numberOf, written, bufferOf}
 use Rattle.trace.specs.Entries.{entryOf}
 use Rattle.trace.specs.Laws.{precededBy, replay-refused, run-none, run-more}
 use Rattle.theorem_every_trace.specs.Endings.{Small, start-small}
@@ -23,7 +21,7 @@ use Rattle.theorem_every_trace.specs.Runs.{run-enough, run-on, run-ends,
 -- a refused header: the call returns its number, and writes nothing
 pub refused-header-writes-nothing :
     (trace before : List ℕ) (n : ℕ)
-    → startOf trace ≡ started.Refused n
+    → startOf trace ≡ Refused n
     → (numberOf (replayOf trace (length before)) ≡ n) × (bufferOf (replayOf trace (length before)) before ≡ before)
 refused-header-writes-nothing trace before n e = let r = replay-refused trace before n e in (sym (r .0), sym (r .1))
 
@@ -52,10 +50,10 @@ pub longer-trace-begins-alike :
 longer-trace-begins-alike s part rest room e = run-on s part rest room e
 
 -- the answers of a started run, or of none, have room
-replay-room : (x : Started) (trace : List ℕ) (room : ℕ) → 8 * length (replayOn x trace room .answers) ≤ room
+replay-room : (x : TraceStart) (trace : List ℕ) (room : ℕ) → 8 * length (replayOn x trace room .answers) ≤ room
 unfolding replayOn ranOf
-replay-room (started.Accepted s) trace room = run-ends (length (drop 16 trace)) s (drop 16 trace) room .fits
-replay-room (started.Refused n) trace room = omega arith
+replay-room (Accepted s) trace room = run-ends (length (drop 16 trace)) s (drop 16 trace) room .fits
+replay-room (Refused n) trace room = omega arith
 
 -- the answers of a replay have room in the buffer
 pub answers-have-room : (trace before : List ℕ) → 8 * length (replayOf trace (length before) .answers) ≤ length before
@@ -99,10 +97,10 @@ each-entry-is-answered s (e ∷ es) room w h =
     ∙ each-entry-is-answered (entryOf s (e .kind) (e .bytes) .station) es (room - 8) (w .1) (omega (arith, h))))
 
 -- a replay ends with a number below 256: at most 18 after a header that was taken, and else the header's refusal, at most 17
-replay-ending : (x : Started) (trace : List ℕ) (room : ℕ) → Small x → replayOn x trace room .ending < 256
+replay-ending : (x : TraceStart) (trace : List ℕ) (room : ℕ) → Small x → replayOn x trace room .ending < 256
 unfolding replayOn ranOf
-replay-ending (started.Accepted s) trace room h = omega (arith, run-ends (length (drop 16 trace)) s (drop 16 trace) room .number)
-replay-ending (started.Refused n) trace room h = omega (arith, h)
+replay-ending (Accepted s) trace room h = omega (arith, run-ends (length (drop 16 trace)) s (drop 16 trace) room .number)
+replay-ending (Refused n) trace room h = omega (arith, h)
 
 pub ending-below-256 : (trace : List ℕ) (room : ℕ) → replayOf trace room .ending < 256
 unfolding replayOf

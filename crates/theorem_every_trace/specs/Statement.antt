@@ -6,9 +6,8 @@ use mathlib.Core.List.{List, [], _∷_, _++_}
 use mathlib.Core.Logic.{_↔_}
 use lib.ListN.{length, take, drop}
 use Rattle.station.specs.declared.Station.{Station}
-use Rattle.station.specs.declared.Started.the-variants as started
 use Rattle.trace.specs.Entries.{recordLength, entryOf}
-use Rattle.trace.specs.Trace.{startOf, Run, ended, answered, replayOf, numberOf, written, bufferOf}
+use Rattle.trace.specs.Trace.{Accepted, Refused, startOf, Run, ended, answered, replayOf, numberOf, written, bufferOf}
 
 -- an entry of a trace: its first byte, and the record that follows it
 pub record Entry : Type 0 where
@@ -79,8 +78,8 @@ pub record Answered (fresh : Station) (trace before : List ℕ) (returned : ℕ)
 -- What the call does with any trace and any buffer: the header is refused with a number up to 17, which is returned, and nothing is
 -- written; or it starts a station, and the entries after it are answered.
 pub data Replayed (trace before : List ℕ) (returned : ℕ) (left : List ℕ) : Type 0 where
-  refused : startOf trace ≡ started.Refused returned → returned ≤ 17 → left ≡ before → Replayed trace before returned left
-  ran : (fresh : Station) → startOf trace ≡ started.Accepted fresh → Answered fresh trace before returned left → Replayed trace before returned left
+  refused : startOf trace ≡ Refused returned → returned ≤ 17 → left ≡ before → Replayed trace before returned left
+  ran : (fresh : Station) → startOf trace ≡ Accepted fresh → Answered fresh trace before returned left → Replayed trace before returned left
 
 -- the theorem, over what the call's contract says that it returns and leaves
 abbrev pub Theorem : Type 0

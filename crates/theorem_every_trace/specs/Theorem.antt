@@ -8,11 +8,9 @@ use lib.ListN.{length, take, drop, take-append-drop}
 use lib.Seq.{length-take-le}
 use Rattle.codec_answers.specs.declared.Answer.{Answer}
 use Rattle.station.specs.declared.Station.{Station}
-use Rattle.station.specs.declared.Started.{Started}
-use Rattle.station.specs.declared.Started.the-variants as started
 use Rattle.station_answer.specs.declared.Polled.{Polled}
 use Rattle.trace.specs.Entries.{recordLength, entryOf}
-use Rattle.trace.specs.Trace.{startOf, Run, runFrom, runOf, ranOf, replayOf, numberOf, bufferOf}
+use Rattle.trace.specs.Trace.{TraceStart, Accepted, Refused, startOf, Run, runFrom, runOf, ranOf, replayOf, numberOf, bufferOf}
 use Rattle.trace.specs.Laws.{start-long, replay-started, replay-refused, run-none, run-cut, run-full, run-more}
 use Rattle.theorem_every_trace.specs.Endings.{Small, start-small}
 use Rattle.theorem_every_trace.specs.Runs.{Way, cuts, fills, goes, way, shorter}
@@ -118,7 +116,7 @@ pub taken : (s : Station) (l : List ℕ) (room : ℕ) → Taken s l room (runOf 
 taken s l room = takes (length l) s l room (le-refl (length l))
 
 -- a trace that starts a station
-started-answered : (trace before : List ℕ) (fresh : Station) → startOf trace ≡ started.Accepted fresh → Answered fresh trace before (numberOf (replayOf trace (length before))) (bufferOf (replayOf trace (length before)) before)
+started-answered : (trace before : List ℕ) (fresh : Station) → startOf trace ≡ Accepted fresh → Answered fresh trace before (numberOf (replayOf trace (length before))) (bufferOf (replayOf trace (length before)) before)
 unfolding ranOf numberOf bufferOf
 started-answered trace before fresh e =
     rw (replay-started trace (length before) fresh e)
@@ -140,14 +138,14 @@ started-answered trace before fresh e =
 
 -- a trace that starts a station or none
 replayed :
-    (trace before : List ℕ) (x : Started)
+    (trace before : List ℕ) (x : TraceStart)
     → startOf trace ≡ x
     → Small x
     → Replayed trace before (numberOf (replayOf trace (length before))) (bufferOf (replayOf trace (length before)) before)
-replayed trace before (started.Accepted fresh) e h = ran fresh e (started-answered trace before fresh e)
-replayed trace before (started.Refused n) e h =
+replayed trace before (Accepted fresh) e h = ran fresh e (started-answered trace before fresh e)
+replayed trace before (Refused n) e h =
     let r = replay-refused trace before n e in
-    refused (e ∙ ap started.Refused (r .0)) (rw (← r .0) h) (sym (r .1))
+    refused (e ∙ ap Refused (r .0)) (rw (← r .0) h) (sym (r .1))
 
 -- every trace: refused and nothing written, or its whole entries answered up to the first that is cut or has no room
 pub every-trace : Theorem

@@ -29,13 +29,11 @@ use Rattle.station.specs.declared.Activity.the-variants as activity
 use Rattle.station.specs.declared.PassTokenAttempt.the-variants.{First}
 use Rattle.station.specs.declared.State.the-variants.{Offline, ListenToken, PassToken}
 use Rattle.station.specs.declared.Station.{Station}
-use Rattle.station.specs.declared.Started.{Started}
-use Rattle.station.specs.declared.Started.the-variants as started
 use Rattle.station.specs.Parts.{withGap, zeroTime}
 use Rattle.station_answer.specs.declared.Polled.{Polled}
 use Rattle.station_poll.specs.Poll.{pollOf}
 use Rattle.trace.specs.Entries.{entryOf}
-use Rattle.trace.specs.Trace.{startOf, replayOf}
+use Rattle.trace.specs.Trace.{TraceStart, Accepted, Refused, startOf, replayOf}
 
 -- A trace, by its header and its entries: each entry's first byte, and its record.
 pub record TraceParts : Type 0 where
@@ -55,11 +53,11 @@ abbrev pub afterEntries : Station → List (ℕ × List ℕ) → Station
 afterEntries s [] = s
 afterEntries s ((kind, bytes) ∷ more) = afterEntries (entryOf s kind bytes .station) more
 
-abbrev pub leftOn : Started → List (ℕ × List ℕ) → Started
-leftOn (started.Accepted s) entries = started.Accepted (afterEntries s entries)
-leftOn (started.Refused n) entries = started.Refused n
+abbrev pub leftOn : TraceStart → List (ℕ × List ℕ) → TraceStart
+leftOn (Accepted s) entries = Accepted (afterEntries s entries)
+leftOn (Refused n) entries = Refused n
 
-abbrev pub leftBy : TraceParts → Started
+abbrev pub leftBy : TraceParts → TraceStart
 leftBy trace = leftOn (startOf (traceBytes trace)) (trace .entries)
 
 -- A row, in the order of document 01.
@@ -159,7 +157,8 @@ example9 = record { header = example12 .header; entries = example12 .entries ++ 
 abbrev pub aloneStation : Station
 aloneStation =
     record {
-      core = record { «last_token_time» = record { 0 = 7532 }; «end_token_hold_time» = record { from = zeroTime; span = record { 0 = 64872 }; less = zeroTime }; «last_bus_activity» = activity.At (record { 0 = 7598 }); state = PassToken true First; «gap_state» = Waiting 0; «pending_bytes» = 0; «next_application» = 0; online = true };
+      state = PassToken true First;
+      core = record { «last_token_time» = record { 0 = 7532 }; «end_token_hold_time» = record { 0 = 64872 }; «last_bus_activity» = activity.At (record { 0 = 7598 }); «gap_state» = Waiting 0; «pending_bytes» = 0; «next_application» = 0; online = true };
       «token_ring» = record { low = 2 ^ 5; high = 0; own = 5; laps = 0; ready = true };
       p = example 10;
       applications = 1;
@@ -167,7 +166,7 @@ aloneStation =
 
 -- it with another gap state (for example 8; a walk begins at our own address when the count has come to 11)
 abbrev pub withGapState : Station → GapState → Station
-withGapState s x = record { core = withGap (s .core) x; «token_ring» = s .«token_ring»; p = s .p; applications = s .applications }
+withGapState s x = record { state = s .state; core = withGap (s .core) x; «token_ring» = s .«token_ring»; p = s .p; applications = s .applications }
 
 -- Example 10's trace: a token from 9 to us is heard, then nothing; the token is claimed, sent twice and used. The station has the
 -- neighbour 9 and starts a token pass.
@@ -178,7 +177,8 @@ example10 =
 abbrev pub neighbourStation : Station
 neighbourStation =
     record {
-      core = record { «last_token_time» = record { 0 = 7700 }; «end_token_hold_time» = record { from = zeroTime; span = record { 0 = 64872 }; less = zeroTime }; «last_bus_activity» = activity.At (record { 0 = 7766 }); state = PassToken true First; «gap_state» = Waiting 0; «pending_bytes» = 0; «next_application» = 0; online = true };
+      state = PassToken true First;
+      core = record { «last_token_time» = record { 0 = 7700 }; «end_token_hold_time» = record { 0 = 64872 }; «last_bus_activity» = activity.At (record { 0 = 7766 }); «gap_state» = Waiting 0; «pending_bytes» = 0; «next_application» = 0; online = true };
       «token_ring» = record { low = 2 ^ 5 + 2 ^ 9; high = 0; own = 5; laps = 1; ready = true };
       p = example 10;
       applications = 1;
@@ -207,7 +207,8 @@ example11 =
 abbrev pub collidedOnce : Station
 collidedOnce =
     record {
-      core = record { «last_token_time» = record { 0 = 9400 }; «end_token_hold_time» = record { from = record { 0 = 8400 }; span = record { 0 = 64872 }; less = record { 0 = 600 } }; «last_bus_activity» = activity.At (record { 0 = 10200 }); state = ListenToken optionAddress.None 1; «gap_state» = DoPoll 6; «pending_bytes» = 7; «next_application» = 1; online = true };
+      state = ListenToken optionAddress.None 1;
+      core = record { «last_token_time» = record { 0 = 9400 }; «end_token_hold_time» = record { 0 = 72672 }; «last_bus_activity» = activity.At (record { 0 = 10200 }); «gap_state» = DoPoll 6; «pending_bytes» = 7; «next_application» = 1; online = true };
       «token_ring» = record { low = 2 ^ 5 + 2 ^ 9 + 2 ^ 12; high = 0; own = 5; laps = 2; ready = true };
       p = example 1;
       applications = 2;
@@ -217,7 +218,8 @@ collidedOnce =
 abbrev pub freshBut : Activity → Station
 freshBut last =
     record {
-      core = record { «last_token_time» = zeroTime; «end_token_hold_time» = record { from = zeroTime; span = zeroTime; less = zeroTime }; «last_bus_activity» = last; state = Offline; «gap_state» = Waiting 0; «pending_bytes» = 0; «next_application» = 0; online = false };
+      state = Offline;
+      core = record { «last_token_time» = zeroTime; «end_token_hold_time» = zeroTime; «last_bus_activity» = last; «gap_state» = Waiting 0; «pending_bytes» = 0; «next_application» = 0; online = false };
       «token_ring» = record { low = 2 ^ 5; high = 0; own = 5; laps = 0; ready = false };
       p = example 1;
       applications = 2;
@@ -230,9 +232,9 @@ Holds (time bits code micros) = timeAt bits (baudOf code) ≡ record { 0 = micro
 Holds (slot micros) = slotTimeOf (example 10) ≡ record { 0 = micros }
 Holds (lost micros) = tokenLostOf (example 10) ≡ record { 0 = micros }
 Holds (walk from before expected sends) = (gapOf (freshOf 5) from 126 ≡ expected) × (passesOf 1 7800 (withGapState aloneStation before) ≡ (sends, expected) ∷ [])
-Holds (passes trace left clock expected) = (leftBy trace ≡ started.Accepted left) × (passesOf (length expected) clock left ≡ expected)
-Holds (silence trace left clocks expected) = (leftBy trace ≡ started.Accepted left) × (sentAlong left clocks ≡ expected)
-Holds (collision trace left bytes expected) = (leftBy trace ≡ started.Accepted left) × (pollOf left bytes .station ≡ expected)
+Holds (passes trace left clock expected) = (leftBy trace ≡ Accepted left) × (passesOf (length expected) clock left ≡ expected)
+Holds (silence trace left clocks expected) = (leftBy trace ≡ Accepted left) × (sentAlong left clocks ≡ expected)
+Holds (collision trace left bytes expected) = (leftBy trace ≡ Accepted left) × (pollOf left bytes .station ≡ expected)
 Holds (replay trace lines entries ending) = let replayed = replayOf (traceBytes trace) 32768 in (map answerWord (replayed .answers) ≡ lines) × (length (replayed .answers) ≡ entries) × (replayed .ending ≡ ending)
 
 -- all rows of a table hold

@@ -16,9 +16,8 @@ use Rattle.codec_answers.specs.declared.Unpacked.the-variants.{Is}
 use Rattle.codec_answers.specs.Answers.{answerWord, unpackOf, Fits}
 use Rattle.codec_answers.specs.Laws.{answer-unpacks}
 use Rattle.station.specs.declared.Station.{Station}
-use Rattle.station.specs.declared.Started.the-variants as started
 use Rattle.trace.specs.Entries.{entryOf}
-use Rattle.trace.specs.Trace.{startOf, written}
+use Rattle.trace.specs.Trace.{Accepted, startOf, written}
 use Rattle.trace.specs.Laws.{written-append}
 use Rattle.theorem_sound.specs.Sound.{SoundStation}
 use Rattle.theorem_sound.specs.Fits.{every-answer-fits}
@@ -46,7 +45,7 @@ pub record Place (entries : List Entry) (i : ℕ) : Type 0 where
 abbrev pub EveryAnswerReads : Type 0
 EveryAnswerReads =
     (trace before : List ℕ) (returned : ℕ) (left : List ℕ) (fresh : Station)
-    → startOf trace ≡ started.Accepted fresh
+    → startOf trace ≡ Accepted fresh
     → (run : Answered fresh trace before returned left)
     → (i : ℕ) (at : Place (run .entries) i)
     → unpackOf (wordAt left i) ≡ Is (entryOf (along fresh (at .earlier) .station) (at .entry .kind) (at .entry .bytes) .answer)

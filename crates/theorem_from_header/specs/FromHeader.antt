@@ -6,27 +6,29 @@ use mathlib.Core.Path.{_≡_, refl, sym, ap, _∙_, subst}
 use mathlib.Core.Bool.{Bool, true, false, cond, _&&_}
 use mathlib.Core.List.{List, [], _∷_}
 use native.Mathlib.Omega.{arith}
+use borrow.Author.Tests.{eqb-true}
 use borrow.Table.Steps.{cases}
 use lib.ListN.{length}
 use lib.Dec.{eqb, leb}
 use Rattle.settings.specs.declared.Parameters.{Parameters}
 use Rattle.settings.specs.declared.Created.{Created}
 use Rattle.settings.specs.declared.Created.the-variants as created
-use Rattle.settings.specs.Rules.{applicationsRefusal}
-use Rattle.settings_build.specs.Build.{firstRefusal, buildOf, plainOf}
+use Rattle.settings.specs.Rules.{factorsRefusal, applicationsRefusal}
+use Rattle.settings.specs.RuleLaws.{none-refuses}
+use Rattle.settings_build.specs.Build.{earlyRefusal, firstRefusal, buildOf, plainOf}
+use Rattle.codec_fields.specs.Fields.{zeroOr14}
 use Rattle.codec_records.specs.Records.{recordRefusal}
 use Rattle.station.specs.declared.PassTokenAttempt.the-variants.{First}
 use Rattle.station.specs.declared.State.the-variants.{PassToken}
 use Rattle.station.specs.declared.Station.{Station}
-use Rattle.station.specs.declared.Started.{Started}
-use Rattle.station.specs.declared.Started.the-variants as started
-use Rattle.station.specs.Parts.{freshStation, newStation}
+use Rattle.station.specs.Parts.{freshStation}
 use Rattle.station_answer.specs.Answer.{polledOf, refusedPoll}
 use Rattle.station_command.specs.Command.{onlineOf, offlineOf, passiveOf}
 use Rattle.station_poll.specs.Poll.{acceptedAfter, acceptedPoll, pollOf}
+use Rattle.trace_headers.specs.declared.Header.{Header}
 use Rattle.trace_headers.specs.Headers.{headerOf, headerRefusal}
 use Rattle.trace.specs.Entries.{entryOf}
-use Rattle.trace.specs.Trace.{startedAfter, startedOf, startOf, runOf}
+use Rattle.trace.specs.Trace.{settingsOf, settingsAt, Accepted, startedWith, startOf, runOf}
 use Rattle.theorem_sound.specs.Sound.{Call, poll, online, offline, passive, after, run, SoundStation}
 use Rattle.theorem_sound.specs.Fits.{answerTo}
 use Rattle.theorem_silence.specs.Silence.{gapDue, Start, AllQuiet, Silence}
@@ -39,11 +41,13 @@ use Rattle.settings_build.specs.Built.{Built, build-accepts, built-passes}
 
 -- What is said.
 
--- the station that a trace's header starts: what `new` gives for the settings that `build` makes of the header's fields
+-- the station that a trace's header starts: what `new` gives for the settings that `build` makes of the header's fields, and for its
+-- number of applications, which is accepted
 pub record StartedByHeader (trace : List ℕ) (fresh : Station) : Type 0 where
   pub settings : Parameters
   pub is-built : buildOf (headerOf trace .settings) ≡ created.Accepted settings
-  pub is-new : newStation settings (headerOf trace .applications) ≡ started.Accepted fresh
+  pub applied : applicationsRefusal (headerOf trace .applications) ≡ 0
+  pub is-new : freshStation settings (headerOf trace .applications) ≡ fresh
 
 -- a station inside a trace: it is one that calls make, sound, with the header's settings, which pass the check of a whole record, and
 -- with the header's number of applications
@@ -65,24 +69,39 @@ entryCalls (e ∷ es) = callOf e ∷ entryCalls es
 
 -- Its proof.
 
--- a start that is not refused
-chosen : (test : Bool) (x : Started) (n : ℕ) (s : Station) → cond test x (started.Refused n) ≡ started.Accepted s → x ≡ started.Accepted s
-chosen true x n s e = e
-chosen false x n s e = let z : _≡_ {A = ℕ} 0 1 = cc in absurd (omega arith)
+-- settings that are not refused
+chosen : (test : Bool) (x : Created) (n : ℕ) (p : Parameters) → cond test x (created.Refused n) ≡ created.Accepted p → (test ≡ true) × (x ≡ created.Accepted p)
+chosen true x n p e = (refl, e)
+chosen false x n p e = let z : _≡_ {A = ℕ} 0 1 = cc in absurd (omega arith)
 
-started-by : (trace : List ℕ) (fresh : Station) (x : Created) → buildOf (headerOf trace .settings) ≡ x → startedAfter x (headerOf trace .applications) ≡ started.Accepted fresh → StartedByHeader trace fresh
-unfolding startedAfter
-started-by trace fresh (created.Accepted p) b e = record { settings = p; is-built = b; is-new = e }
+-- a header that is not refused has an accepted number of applications
+header-applies : (h : Header) → headerRefusal h ≡ 0 → applicationsRefusal (h .applications) ≡ 0
+unfolding headerRefusal
+header-applies h e =
+    let zero-bits = zeroOr14 (h .«zero_bits») ∷ [] in
+    let factors = factorsRefusal (h .settings .«factor_1») (h .settings .«factor_2») ∷ zero-bits in
+    none-refuses (applicationsRefusal (h .applications)) factors (none-refuses (earlyRefusal (h .settings)) (applicationsRefusal (h .applications) ∷ factors) e .1) .0
+
+started-by : (trace : List ℕ) (fresh : Station) (x : Created) → settingsAt trace ≡ x → startedWith x (headerOf trace .applications) ≡ Accepted fresh → StartedByHeader trace fresh
+unfolding settingsAt settingsOf startedWith
+started-by trace fresh (created.Accepted p) b e =
+    let long = chosen (leb 16 (length trace) && leb (length trace) (2 ^ 32)) _ 17 p b in
+    let good = chosen (eqb (headerRefusal (headerOf trace)) 0) _ _ p (long .1) in
+    record {
+      settings = p;
+      is-built = good .1;
+      applied = header-applies (headerOf trace) (eqb-true _ _ (good .0));
+      is-new = same e;
+    }
+  where
+    same : Accepted (freshStation p (headerOf trace .applications)) ≡ Accepted fresh → freshStation p (headerOf trace .applications) ≡ fresh
+    same h = cc
 started-by trace fresh (created.Refused n) b e = let z : _≡_ {A = ℕ} 0 1 = cc in absurd (omega arith)
 
 -- the station that a trace starts is what `new` gives for accepted settings
-pub header-starts : (trace : List ℕ) (fresh : Station) → startOf trace ≡ started.Accepted fresh → StartedByHeader trace fresh
-unfolding startOf startedOf
-header-starts trace fresh e =
-    let h = headerOf trace in
-    started-by trace fresh (buildOf (h .settings)) refl
-    (chosen (eqb (headerRefusal h) 0) (startedAfter (buildOf (h .settings)) (h .applications)) (headerRefusal h) fresh
-    (chosen (leb 16 (length trace) && leb (length trace) (2 ^ 32)) (startedOf h) 17 fresh e))
+pub header-starts : (trace : List ℕ) (fresh : Station) → startOf trace ≡ Accepted fresh → StartedByHeader trace fresh
+unfolding startOf
+header-starts trace fresh e = started-by trace fresh (settingsAt trace) refl e
 
 -- an entry leaves what its call leaves, and is answered as its call is
 pub entry-leaves : (s : Station) (e : Entry) → entryOf s (e .kind) (e .bytes) .station ≡ after s (callOf e)
@@ -120,15 +139,12 @@ unfolding run
 run-applications [] s = refl
 run-applications (c ∷ cs) s = run-applications cs (after s c) ∙ after-applications s c
 
-new-applications : (p : Parameters) (n : ℕ) (s : Station) → newStation p n ≡ started.Accepted s → s .applications ≡ n
-unfolding newStation freshStation
-new-applications p n s e = let same : freshStation p n ≡ s = taken (chosen (eqb (applicationsRefusal n) 0) _ (applicationsRefusal n) s e) in rw (← same)
-  where
-    taken : started.Accepted (freshStation p n) ≡ started.Accepted s → freshStation p n ≡ s
-    taken h = cc
+fresh-applications : (p : Parameters) (n : ℕ) (s : Station) → freshStation p n ≡ s → s .applications ≡ n
+unfolding freshStation
+fresh-applications p n s e = rw (← e)
 
 -- the station that any entries leave of the one that a header starts; with no entries, that one itself
-pub from-header : (trace : List ℕ) (fresh : Station) (es : List Entry) → startOf trace ≡ started.Accepted fresh → OfHeader trace (along fresh es .station)
+pub from-header : (trace : List ℕ) (fresh : Station) (es : List Entry) → startOf trace ≡ Accepted fresh → OfHeader trace (along fresh es .station)
 from-header trace fresh es e =
     record {
       by-calls = calls;
@@ -138,7 +154,7 @@ from-header trace fresh es e =
       same-applications =
           ap (λ (x : Station). x .applications) (sym (entries-leave es fresh))
           ∙ run-applications (entryCalls es) fresh
-          ∙ new-applications (h .settings) (headerOf trace .applications) fresh (h .is-new);
+          ∙ fresh-applications (h .settings) (headerOf trace .applications) fresh (h .is-new);
     }
   where
     s : Station
@@ -156,14 +172,13 @@ from-header trace fresh es e =
           settings = h .settings;
           applications = headerOf trace .applications;
           accepted = built-passes (headerOf trace .settings) (h .settings) built;
-          fresh = fresh;
-          is-new = h .is-new;
+          number-accepted = h .applied;
           calls = entryCalls es;
-          makes = entries-leave es fresh;
+          makes = ap (λ (x : Station). run x (entryCalls es)) (h .is-new) ∙ entries-leave es fresh;
         }
 
 -- and the station that any run over bytes leaves of it
-pub run-from-header : (trace : List ℕ) (fresh : Station) (bytes : List ℕ) (room : ℕ) → startOf trace ≡ started.Accepted fresh → OfHeader trace (runOf fresh bytes room .station)
+pub run-from-header : (trace : List ℕ) (fresh : Station) (bytes : List ℕ) (room : ℕ) → startOf trace ≡ Accepted fresh → OfHeader trace (runOf fresh bytes room .station)
 run-from-header trace fresh bytes room e =
     let t = taken fresh bytes room in
     subst (OfHeader trace) (sym (t .reached)) (from-header trace fresh (t .entries) e)
@@ -172,10 +187,10 @@ run-from-header trace fresh bytes room e =
 -- PassToken at its first attempt, and that no gap question is due
 pub start-in-trace :
     (trace : List ℕ) (fresh : Station) (es : List Entry)
-    → startOf trace ≡ started.Accepted fresh
+    → startOf trace ≡ Accepted fresh
     → silence.online (along fresh es .station) ≡ true
     → (gap : Bool)
-    → along fresh es .station .core .state ≡ PassToken gap First
+    → along fresh es .station .state ≡ PassToken gap First
     → gapDue (along fresh es .station .p) (along fresh es .station .core) (along fresh es .station .«token_ring») gap ≡ false
     → Start (along fresh es .station)
 start-in-trace trace fresh es e on gap state due = start-of-calls (along fresh es .station) (from-header trace fresh es e .by-calls) on gap state due
@@ -183,10 +198,10 @@ start-in-trace trace fresh es e on gap state due = start-of-calls (along fresh e
 -- and demand 3 holds of it
 pub silence-inside :
     (trace : List ℕ) (fresh : Station) (es : List Entry) (records : List (List ℕ))
-    → startOf trace ≡ started.Accepted fresh
+    → startOf trace ≡ Accepted fresh
     → silence.online (along fresh es .station) ≡ true
     → (gap : Bool)
-    → along fresh es .station .core .state ≡ PassToken gap First
+    → along fresh es .station .state ≡ PassToken gap First
     → gapDue (along fresh es .station .p) (along fresh es .station .core) (along fresh es .station .«token_ring») gap ≡ false
     → AllQuiet (headerOf trace .applications) records
     → Silence (along fresh es .station) records

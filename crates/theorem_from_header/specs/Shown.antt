@@ -26,8 +26,7 @@ use Rattle.codec_answers.specs.declared.Sent.the-variants.{Token}
 use Rattle.station.specs.declared.PassTokenAttempt.the-variants.{First}
 use Rattle.station.specs.declared.State.the-variants.{PassToken}
 use Rattle.station.specs.declared.Station.{Station}
-use Rattle.station.specs.declared.Started.the-variants as started
-use Rattle.station.specs.Parts.{newStation, freshStation, freshCore, withState, withActivity, withGap, withPending, withTokenTimes, withNextApplication, withOnline}
+use Rattle.station.specs.Parts.{freshStation, freshCore, withActivity, withGap, withPending, withTokenTimes, withNextApplication, withOnline}
 use Rattle.station.specs.Steps as steps
 use Rattle.station_hear_listen.specs.HearListen as hear
 use Rattle.station_listen.specs.Listen as listening
@@ -40,7 +39,7 @@ use Rattle.station_command.specs.Command as commands
 use Rattle.station_poll.specs.Poll as polling
 use Rattle.trace_headers.specs.Headers as headers
 use Rattle.trace.specs.Entries as entries
-use Rattle.trace.specs.Trace.{startedAfter, startedOf, startOf, replayOf, bufferOf}
+use Rattle.trace.specs.Trace.{settingsOf, settingsAt, Accepted, startedWith, startOf, replayOf, bufferOf}
 use Rattle.theorem_silence.specs.Silence.{AllQuiet, online, gapDue, slotAfter, counted, countedIn, tokens}
 use Rattle.theorem_silence.specs.SilentRecords.{silentAt, silent-quiet}
 use Rattle.theorem_every_trace.specs.Statement.{Entry, Whole, laid, along}
@@ -87,8 +86,8 @@ settings =
       «watchdog_factors» = wf.None;
     }
 
-starts : startOf trace ≡ started.Accepted (freshStation settings 1)
-unfolding fieldOf beFrom loadOf headers.headerAt headers.headerOf headers.headerRefusal rules.refuseBelow rules.refuseOutside rules.addressRefusal rules.baudRefusal rules.slotBitsRefusal rules.hsaRefusal rules.rotationRefusal rules.gapWaitRefusal rules.retryRefusal rules.minTsdrRefusal rules.factorsRefusal rules.applicationsRefusal earlyRefusal firstRefusal pairOf builtAt buildOf baudOf startedAfter startedOf startOf newStation zerosOr14
+starts : startOf trace ≡ Accepted (freshStation settings 1)
+unfolding fieldOf beFrom loadOf headers.headerAt headers.headerOf headers.headerRefusal rules.refuseBelow rules.refuseOutside rules.addressRefusal rules.baudRefusal rules.slotBitsRefusal rules.hsaRefusal rules.rotationRefusal rules.gapWaitRefusal rules.retryRefusal rules.minTsdrRefusal rules.factorsRefusal rules.applicationsRefusal earlyRefusal firstRefusal pairOf builtAt buildOf baudOf settingsOf settingsAt startedWith startOf zerosOr14
 starts = refl
 
 one-application : headers.headerOf trace .applications ≡ 1
@@ -106,14 +105,14 @@ reached = along (freshStation settings 1) earlier .station
 record Reached : Type 0 where
   pub whole : Whole earlier
   pub on : online reached ≡ true
-  pub state : reached .core .state ≡ PassToken true First
+  pub state : reached .state ≡ PassToken true First
   pub due : gapDue (reached .p) (reached .core) (reached .«token_ring») true ≡ false
   pub neighbour : others (reached .«token_ring») ≡ 9 ∷ []
   pub all-counted : countedIn reached silent-records ≡ 4
 
 -- worked out from the definitions
 worked : Reached
-unfolding entries.recordLength entries.entryOf fieldOf beFrom loadOf rounded timeOf slotTimeOf tokenLostOf rotationTimeOf walk nearest betweenOf keeps sameSet roundOf lapsOf bitOf wordOf hasIn has make others freshOf passed witnessOf claimOf nextOf prevOf freshStation freshCore withState withActivity withGap withPending withTokenTimes withNextApplication withOnline zerosOr14 decisions.lengthRefusal words.responseStateOf decisions.decisionRefusal words.telegramRefusal words.telegramOf decisions.decisionOf records.headOf records.telegramAt records.decisionAt records.entryRefusal records.wordsRefusal records.recordRefusal steps.toListenToken steps.knownAt steps.elapsedOf steps.markedAt steps.busyOf steps.ongoingOf steps.pauseOf steps.sentAt steps.busActivityOf steps.rxOf steps.slotExpiredOf steps.tokenLostWaitOf steps.doneOf steps.transmitOf steps.heardOf hear.listenHeard hear.listenTelegramOn hear.listenTelegram listening.heardTelegram listening.heardAll listening.receivedAll listening.consumedAll listening.listenTokenOn listening.listenTokenAfter listening.listenTokenOf polling.connectedOn polling.connectedOf polling.dispatchOn polling.dispatchOf polling.pollOnline polling.pollInner answering.polledOf polling.acceptedAfter polling.acceptedPoll polling.pollOf commands.onlineOf steps.toClaimToken claiming.claimNext claiming.claimAfter claiming.claimTokenOf steps.toUseToken steps.withTokenTime steps.toPassToken listening.lostTokenOf holding.declinesOn holding.declinesAt holding.usePassOf holding.appTransmitOf holding.firstOr holding.turnOf holding.askedFrom holding.askedOf holding.holdLess holding.holdEndOf holding.holdsOf holding.useAppsAfter holding.useAppsOf holding.useTokenAfter holding.useTokenTimed holding.useTokenOf passing.gapAdvanced gapDue passing.passSent passing.passSend passing.passPollOn passing.passPoll passing.passAfter passing.passTokenOf checking.resendOf checking.checkReceived checking.checkAfter checking.checkTokenPassOf removeOf takeOut steps.toCheckTokenPass counted countedIn slotAfter answering.stepAnswer
+unfolding entries.recordLength entries.entryOf fieldOf beFrom loadOf rounded timeOf slotTimeOf tokenLostOf rotationTimeOf walk nearest betweenOf keeps sameSet roundOf lapsOf bitOf wordOf hasIn has make others freshOf passed witnessOf claimOf nextOf prevOf freshStation freshCore withActivity withGap withPending withTokenTimes withNextApplication withOnline zerosOr14 decisions.lengthRefusal words.responseStateOf decisions.decisionRefusal words.telegramRefusal words.telegramOf decisions.decisionOf records.headOf records.telegramAt records.decisionAt records.entryRefusal records.wordsRefusal records.recordRefusal steps.knownAt steps.elapsedOf steps.markedAt steps.busyOf steps.ongoingOf steps.waitedOf steps.pauseOf steps.sentAt steps.busActivityOf steps.rxOf steps.slotExpiredOf steps.tokenLostWaitOf steps.doneOf steps.transmitOf steps.heardOf hear.listenHeard hear.listenTelegram listening.heardTelegram listening.heardAll listening.receivedAll listening.consumedAll listening.listenTokenOn listening.handleLostToken listening.listenTokenOf polling.connectedOf polling.dispatchOf polling.pollOnline polling.pollInner answering.polledOf polling.acceptedAfter polling.acceptedPoll polling.pollOf commands.onlineOf claiming.claimNext claiming.claimTokenOf steps.withTokenTime holding.declinesOn holding.declinesAt holding.usePassOf holding.appTransmitOf holding.firstOr holding.turnOf holding.askedFrom holding.askedOf holding.holdLess holding.capped holding.endOf holding.holdEndOf holding.holdsOf holding.useAppsAfter holding.useAppsOf holding.useTokenTimed holding.useTokenOf passing.gapAdvanced gapDue passing.passSent passing.passSend passing.passPollOn passing.passPoll passing.passTokenOf checking.resendOf checking.checkReceived checking.checkTokenPassOf removeOf takeOut counted countedIn slotAfter answering.stepAnswer
 worked =
     record {
       whole = (refl, (refl, (refl, (refl, (refl, (refl, tt))))));

@@ -25,9 +25,8 @@ use Rattle.codec_answers.specs.Answers.{unpackOf}
 use Rattle.station.specs.declared.PassTokenAttempt.the-variants.{First}
 use Rattle.station.specs.declared.State.the-variants.{PassToken}
 use Rattle.station.specs.declared.Station.{Station}
-use Rattle.station.specs.declared.Started.the-variants as started
 use Rattle.trace_headers.specs.Headers.{headerOf}
-use Rattle.trace.specs.Trace.{startOf, replayOf, bufferOf}
+use Rattle.trace.specs.Trace.{Accepted, startOf, replayOf, bufferOf}
 use Rattle.theorem_silence.specs.Silence.{online, gapDue, AllQuiet, until, told, countedIn, tokens}
 use Rattle.theorem_every_trace.specs.Statement.{Entry, Whole, laid, along}
 use Rattle.theorem_from_header.specs.AnswersRead.{wordAt}
@@ -90,11 +89,11 @@ pub record SilentTrace (trace before : List ℕ) : Type 0 where
   pub room : 8 * (length earlier + length records) ≤ length before
   -- the header is not refused: it starts the station `fresh`
   pub fresh : Station
-  pub starts : startOf trace ≡ started.Accepted fresh
+  pub starts : startOf trace ≡ Accepted fresh
   -- the station that the entries leave is online, in PassToken at its first attempt, and no gap question is due
   pub not-offline : online (along fresh earlier .station) ≡ true
   pub gap : Bool
-  pub passing : along fresh earlier .station .core .state ≡ PassToken gap First
+  pub passing : along fresh earlier .station .state ≡ PassToken gap First
   pub no-question : gapDue (along fresh earlier .station .p) (along fresh earlier .station .core) (along fresh earlier .station .«token_ring») gap ≡ false
   -- the records are accepted, for as many applications as the header says, and report nothing
   pub quiet : AllQuiet (headerOf trace .applications) records

@@ -156,7 +156,7 @@ run-begins s es more room w l =
 -- What the answers say, and what the station does.
 
 -- a poll's answer says the state after it
-poll-state : (s : Station) (bytes : List ℕ) → pollOf s bytes .answer .state ≡ stateNumber (pollOf s bytes .station .core .state)
+poll-state : (s : Station) (bytes : List ℕ) → pollOf s bytes .answer .state ≡ stateNumber (pollOf s bytes .station .state)
 unfolding pollOf acceptedPoll acceptedAfter polledOf stepAnswer refusedPoll refusedAnswer
 poll-state s bytes = cases (eqb (recordRefusal bytes (s .applications)) 0) (λ e. rw e) (λ e. rw e)
 

@@ -1,6 +1,6 @@
 -- Every station that calls make meets the first two premises of Silence: accepted settings, and sound.
 use Prim.Native.Nat.{ℕ, _<_}
-use mathlib.Core.Bool.{Bool, true, false, cond}
+use mathlib.Core.Bool.{Bool, true, false}
 use mathlib.Core.Path.{_≡_, refl, sym, ap, subst, _∙_}
 use mathlib.Core.List.{List, [], _∷_}
 use native.Mathlib.Omega.{arith}
@@ -15,13 +15,11 @@ use Rattle.codec_records.specs.Records.{recordRefusal}
 use Rattle.station.specs.declared.PassTokenAttempt.the-variants.{First}
 use Rattle.station.specs.declared.State.the-variants.{PassToken}
 use Rattle.station.specs.declared.Station.{Station}
-use Rattle.station.specs.declared.Started.{Started}
-use Rattle.station.specs.declared.Started.the-variants as started
-use Rattle.station.specs.Parts.{freshStation, newStation}
+use Rattle.station.specs.Parts.{freshStation}
 use Rattle.station_answer.specs.Answer.{polledOf, refusedPoll}
 use Rattle.station_command.specs.Command.{onlineOf, offlineOf, passiveOf}
 use Rattle.station_poll.specs.Poll.{acceptedAfter, acceptedPoll, pollOf}
-use Rattle.theorem_sound.specs.Sound.{Call, poll, offline, passive, after, run, SoundStation, SoundRun, every-station-sound}
+use Rattle.theorem_sound.specs.Sound.{Call, poll, offline, passive, after, run, SoundStation, every-station-sound}
 use Rattle.theorem_sound.specs.Sound as call
 use Rattle.theorem_silence.specs.Silence.{Start, online, gapDue}
 
@@ -42,33 +40,28 @@ unfolding run
 run-settings [] s = refl
 run-settings (c ∷ cs) s = run-settings cs (after s c) ∙ after-settings s c
 
--- what `new` accepts has the settings it was given
-new-settings : (p : Parameters) (n : ℕ) (s : Station) → newStation p n ≡ started.Accepted s → s .p ≡ p
-unfolding newStation freshStation
-new-settings p n s e = go (eqb (applicationsRefusal n) 0) e
-  where
-    go : (b : Bool) → cond b (started.Accepted (freshStation p n)) (started.Refused (applicationsRefusal n)) ≡ started.Accepted s → s .p ≡ p
-    go true a = let same : freshStation p n ≡ s = cc in rw (← same)
-    go false a = let z : _≡_ {A = ℕ} 0 1 = cc in absurd (omega arith)
+-- a new station has the settings it was given
+new-settings : (p : Parameters) (n : ℕ) → freshStation p n .p ≡ p
+unfolding freshStation
+new-settings p n = refl
 
 -- accepted settings have an address up to 125
 address-low : (p : Parameters) → firstRefusal (plainOf p) ≡ 0 → p .address < 126
 unfolding plainOf addressRefusal
 address-low p e = omega (arith, outside-in 0 (p .address) 125 1 (omega arith) (passes (plainOf p) e .address) .1)
 
--- a station that any list of polls and commands makes of one that `new` accepts with accepted settings
+-- a station that any list of polls and commands makes of a new one with accepted settings and an accepted number of applications
 pub record ByCalls (s : Station) : Type 0 where
   pub settings : Parameters
   pub applications : ℕ
   pub accepted : firstRefusal (plainOf settings) ≡ 0
-  pub fresh : Station
-  pub is-new : newStation settings applications ≡ started.Accepted fresh
+  pub number-accepted : applicationsRefusal applications ≡ 0
   pub calls : List Call
-  pub makes : run fresh calls ≡ s
+  pub makes : run (freshStation settings applications) calls ≡ s
 
 -- its settings are those that `new` was given, and so accepted ones; and it is sound
 pub settings-given : (s : Station) (b : ByCalls s) → s .p ≡ b .settings
-settings-given s b = ap (λ (x : Station). x .p) (sym (b .makes)) ∙ run-settings (b .calls) (b .fresh) ∙ new-settings (b .settings) (b .applications) (b .fresh) (b .is-new)
+settings-given s b = ap (λ (x : Station). x .p) (sym (b .makes)) ∙ run-settings (b .calls) _ ∙ new-settings (b .settings) (b .applications)
 
 pub settings-of-calls : (s : Station) → ByCalls s → firstRefusal (plainOf (s .p)) ≡ 0
 settings-of-calls s b = subst (λ (q : Parameters). firstRefusal (plainOf q) ≡ 0) (sym (settings-given s b)) (b .accepted)
@@ -76,9 +69,9 @@ settings-of-calls s b = subst (λ (q : Parameters). firstRefusal (plainOf q) ≡
 pub sound-of-calls : (s : Station) → ByCalls s → SoundStation s
 sound-of-calls s b =
     subst SoundStation (b .makes)
-    (subst (λ (x : Started). SoundRun x (b .calls)) (b .is-new) (every-station-sound (b .settings) (b .applications) (b .calls) (address-low (b .settings) (b .accepted))))
+    (every-station-sound (b .settings) (b .applications) (b .calls) (address-low (b .settings) (b .accepted)) (b .number-accepted))
 
 -- so it meets the premises of Silence as soon as it is online, in PassToken at its first attempt, with no gap question due
-pub start-of-calls : (s : Station) → ByCalls s → online s ≡ true → (gap : Bool) → s .core .state ≡ PassToken gap First → gapDue (s .p) (s .core) (s .«token_ring») gap ≡ false → Start s
+pub start-of-calls : (s : Station) → ByCalls s → online s ≡ true → (gap : Bool) → s .state ≡ PassToken gap First → gapDue (s .p) (s .core) (s .«token_ring») gap ≡ false → Start s
 start-of-calls s b on gap state due =
     record { settings = settings-of-calls s b; sound = sound-of-calls s b; not-offline = on; gap = gap; passing = state; no-question = due }

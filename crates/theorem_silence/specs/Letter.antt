@@ -16,10 +16,9 @@ use Rattle.codec_records.specs.Records.{headOf, decisionAt}
 use Rattle.codec_answers.specs.declared.Sent.{Sent}
 use Rattle.codec_answers.specs.declared.Sent.the-variants.{Nothing, Token, Application}
 use Rattle.station.specs.declared.OptionApplication.the-variants as optionApplication
-use Rattle.station.specs.declared.State.the-variants.{UseToken}
 use Rattle.station.specs.declared.Station.{Station}
 use Rattle.station.specs.Parts.{stateNumber}
-use Rattle.station.specs.Steps.{withTokenTime}
+use Rattle.station.specs.Steps.{toUseToken}
 use Rattle.station_hold.specs.Hold.{askedOf, holdsOf}
 use Rattle.station_poll.specs.Poll.{pollOf}
 use Rattle.theorem_silence.specs.Silence.{Start, AllQuiet, holdsToken, until, told, sentUntil, countedIn}
@@ -57,14 +56,14 @@ inHoldTime s bytes = holdsOf (record { 0 = headOf bytes .clock }) (pollOf s byte
 pub record Asks (s : Station) (bytes : List ℕ) : Type 0 where
   -- it holds the token since this time (UseToken), and has not asked anyone with it yet
   pub since : Micros
-  pub holds : s .core .state ≡ UseToken (withTokenTime since) false
+  pub holds : s .state ≡ toUseToken since
   -- it asks for normal telegrams within the hold time, for those of high priority after it
   pub high : Bool
   pub when : inHoldTime s bytes ≡ not high
   -- it sends what the applications want
   pub asks : pollOf s bytes .answer .sent ≡ askedSent bytes (s .applications) (s .core .«next_application») high
   -- if that is nothing, all have declined and the token is to be passed on: the state is PassToken, number 6
-  pub on : pollOf s bytes .answer .sent ≡ Nothing → stateNumber (pollOf s bytes .station .core .state) ≡ 6
+  pub on : pollOf s bytes .answer .sent ≡ Nothing → stateNumber (pollOf s bytes .station .state) ≡ 6
 
 -- three tokens to the neighbour, then one to itself
 abbrev pub fourTokens : ℕ → ℕ → List Sent

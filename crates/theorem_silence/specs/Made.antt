@@ -22,14 +22,13 @@ use Rattle.codec_telegrams.specs.Words as words
 use Rattle.codec_decisions.specs.Decisions as decisions
 use Rattle.codec_records.specs.declared.Head.{Head}
 use Rattle.codec_records.specs.Records as records
-use Rattle.station.specs.declared.OptionAddress.the-variants as optionAddress
 use Rattle.station.specs.declared.Activity.the-variants as activity
 use Rattle.station.specs.declared.PassTokenAttempt.the-variants.{First}
 use Rattle.station.specs.declared.State.{State}
-use Rattle.station.specs.declared.State.the-variants.{ListenToken, PassToken, AwaitStatusResponse}
+use Rattle.station.specs.declared.State.the-variants.{PassToken, AwaitStatusResponse}
 use Rattle.station.specs.declared.Core.{Core}
 use Rattle.station.specs.declared.Station.{Station}
-use Rattle.station.specs.Parts.{zeroTime, freshStation, freshCore, withState, withActivity, withGap, withPending, withTokenTimes, withNextApplication, withOnline}
+use Rattle.station.specs.Parts.{freshStation, freshCore, withActivity, withGap, withPending, withTokenTimes, withNextApplication, withOnline}
 use Rattle.station.specs.Steps as steps
 use Rattle.station_hear_listen.specs.HearListen as hear
 use Rattle.station_hear_active.specs.HearActive as active
@@ -46,43 +45,41 @@ use Rattle.theorem_sound.specs.Sound.{Call, poll, after, run}
 use Rattle.theorem_silence.specs.Theorem.{stationOf}
 use Rattle.theorem_silence.specs.Scripts.{token, declines, recordOf, responseOf1, pollHearing, pollSilent, lowest, hears-all, claims, begins-look, begins-question}
 
--- the station with this core and ring
-abbrev pub lowestWith : Core → Ring → Station
-lowestWith c r = stationOf lowest 1 c r
+-- the station with this state, core and ring
+abbrev pub lowestWith : State → Core → Ring → Station
+lowestWith s c r = stationOf lowest 1 s c r
 
--- an online core: the last token time, start and span of the hold, last activity, state, gap state
-abbrev pub coreAt : ℕ → ℕ → ℕ → ℕ → State → GapState → Core
-coreAt token from span last state gap =
-    record { «last_token_time» = record { 0 = token }; «end_token_hold_time» = record { from = record { 0 = from }; span = record { 0 = span }; less = zeroTime }; «last_bus_activity» = activity.At (record { 0 = last }); state = state; «gap_state» = gap; «pending_bytes» = 0; «next_application» = 0; online = true }
+-- an online core: the last token time, the end of hold, last activity, gap state
+abbrev pub coreAt : ℕ → ℕ → ℕ → GapState → Core
+coreAt token hold last gap =
+    record { «last_token_time» = record { 0 = token }; «end_token_hold_time» = record { 0 = hold }; «last_bus_activity» = activity.At (record { 0 = last }); «gap_state» = gap; «pending_bytes» = 0; «next_application» = 0; online = true }
 
--- it listens, with no request and no collision
-abbrev pub listens : State
-listens = ListenToken optionAddress.None 0
+-- The stations on the way, each with any ring.
 
--- the cores on the way to a pass with the look at the gap: it listens, its last activity at this time; then it starts the pass
-abbrev pub listens-look : ℕ → Core
-listens-look last = coreAt 0 0 0 last listens (Waiting 0)
+-- to a pass with the look at the gap: it listens, its last activity at this time; then it starts the pass
+abbrev pub listens-look : ℕ → Ring → Station
+listens-look last r = lowestWith steps.toListenToken (coreAt 0 0 last (Waiting 0)) r
 
-abbrev pub pass-look : Core
-pass-look = coreAt 3500 0 64872 3566 (PassToken true First) (Waiting 0)
+abbrev pub pass-look : Ring → Station
+pass-look r = lowestWith (PassToken true First) (coreAt 3500 64872 3566 (Waiting 0)) r
 
--- and those on the way to a pass after a gap question: it listens, the gap count at 2; it starts a pass, in which the question is due;
--- it awaits the answer of 1; it has it and starts the pass
-abbrev pub listens-question : ℕ → Core
-listens-question last = coreAt 3400 3000 64872 last listens (Waiting 2)
+-- to a pass after a gap question: it listens, the gap count at 2; it starts a pass, in which the question is due; it awaits the answer
+-- of 1; it has it and starts the pass
+abbrev pub listens-question : ℕ → Ring → Station
+listens-question last r = lowestWith steps.toListenToken (coreAt 3400 67872 last (Waiting 2)) r
 
-abbrev pub pass-question : Core
-pass-question = coreAt 7600 3400 64872 7666 (PassToken true First) (Waiting 2)
+abbrev pub pass-question : Ring → Station
+pass-question r = lowestWith (PassToken true First) (coreAt 7600 68272 7666 (Waiting 2)) r
 
-abbrev pub awaits-one : Core
-awaits-one = coreAt 7600 3400 64872 8132 (AwaitStatusResponse 1) (DoPoll 1)
+abbrev pub awaits-one : Ring → Station
+awaits-one r = lowestWith (AwaitStatusResponse 1) (coreAt 7600 68272 8132 (DoPoll 1)) r
 
-abbrev pub pass-answered : Core
-pass-answered = coreAt 7600 3400 64872 8300 (PassToken false First) (DoPoll 1)
+abbrev pub pass-answered : Ring → Station
+pass-answered r = lowestWith (PassToken false First) (coreAt 7600 68272 8300 (DoPoll 1)) r
 
--- a station by its core and whatever ring it has
-by-core : (s : Station) (c : Core) → s .core ≡ c → s .p ≡ lowest → s .applications ≡ 1 → s ≡ lowestWith c (s .«token_ring»)
-by-core s c core p applications = λ i. record { core = core i; «token_ring» = s .«token_ring»; p = p i; applications = applications i }
+-- a station by its state, its core and whatever ring it has
+by-parts : (s : Station) (x : State) (c : Core) → s .state ≡ x → s .core ≡ c → s .p ≡ lowest → s .applications ≡ 1 → s ≡ lowestWith x c (s .«token_ring»)
+by-parts s x c state core p applications = λ i. record { state = state i; core = core i; «token_ring» = s .«token_ring»; p = p i; applications = applications i }
 
 -- no call changes nothing, and a run goes on where the one before it ended
 pub calls-none : (s : Station) → run s [] ≡ s
@@ -98,7 +95,7 @@ calls-on (c ∷ cs) ds s = calls-on cs ds (after s c)
 
 -- a pass with the look at the gap: online and listening from time 0; then all are heard
 abbrev pub begun-look : Station
-begun-look = lowestWith (listens-look 0) (freshOf 0)
+begun-look = listens-look 0 (freshOf 0)
 
 abbrev pub ring-all : Ring
 ring-all = run begun-look (hears-all 100 1 7) .«token_ring»
@@ -108,7 +105,7 @@ abbrev pub ring-alone : Ring
 ring-alone = run (freshStation lowest 1) begins-question .«token_ring»
 
 abbrev pub begun-question : Station
-begun-question = lowestWith (listens-question 4100) ring-alone
+begun-question = listens-question 4100 ring-alone
 
 abbrev pub ring-but-one : Ring
 ring-but-one = run begun-question (hears-all 4200 2 6) .«token_ring»
@@ -116,18 +113,18 @@ ring-but-one = run begun-question (hears-all 4200 2 6) .«token_ring»
 -- these four runs, worked out from the definitions, but for the ring
 pub record FirstRuns : Type 0 where
   pub look : run (freshStation lowest 1) begins-look ≡ begun-look
-  pub heard-all : run begun-look (hears-all 100 1 7) ≡ lowestWith (listens-look 800) ring-all
+  pub heard-all : run begun-look (hears-all 100 1 7) ≡ listens-look 800 ring-all
   pub question : run (freshStation lowest 1) begins-question ≡ begun-question
-  pub heard-but-one : run begun-question (hears-all 4200 2 6) ≡ lowestWith (listens-question 4900) ring-but-one
+  pub heard-but-one : run begun-question (hears-all 4200 2 6) ≡ listens-question 4900 ring-but-one
 
 pub first-runs : FirstRuns
-unfolding walk nearest betweenOf keeps sameSet roundOf lapsOf bitOf wordOf hasIn has make freshOf passed witnessOf claimOf nextOf rounded timeOf slotTimeOf tokenLostOf rotationTimeOf withState withActivity withGap withPending withTokenTimes withNextApplication withOnline after run fieldOf beFrom loadOf zerosOr14 words.responseStateOf words.telegramRefusal words.telegramOf decisions.lengthRefusal decisions.decisionRefusal decisions.decisionOf records.headOf records.telegramAt records.decisionAt records.entryRefusal records.wordsRefusal records.recordRefusal steps.knownAt steps.elapsedOf steps.markedAt steps.busyOf steps.ongoingOf steps.busActivityOf steps.doneOf polling.connectedOn polling.connectedOf polling.dispatchOn polling.dispatchOf polling.pollOnline polling.pollInner polling.acceptedAfter polling.acceptedPoll polling.pollOf answering.polledOf steps.rxOf steps.tokenLostWaitOf steps.heardOf hear.listenHeard hear.listenTelegramOn hear.listenTelegram listening.heardTelegram listening.heardAll listening.receivedAll listening.consumedAll listening.listenTokenOn listening.listenTokenAfter listening.listenTokenOf steps.pauseOf steps.sentAt steps.transmitOf steps.toClaimToken steps.toUseToken steps.withTokenTime claiming.claimNext claiming.claimAfter claiming.claimTokenOf listening.lostTokenOf steps.toPassToken holding.declinesOn holding.declinesAt holding.usePassOf holding.appTransmitOf holding.firstOr holding.turnOf holding.askedFrom holding.askedOf holding.holdLess holding.holdEndOf holding.holdsOf holding.useAppsAfter holding.useAppsOf holding.useTokenAfter holding.useTokenTimed holding.useTokenOf passing.gapAdvanced passing.passSent passing.passSend passing.passPollOn passing.passPoll passing.passAfter passing.passTokenOf freshStation freshCore commands.onlineOf steps.toListenToken steps.toAwaitDataResponse steps.toActiveIdle holding.validResponse holding.receivedOf holding.awaitDataOf listening.activeIdleOn listening.activeIdleAfter listening.activeIdleOf active.activeCollided active.tokenHeard active.activeHeard active.handleTelegramOn active.handleTelegram
+unfolding walk nearest betweenOf keeps sameSet roundOf lapsOf bitOf wordOf hasIn has make freshOf passed witnessOf claimOf nextOf rounded timeOf slotTimeOf tokenLostOf rotationTimeOf withActivity withGap withPending withTokenTimes withNextApplication withOnline after run fieldOf beFrom loadOf zerosOr14 words.responseStateOf words.telegramRefusal words.telegramOf decisions.lengthRefusal decisions.decisionRefusal decisions.decisionOf records.headOf records.telegramAt records.decisionAt records.entryRefusal records.wordsRefusal records.recordRefusal steps.knownAt steps.elapsedOf steps.waitedOf steps.markedAt steps.busyOf steps.ongoingOf steps.busActivityOf steps.doneOf polling.connectedOf polling.dispatchOf polling.pollOnline polling.pollInner polling.acceptedAfter polling.acceptedPoll polling.pollOf answering.polledOf steps.rxOf steps.tokenLostWaitOf steps.heardOf hear.listenHeard hear.listenTelegram listening.heardTelegram listening.heardAll listening.receivedAll listening.consumedAll listening.listenTokenOn listening.handleLostToken listening.listenTokenOf steps.pauseOf steps.sentAt steps.transmitOf steps.withTokenTime claiming.claimNext claiming.claimTokenOf holding.declinesOn holding.declinesAt holding.usePassOf holding.appTransmitOf holding.firstOr holding.turnOf holding.askedFrom holding.askedOf holding.holdLess holding.capped holding.endOf holding.holdEndOf holding.holdsOf holding.useAppsAfter holding.useAppsOf holding.useTokenTimed holding.useTokenOf passing.gapAdvanced passing.passSent passing.passSend passing.passPollOn passing.passPoll passing.passTokenOf freshStation freshCore commands.onlineOf holding.validResponse holding.receivedOf holding.awaitDataOf listening.activeIdleOn listening.activeIdleOf active.activeCollided active.tokenHeard active.activeHeard active.handleTelegram
 first-runs =
     record {
       look = refl;
-      heard-all = by-core (run begun-look (hears-all 100 1 7)) (listens-look 800) refl refl refl;
-      question = by-core (run (freshStation lowest 1) begins-question) (listens-question 4100) refl refl refl;
-      heard-but-one = by-core (run begun-question (hears-all 4200 2 6)) (listens-question 4900) refl refl refl;
+      heard-all = by-parts (run begun-look (hears-all 100 1 7)) _ _ refl refl refl refl;
+      question = by-parts (run (freshStation lowest 1) begins-question) _ _ refl refl refl refl;
+      heard-but-one = by-parts (run begun-question (hears-all 4200 2 6)) _ _ refl refl refl refl;
     }
 
 -- and their rings' members
@@ -140,7 +137,7 @@ record Tested : Type 0 where
   pub own-but-one : ring-but-one .own ≡ 0
 
 tested : Tested
-unfolding walk nearest betweenOf keeps sameSet roundOf lapsOf bitOf wordOf hasIn has make freshOf passed witnessOf claimOf nextOf rounded timeOf slotTimeOf tokenLostOf rotationTimeOf withState withActivity withGap withPending withTokenTimes withNextApplication withOnline after run fieldOf beFrom loadOf zerosOr14 words.responseStateOf words.telegramRefusal words.telegramOf decisions.lengthRefusal decisions.decisionRefusal decisions.decisionOf records.headOf records.telegramAt records.decisionAt records.entryRefusal records.wordsRefusal records.recordRefusal steps.knownAt steps.elapsedOf steps.markedAt steps.busyOf steps.ongoingOf steps.busActivityOf steps.doneOf polling.connectedOn polling.connectedOf polling.dispatchOn polling.dispatchOf polling.pollOnline polling.pollInner polling.acceptedAfter polling.acceptedPoll polling.pollOf answering.polledOf steps.rxOf steps.tokenLostWaitOf steps.heardOf hear.listenHeard hear.listenTelegramOn hear.listenTelegram listening.heardTelegram listening.heardAll listening.receivedAll listening.consumedAll listening.listenTokenOn listening.listenTokenAfter listening.listenTokenOf steps.pauseOf steps.sentAt steps.transmitOf steps.toClaimToken steps.toUseToken steps.withTokenTime claiming.claimNext claiming.claimAfter claiming.claimTokenOf listening.lostTokenOf steps.toPassToken holding.declinesOn holding.declinesAt holding.usePassOf holding.appTransmitOf holding.firstOr holding.turnOf holding.askedFrom holding.askedOf holding.holdLess holding.holdEndOf holding.holdsOf holding.useAppsAfter holding.useAppsOf holding.useTokenAfter holding.useTokenTimed holding.useTokenOf passing.gapAdvanced passing.passSent passing.passSend passing.passPollOn passing.passPoll passing.passAfter passing.passTokenOf freshStation freshCore commands.onlineOf steps.toListenToken steps.toAwaitDataResponse steps.toActiveIdle holding.validResponse holding.receivedOf holding.awaitDataOf listening.activeIdleOn listening.activeIdleAfter listening.activeIdleOf active.activeCollided active.tokenHeard active.activeHeard active.handleTelegramOn active.handleTelegram
+unfolding walk nearest betweenOf keeps sameSet roundOf lapsOf bitOf wordOf hasIn has make freshOf passed witnessOf claimOf nextOf rounded timeOf slotTimeOf tokenLostOf rotationTimeOf withActivity withGap withPending withTokenTimes withNextApplication withOnline after run fieldOf beFrom loadOf zerosOr14 words.responseStateOf words.telegramRefusal words.telegramOf decisions.lengthRefusal decisions.decisionRefusal decisions.decisionOf records.headOf records.telegramAt records.decisionAt records.entryRefusal records.wordsRefusal records.recordRefusal steps.knownAt steps.elapsedOf steps.waitedOf steps.markedAt steps.busyOf steps.ongoingOf steps.busActivityOf steps.doneOf polling.connectedOf polling.dispatchOf polling.pollOnline polling.pollInner polling.acceptedAfter polling.acceptedPoll polling.pollOf answering.polledOf steps.rxOf steps.tokenLostWaitOf steps.heardOf hear.listenHeard hear.listenTelegram listening.heardTelegram listening.heardAll listening.receivedAll listening.consumedAll listening.listenTokenOn listening.handleLostToken listening.listenTokenOf steps.pauseOf steps.sentAt steps.transmitOf steps.withTokenTime claiming.claimNext claiming.claimTokenOf holding.declinesOn holding.declinesAt holding.usePassOf holding.appTransmitOf holding.firstOr holding.turnOf holding.askedFrom holding.askedOf holding.holdLess holding.capped holding.endOf holding.holdEndOf holding.holdsOf holding.useAppsAfter holding.useAppsOf holding.useTokenTimed holding.useTokenOf passing.gapAdvanced passing.passSent passing.passSend passing.passPollOn passing.passPoll passing.passTokenOf freshStation freshCore commands.onlineOf holding.validResponse holding.receivedOf holding.awaitDataOf listening.activeIdleOn listening.activeIdleOf active.activeCollided active.tokenHeard active.activeHeard active.handleTelegram
 tested = record { all = refl; alone = refl; but-one = refl; own-all = refl; own-alone = refl; own-but-one = refl }
 
 pub record Members : Type 0 where
@@ -197,10 +194,10 @@ unfolding polling.pollOf polling.acceptedPoll
 by-head s bytes head e h = rw e (ap (polling.acceptedAfter s bytes) h)
 
 -- it is witnessed, and else only the last activity changes
-pub cut-heard : (bytes : List ℕ) (clock k : ℕ) → SaysToken bytes clock k → 1 ≤ k → (time from span last : ℕ) (gap : GapState) (r : Ring) → last < clock → clock < last + 2400 → run (lowestWith (coreAt time from span last listens gap) r) (poll bytes ∷ []) ≡ lowestWith (coreAt time from span clock listens gap) (witnessOf r k 0)
-unfolding rounded timeOf slotTimeOf tokenLostOf rotationTimeOf withState withActivity withGap withPending withTokenTimes withNextApplication withOnline after run steps.knownAt steps.elapsedOf steps.markedAt steps.busyOf steps.ongoingOf steps.busActivityOf steps.doneOf polling.connectedOn polling.connectedOf polling.dispatchOn polling.dispatchOf polling.pollOnline polling.pollInner polling.acceptedAfter polling.acceptedPoll polling.pollOf answering.polledOf steps.rxOf steps.tokenLostWaitOf steps.heardOf hear.listenHeard hear.listenTelegramOn hear.listenTelegram listening.heardTelegram listening.heardAll listening.receivedAll listening.consumedAll listening.listenTokenOn listening.listenTokenAfter listening.listenTokenOf
-cut-heard bytes clock k said l time from span last gap r later soon =
-    let s = lowestWith (coreAt time from span last listens gap) r in
+pub cut-heard : (bytes : List ℕ) (clock k : ℕ) → SaysToken bytes clock k → 1 ≤ k → (time hold last : ℕ) (gap : GapState) (r : Ring) → last < clock → clock < last + 2400 → run (lowestWith steps.toListenToken (coreAt time hold last gap) r) (poll bytes ∷ []) ≡ lowestWith steps.toListenToken (coreAt time hold clock gap) (witnessOf r k 0)
+unfolding rounded timeOf slotTimeOf tokenLostOf rotationTimeOf withActivity withGap withPending withTokenTimes withNextApplication withOnline after run steps.knownAt steps.elapsedOf steps.waitedOf steps.markedAt steps.busyOf steps.ongoingOf steps.busActivityOf steps.doneOf polling.connectedOf polling.dispatchOf polling.pollOnline polling.pollInner polling.acceptedAfter polling.acceptedPoll polling.pollOf answering.polledOf steps.rxOf steps.tokenLostWaitOf steps.heardOf hear.listenHeard hear.listenTelegram listening.heardTelegram listening.heardAll listening.receivedAll listening.consumedAll listening.listenTokenOn listening.handleLostToken listening.listenTokenOf
+cut-heard bytes clock k said l time hold last gap r later soon =
+    let s = lowestWith steps.toListenToken (coreAt time hold last gap) r in
     ap (λ (x : Polled). x .station) (by-head s bytes _ (said .accepted) (said .head))
     ∙ rw (lt-leb clock last later, lt-leb (last + 2400) clock soon, said .telegram, ne-eqb k 0 (λ e. omega arith), lt-ltb last clock later)
 
@@ -208,24 +205,24 @@ cut-heard bytes clock k said l time from span last gap r later soon =
 
 -- the token is claimed, sent twice and used
 pub record Claimed (r : Ring) : Type 0 where
-  pub look-none : run (lowestWith (listens-look 0) r) (claims 3300) ≡ lowestWith pass-look (claimOf (claimOf r))
-  pub look-heard : run (lowestWith (listens-look 900) r) (claims 3300) ≡ lowestWith pass-look (claimOf (claimOf r))
-  pub question-none : run (lowestWith (listens-question 4100) r) (claims 7400) ≡ lowestWith pass-question (claimOf (claimOf r))
-  pub question-heard : run (lowestWith (listens-question 5000) r) (claims 7400) ≡ lowestWith pass-question (claimOf (claimOf r))
+  pub look-none : run (listens-look 0 r) (claims 3300) ≡ pass-look (claimOf (claimOf r))
+  pub look-heard : run (listens-look 900 r) (claims 3300) ≡ pass-look (claimOf (claimOf r))
+  pub question-none : run (listens-question 4100 r) (claims 7400) ≡ pass-question (claimOf (claimOf r))
+  pub question-heard : run (listens-question 5000 r) (claims 7400) ≡ pass-question (claimOf (claimOf r))
 
 pub claimed : (r : Ring) → Claimed r
-unfolding rounded timeOf slotTimeOf tokenLostOf rotationTimeOf withState withActivity withGap withPending withTokenTimes withNextApplication withOnline after run fieldOf beFrom loadOf zerosOr14 words.responseStateOf words.telegramRefusal words.telegramOf decisions.lengthRefusal decisions.decisionRefusal decisions.decisionOf records.headOf records.telegramAt records.decisionAt records.entryRefusal records.wordsRefusal records.recordRefusal steps.knownAt steps.elapsedOf steps.markedAt steps.busyOf steps.ongoingOf steps.busActivityOf steps.doneOf polling.connectedOn polling.connectedOf polling.dispatchOn polling.dispatchOf polling.pollOnline polling.pollInner polling.acceptedAfter polling.acceptedPoll polling.pollOf answering.polledOf steps.rxOf steps.tokenLostWaitOf steps.heardOf hear.listenHeard hear.listenTelegramOn hear.listenTelegram listening.heardTelegram listening.heardAll listening.receivedAll listening.consumedAll listening.listenTokenOn listening.listenTokenAfter listening.listenTokenOf steps.pauseOf steps.sentAt steps.transmitOf steps.toClaimToken steps.toUseToken steps.withTokenTime claiming.claimNext claiming.claimAfter claiming.claimTokenOf listening.lostTokenOf steps.toPassToken holding.declinesOn holding.declinesAt holding.usePassOf holding.appTransmitOf holding.firstOr holding.turnOf holding.askedFrom holding.askedOf holding.holdLess holding.holdEndOf holding.holdsOf holding.useAppsAfter holding.useAppsOf holding.useTokenAfter holding.useTokenTimed holding.useTokenOf
+unfolding rounded timeOf slotTimeOf tokenLostOf rotationTimeOf withActivity withGap withPending withTokenTimes withNextApplication withOnline after run fieldOf beFrom loadOf zerosOr14 words.responseStateOf words.telegramRefusal words.telegramOf decisions.lengthRefusal decisions.decisionRefusal decisions.decisionOf records.headOf records.telegramAt records.decisionAt records.entryRefusal records.wordsRefusal records.recordRefusal steps.knownAt steps.elapsedOf steps.waitedOf steps.markedAt steps.busyOf steps.ongoingOf steps.busActivityOf steps.doneOf polling.connectedOf polling.dispatchOf polling.pollOnline polling.pollInner polling.acceptedAfter polling.acceptedPoll polling.pollOf answering.polledOf steps.rxOf steps.tokenLostWaitOf steps.heardOf hear.listenHeard hear.listenTelegram listening.heardTelegram listening.heardAll listening.receivedAll listening.consumedAll listening.listenTokenOn listening.handleLostToken listening.listenTokenOf steps.pauseOf steps.sentAt steps.transmitOf steps.withTokenTime claiming.claimNext claiming.claimTokenOf holding.declinesOn holding.declinesAt holding.usePassOf holding.appTransmitOf holding.firstOr holding.turnOf holding.askedFrom holding.askedOf holding.holdLess holding.capped holding.endOf holding.holdEndOf holding.holdsOf holding.useAppsAfter holding.useAppsOf holding.useTokenTimed holding.useTokenOf
 claimed r = record { look-none = refl; look-heard = refl; question-none = refl; question-heard = refl }
 
 -- 1 is asked, where the ring has it polled; and it answers: in the ring, or not ready
-pub one-gets-asked : (r : Ring) → polls r 1 ≡ true → run (lowestWith pass-question r) (pollSilent 8000 ∷ []) ≡ lowestWith awaits-one r
-unfolding rounded timeOf slotTimeOf tokenLostOf rotationTimeOf withState withActivity withGap withPending withTokenTimes withNextApplication withOnline after run fieldOf beFrom loadOf zerosOr14 words.responseStateOf words.telegramRefusal words.telegramOf decisions.lengthRefusal decisions.decisionRefusal decisions.decisionOf records.headOf records.telegramAt records.decisionAt records.entryRefusal records.wordsRefusal records.recordRefusal steps.knownAt steps.elapsedOf steps.markedAt steps.busyOf steps.ongoingOf steps.busActivityOf steps.doneOf polling.connectedOn polling.connectedOf polling.dispatchOn polling.dispatchOf polling.pollOnline polling.pollInner polling.acceptedAfter polling.acceptedPoll polling.pollOf answering.polledOf steps.pauseOf steps.sentAt steps.transmitOf steps.toClaimToken steps.toUseToken steps.withTokenTime claiming.claimNext claiming.claimAfter claiming.claimTokenOf listening.lostTokenOf passing.gapAdvanced passing.passSent passing.passSend passing.passPollOn passing.passPoll passing.passAfter passing.passTokenOf gapOf candidateOf steps.toAwaitStatusResponse status.statusRingOn status.statusRing status.statusAnswered status.statusReceived status.awaitStatusOf
+pub one-gets-asked : (r : Ring) → polls r 1 ≡ true → run (pass-question r) (pollSilent 8000 ∷ []) ≡ awaits-one r
+unfolding rounded timeOf slotTimeOf tokenLostOf rotationTimeOf withActivity withGap withPending withTokenTimes withNextApplication withOnline after run fieldOf beFrom loadOf zerosOr14 words.responseStateOf words.telegramRefusal words.telegramOf decisions.lengthRefusal decisions.decisionRefusal decisions.decisionOf records.headOf records.telegramAt records.decisionAt records.entryRefusal records.wordsRefusal records.recordRefusal steps.knownAt steps.elapsedOf steps.waitedOf steps.markedAt steps.busyOf steps.ongoingOf steps.busActivityOf steps.doneOf polling.connectedOf polling.dispatchOf polling.pollOnline polling.pollInner polling.acceptedAfter polling.acceptedPoll polling.pollOf answering.polledOf steps.pauseOf steps.sentAt steps.transmitOf steps.withTokenTime claiming.claimNext claiming.claimTokenOf passing.gapAdvanced passing.passSent passing.passSend passing.passPollOn passing.passPoll passing.passTokenOf gapOf candidateOf status.statusRingOn status.statusRing status.statusAnswered status.statusReceived status.awaitStatusOf
 one-gets-asked r e = rw e
 
 pub record OneAnswers (r : Ring) : Type 0 where
-  pub in-ring : run (lowestWith awaits-one r) (pollHearing 8300 (responseOf1 3 ∷ []) ∷ []) ≡ lowestWith pass-answered (addOf r 1)
-  pub not-ready : run (lowestWith awaits-one r) (pollHearing 8300 (responseOf1 1 ∷ []) ∷ []) ≡ lowestWith pass-answered r
+  pub in-ring : run (awaits-one r) (pollHearing 8300 (responseOf1 3 ∷ []) ∷ []) ≡ pass-answered (addOf r 1)
+  pub not-ready : run (awaits-one r) (pollHearing 8300 (responseOf1 1 ∷ []) ∷ []) ≡ pass-answered r
 
 pub one-answers : (r : Ring) → OneAnswers r
-unfolding rounded timeOf slotTimeOf tokenLostOf rotationTimeOf withState withActivity withGap withPending withTokenTimes withNextApplication withOnline after run fieldOf beFrom loadOf zerosOr14 words.responseStateOf words.telegramRefusal words.telegramOf decisions.lengthRefusal decisions.decisionRefusal decisions.decisionOf records.headOf records.telegramAt records.decisionAt records.entryRefusal records.wordsRefusal records.recordRefusal steps.knownAt steps.elapsedOf steps.markedAt steps.busyOf steps.ongoingOf steps.busActivityOf steps.doneOf polling.connectedOn polling.connectedOf polling.dispatchOn polling.dispatchOf polling.pollOnline polling.pollInner polling.acceptedAfter polling.acceptedPoll polling.pollOf answering.polledOf steps.rxOf steps.toPassToken gapOf candidateOf steps.toAwaitStatusResponse status.statusRingOn status.statusRing status.statusAnswered status.statusReceived status.awaitStatusOf
+unfolding rounded timeOf slotTimeOf tokenLostOf rotationTimeOf withActivity withGap withPending withTokenTimes withNextApplication withOnline after run fieldOf beFrom loadOf zerosOr14 words.responseStateOf words.telegramRefusal words.telegramOf decisions.lengthRefusal decisions.decisionRefusal decisions.decisionOf records.headOf records.telegramAt records.decisionAt records.entryRefusal records.wordsRefusal records.recordRefusal steps.knownAt steps.elapsedOf steps.waitedOf steps.markedAt steps.busyOf steps.ongoingOf steps.busActivityOf steps.doneOf polling.connectedOf polling.dispatchOf polling.pollOnline polling.pollInner polling.acceptedAfter polling.acceptedPoll polling.pollOf answering.polledOf steps.rxOf gapOf candidateOf status.statusRingOn status.statusRing status.statusAnswered status.statusReceived status.awaitStatusOf
 one-answers r = record { in-ring = refl; not-ready = refl }

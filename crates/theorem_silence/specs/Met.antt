@@ -18,7 +18,7 @@ pub record Met (k : ℕ) (gap : Bool) : Type 0 where
   pub by-calls : ByCalls station
   pub starts : Start station
   pub size : length (others (station .«token_ring»)) ≡ k
-  pub flag : station .core .state ≡ PassToken gap First
+  pub flag : station .state ≡ PassToken gap First
   pub is-sharp : Sharp station
 
 -- there is one for every number of others that a ring can have, and for both flags

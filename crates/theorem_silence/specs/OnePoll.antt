@@ -18,19 +18,17 @@ use Rattle.ring.specs.Laws.{next-is, next-alone, next-other, others-witness, ot
 use Rattle.codec_answers.specs.declared.Outcome.the-variants as outcome
 use Rattle.codec_answers.specs.declared.Sent.the-variants as sent
 use Rattle.station.specs.declared.Activity.{Activity}
-use Rattle.station.specs.declared.Activity.the-variants as activity
 use Rattle.station.specs.declared.PassTokenAttempt.{PassTokenAttempt}
 use Rattle.station.specs.declared.PassTokenAttempt.the-variants.{First, Second, Third}
 use Rattle.station.specs.declared.State.{State}
-use Rattle.station.specs.declared.State.the-variants.{UseToken, PassToken, CheckTokenPass}
+use Rattle.station.specs.declared.State.the-variants.{PassToken, CheckTokenPass}
 use Rattle.station.specs.declared.Core.{Core}
-use Rattle.station.specs.declared.Waited.{Waited}
 use Rattle.station.specs.declared.RingStep.{RingStep}
-use Rattle.station.specs.Parts.{withState, withActivity, withGap}
-use Rattle.station.specs.Steps.{toUseToken, toPassToken, toCheckTokenPass, withTokenTime, markedAt, sentAt, busyOf, pauseOf, slotExpiredOf, doneOf, transmitOf}
-use Rattle.station_pass.specs.Pass.{gapAdvanced, passSent, passSend, passPollOn, passPoll, passAfter, passTokenOf}
-use Rattle.station_check_pass.specs.CheckPass.{resendOf, checkReceived, checkAfter, checkTokenPassOf}
-use Rattle.station_poll.specs.Poll.{dispatchOn, dispatchOf}
+use Rattle.station.specs.Parts.{withActivity, withGap}
+use Rattle.station.specs.Steps.{toUseToken, markedAt, sentAt, busyOf, waitedOf, pauseOf, slotExpiredOf, doneOf, transmitOf, ringStepOf}
+use Rattle.station_pass.specs.Pass.{gapAdvanced, passSent, passSend, passPollOn, passPoll, passTokenOf}
+use Rattle.station_check_pass.specs.CheckPass.{resendOf, checkReceived, checkTokenPassOf}
+use Rattle.station_poll.specs.Poll.{dispatchOf}
 use Rattle.theorem_sound.specs.Keeps.{RingGood, witness-good, remove-good}
 use Rattle.theorem_silence.specs.Silence.{asksOn, gapDue, slotAfter}
 use Rattle.theorem_silence.specs.Times.{Slotted, counted-free, counted-paused, counted-expired, expired-paused}
@@ -43,32 +41,32 @@ pub record Ready (p : Parameters) (c : Core) (r : Ring) (os : List ℕ) : Type 0
   pub are : others r ≡ os
 
 -- the state in which a token pass starts with no gap question due
-pub record Passing (p : Parameters) (c : Core) (r : Ring) : Type 0 where
+pub record Passing (p : Parameters) (s : State) (c : Core) (r : Ring) : Type 0 where
   pub gap : Bool
-  pub passing : c .state ≡ PassToken gap First
+  pub passing : s ≡ PassToken gap First
   pub no-question : gapDue p c r gap ≡ false
 
 -- the state that holds a new token
-pub record Holding (c : Core) : Type 0 where
+pub record Holding (s : State) : Type 0 where
   pub since : Micros
-  pub held : c .state ≡ UseToken (withTokenTime since) false
+  pub held : s ≡ toUseToken since
 
--- a station is at a place
-abbrev pub At : Phase → Parameters → Core → Ring → Type 0
-At (starting os) p c r = Ready p c r os × Passing p c r
-At (checking attempt x more) p c r = Ready p c r (x ∷ more) × (c .state ≡ CheckTokenPass attempt)
-At holding p c r = Ready p c r [] × Holding c
+-- a station, by its state, core and ring, is at a place
+abbrev pub At : Phase → Parameters → State → Core → Ring → Type 0
+At (starting os) p s c r = Ready p c r os × Passing p s c r
+At (checking attempt x more) p s c r = Ready p c r (x ∷ more) × (s ≡ CheckTokenPass attempt)
+At holding p s c r = Ready p c r [] × Holding s
 
 -- a step that sends the token to this address now and leads to this place
 pub record Sends (p : Parameters) (now : Micros) (to : ℕ) (ph : Phase) (x : RingStep) : Type 0 where
   pub token : x .step .sent ≡ sent.Token to
   pub marks : x .step .core .«last_bus_activity» ≡ sentAt p now 3
-  pub place : At ph p (x .step .core) (x .ring)
+  pub place : At ph p (x .step .state) (x .step .core) (x .ring)
 
 -- a step that sends nothing and stays at this place
 pub record Stays (p : Parameters) (ph : Phase) (x : RingStep) : Type 0 where
   pub nothing : x .step .sent ≡ sent.Nothing
-  pub place : At ph p (x .step .core) (x .ring)
+  pub place : At ph p (x .step .state) (x .step .core) (x .ring)
 
 -- one poll at a place, with whether it is counted
 pub data Turn (p : Parameters) (now : Micros) (ph : Phase) (counts : Bool) (x : RingStep) : Type 0 where
@@ -77,14 +75,14 @@ pub data Turn (p : Parameters) (now : Micros) (ph : Phase) (counts : Bool) (x : 
 
 -- a pass that the ring has witnessed: if the next station is then ourselves the token is held, else the pass is checked
 held-now : (p : Parameters) (c : Core) (now : Micros) (k : PassTokenAttempt) (to own : ℕ) (seen : Ring) → to ≡ own → Ready p c seen [] → Sends p now own holding (passSent p c now k to seen)
-unfolding passSent transmitOf toUseToken withState withActivity
+unfolding passSent transmitOf withActivity
 held-now p c now k to own seen e w =
     let g = w .ring-good in
     rw (eq-eqb (nextOf seen) (p .address) (next-alone seen (g .sound) (w .are) ∙ g .own))
     (record { token = ap sent.Token e; marks = refl; place = (record { on = w .on; ring-good = g; are = w .are }, record { since = now; held = refl }) })
 
 checked-now : (p : Parameters) (c : Core) (now : Micros) (k : PassTokenAttempt) (to x : ℕ) (more : List ℕ) (seen : Ring) → to ≡ x → Ready p c seen (x ∷ more) → Sends p now x (checking k x more) (passSent p c now k to seen)
-unfolding passSent transmitOf toCheckTokenPass withState withActivity
+unfolding passSent transmitOf withActivity
 checked-now p c now k to x more seen e w =
     let g = w .ring-good in
     let other = next-other seen x more (g .sound) (w .are) in
@@ -119,9 +117,10 @@ gap-ready : (p : Parameters) (c : Core) (r : Ring) (os : List ℕ) (g : GapState
 unfolding withGap
 gap-ready p c r os g w = record { on = w .on; ring-good = w .ring-good; are = w .are }
 
-state-ready : (p : Parameters) (c : Core) (r : Ring) (os : List ℕ) (gap : Bool) (k : PassTokenAttempt) → Ready p c r os → Ready p (toPassToken c gap k) r os
-unfolding toPassToken withState
-state-ready p c r os gap k w = record { on = w .on; ring-good = w .ring-good; are = w .are }
+-- so also once the last activity is known
+known-ready : (p : Parameters) (c : Core) (r : Ring) (os : List ℕ) (now time : Micros) → Ready p c r os → Ready p (waitedOf c now time .core) r os
+unfolding waitedOf
+known-ready p c r os now time w = active-ready p c r os _ w
 
 -- with no question due the token is sent
 unasked : (g : GapState) (p : Parameters) (c : Core) (r : Ring) (now : Micros) (k : PassTokenAttempt) → asksOn g ≡ false → passPollOn g p c r now k ≡ passSend p c r now k
@@ -130,31 +129,31 @@ unasked (Waiting count) p c r now k e = refl
 unasked (DoPoll current) p c r now k e = absurd (true≢false e)
 
 -- a pass whose pause is over: the token is sent
-paused-sent : (p : Parameters) (c : Core) (r : Ring) (now : Micros) (gap : Bool) (k : PassTokenAttempt) (os : List ℕ) (w : Waited) → Ready p c r os → gapDue p c r gap ≡ false → w .over ≡ true → Sends p now (headOr (p .address) os) (sentTo k os) (passAfter p c r now gap k w)
-unfolding passAfter passPoll gapDue withGap
-paused-sent p c r now true k os w b due e =
+paused-sent : (p : Parameters) (c : Core) (r : Ring) (now : Micros) (gap : Bool) (k : PassTokenAttempt) (os : List ℕ) → Ready p c r os → gapDue p c r gap ≡ false → pauseOf p c now .over ≡ true → Sends p now (headOr (p .address) os) (sentTo k os) (passTokenOf p c r now gap k)
+unfolding passTokenOf pauseOf passPoll gapDue withGap
+paused-sent p c r now true k os w due e =
     let advanced = gapAdvanced p r (c .«gap_state») in
-    let waited = withActivity c (activity.At (w .last)) in
-    rw (e, unasked advanced p (withGap waited advanced) r now k due) (first-sent p _ r now k os (gap-ready p _ r os _ (active-ready p c r os _ b)))
-paused-sent p c r now false k os w b due e = rw e (first-sent p _ r now k os (active-ready p c r os _ b))
+    let waited = pauseOf p c now .core in
+    rw (e, unasked advanced p (withGap waited advanced) r now k due) (first-sent p _ r now k os (gap-ready p _ r os _ (known-ready p c r os now _ w)))
+paused-sent p c r now false k os w due e = rw e (first-sent p _ r now k os (known-ready p c r os now _ w))
 
 -- a pass whose pause is not over: nothing is sent and the station stays
-active-passing : (p : Parameters) (c : Core) (r : Ring) (a : Activity) → Passing p c r → Passing p (withActivity c a) r
+active-passing : (p : Parameters) (s : State) (c : Core) (r : Ring) (a : Activity) → Passing p s c r → Passing p s (withActivity c a) r
 unfolding withActivity gapDue
-active-passing p c r a s = record { gap = s .gap; passing = s .passing; no-question = s .no-question }
+active-passing p s c r a g = record { gap = g .gap; passing = g .passing; no-question = g .no-question }
 
-unpaused-stays : (p : Parameters) (c : Core) (r : Ring) (now : Micros) (gap : Bool) (k : PassTokenAttempt) (os : List ℕ) (w : Waited) → Ready p c r os → Passing p c r → w .over ≡ false → Stays p (starting os) (passAfter p c r now gap k w)
-unfolding passAfter doneOf
-unpaused-stays p c r now gap k os w b s e = rw e (record { nothing = refl; place = (active-ready p c r os _ b, active-passing p c r _ s) })
+unpaused-stays : (p : Parameters) (c : Core) (r : Ring) (now : Micros) (gap : Bool) (k : PassTokenAttempt) (os : List ℕ) → Ready p c r os → Passing p (PassToken gap k) c r → pauseOf p c now .over ≡ false → Stays p (starting os) (passTokenOf p c r now gap k)
+unfolding passTokenOf pauseOf waitedOf doneOf
+unpaused-stays p c r now gap k os w g e = rw e (record { nothing = refl; place = (active-ready p c r os _ w, active-passing p _ c r _ g) })
 
 -- What a silent poll comes to.
 
 -- the step of a silent poll: while a transmission goes on nothing happens, else what the state asks for
-unfoldable pub quietStep : Parameters → Core → Ring → Micros → List ℕ → ℕ → RingStep
-quietStep p c r now bytes n =
+unfoldable pub quietStep : Parameters → State → Core → Ring → Micros → List ℕ → ℕ → RingStep
+quietStep p s c r now bytes n =
     cond (busyOf (c .«last_bus_activity») now)
-    (record { step = doneOf (withActivity c (markedAt (c .«last_bus_activity») now)) outcome.Transmission; ring = r })
-    (dispatchOf p c r now bytes n 0)
+    (ringStepOf (doneOf s (withActivity c (markedAt (c .«last_bus_activity») now)) outcome.Transmission) r)
+    (dispatchOf p s c r now bytes n 0)
 
 -- a test that would be true of a counted poll is false: the poll is not counted
 pub not-counted : (counts test : Bool) → (counts ≡ true → test ≡ true) → test ≡ false → counts ≡ false
@@ -166,49 +165,50 @@ pub not-counted-busy : (counts test : Bool) → (counts ≡ true → test ≡ fa
 not-counted-busy true test h e = absurd (true≢false (sym e ∙ h refl))
 not-counted-busy false test h e = refl
 
-module _ (p : Parameters) (w : Slotted p) (c : Core) (r : Ring) (now : Micros) (bytes : List ℕ) (n : ℕ) where
+module _ (p : Parameters) (w : Slotted p) (s : State) (c : Core) (r : Ring) (now : Micros) (bytes : List ℕ) (n : ℕ) where
   -- is the poll counted
   abbrev countsHere : Bool
   countsHere = slotAfter (c .«last_bus_activity») (now .0) (slotTimeOf p .0)
 
   -- the state asks for a token pass
-  pub dispatch-pass : (gap : Bool) (k : PassTokenAttempt) → c .state ≡ PassToken gap k → dispatchOf p c r now bytes n 0 ≡ passTokenOf p c r now gap k
-  unfolding dispatchOf dispatchOn
-  dispatch-pass gap k e = ap (λ (x : State). dispatchOn x p c r now bytes n 0) e
+  pub dispatch-pass : (gap : Bool) (k : PassTokenAttempt) → s ≡ PassToken gap k → dispatchOf p s c r now bytes n 0 ≡ passTokenOf p c r now gap k
+  unfolding dispatchOf
+  dispatch-pass gap k e = ap (λ (x : State). dispatchOf p x c r now bytes n 0) e
 
   -- the state asks whether the pass was taken up
-  dispatch-check : (k : PassTokenAttempt) → c .state ≡ CheckTokenPass k → dispatchOf p c r now bytes n 0 ≡ checkTokenPassOf p c r now k bytes n 0
-  unfolding dispatchOf dispatchOn
-  dispatch-check k e = ap (λ (x : State). dispatchOn x p c r now bytes n 0) e
+  dispatch-check : (k : PassTokenAttempt) → s ≡ CheckTokenPass k → dispatchOf p s c r now bytes n 0 ≡ checkTokenPassOf p c r now k bytes n 0
+  unfolding dispatchOf
+  dispatch-check k e = ap (λ (x : State). dispatchOf p x c r now bytes n 0) e
 
   -- while a transmission goes on the station stays where it is
-  busy-starting : (os : List ℕ) → At (starting os) p c r → busyOf (c .«last_bus_activity») now ≡ true → Turn p now (starting os) countsHere (quietStep p c r now bytes n)
+  busy-starting : (os : List ℕ) → At (starting os) p s c r → busyOf (c .«last_bus_activity») now ≡ true → Turn p now (starting os) countsHere (quietStep p s c r now bytes n)
   unfolding quietStep doneOf
-  busy-starting os s e =
+  busy-starting os g e =
       rw e
-      (stays (not-counted-busy countsHere (busyOf (c .«last_bus_activity») now) (counted-free p w _ now) e)
-      (record { nothing = refl; place = (active-ready p c r os _ (s .0), active-passing p c r _ (s .1)) }))
+      (stays (not-counted-busy countsHere (busyOf (c .«last_bus_activity») now) (counted-free p w c now) e)
+      (record { nothing = refl; place = (active-ready p c r os _ (g .0), active-passing p s c r _ (g .1)) }))
 
-  busy-checking : (k : PassTokenAttempt) (x : ℕ) (more : List ℕ) → At (checking k x more) p c r → busyOf (c .«last_bus_activity») now ≡ true → Turn p now (checking k x more) countsHere (quietStep p c r now bytes n)
-  unfolding quietStep doneOf withActivity
-  busy-checking k x more s e =
+  busy-checking : (k : PassTokenAttempt) (x : ℕ) (more : List ℕ) → At (checking k x more) p s c r → busyOf (c .«last_bus_activity») now ≡ true → Turn p now (checking k x more) countsHere (quietStep p s c r now bytes n)
+  unfolding quietStep doneOf
+  busy-checking k x more g e =
       rw e
-      (stays (not-counted-busy countsHere (busyOf (c .«last_bus_activity») now) (counted-free p w _ now) e)
-      (record { nothing = refl; place = (active-ready p c r (x ∷ more) _ (s .0), s .1) }))
+      (stays (not-counted-busy countsHere (busyOf (c .«last_bus_activity») now) (counted-free p w c now) e)
+      (record { nothing = refl; place = (active-ready p c r (x ∷ more) _ (g .0), g .1) }))
 
   -- a token pass is to start: the token is sent once the pause is over
-  free-starting : (os : List ℕ) → At (starting os) p c r → Turn p now (starting os) countsHere (dispatchOf p c r now bytes n 0)
-  unfolding passTokenOf
-  free-starting os s =
-      let pause = pauseOf p (c .«last_bus_activity») now in
-      rw (dispatch-pass (s .1 .gap) First (s .1 .passing))
-      (cases (pause .over) (λ e. sends (paused-sent p c r now (s .1 .gap) First os pause (s .0) (s .1 .no-question) e))
-      (λ e. stays (not-counted countsHere (pause .over) (counted-paused p w _ now) e) (unpaused-stays p c r now (s .1 .gap) First os pause (s .0) (s .1) e)))
+  free-starting : (os : List ℕ) → At (starting os) p s c r → Turn p now (starting os) countsHere (dispatchOf p s c r now bytes n 0)
+  free-starting os g =
+      let pass = g .1 in
+      let over = pauseOf p c now .over in
+      let here : Passing p (PassToken (pass .gap) First) c r = record { gap = pass .gap; passing = refl; no-question = pass .no-question } in
+      rw (dispatch-pass (pass .gap) First (pass .passing))
+      (cases over (λ e. sends (paused-sent p c r now (pass .gap) First os (g .0) (pass .no-question) e))
+      (λ e. stays (not-counted countsHere over (counted-paused p w c now) e) (unpaused-stays p c r now (pass .gap) First os (g .0) here e)))
 
-  pub turn-starting : (os : List ℕ) → At (starting os) p c r → Turn p now (starting os) countsHere (quietStep p c r now bytes n)
+  pub turn-starting : (os : List ℕ) → At (starting os) p s c r → Turn p now (starting os) countsHere (quietStep p s c r now bytes n)
   unfolding quietStep
-  turn-starting os s =
-      cases (busyOf (c .«last_bus_activity») now) (λ e. busy-starting os s e) (λ e. rw e (free-starting os s))
+  turn-starting os g =
+      cases (busyOf (c .«last_bus_activity») now) (λ e. busy-starting os g e) (λ e. rw e (free-starting os g))
 
 -- a pass without a look at the gap has no question due
 no-gap : (p : Parameters) (c : Core) (r : Ring) → gapDue p c r false ≡ false
@@ -216,10 +216,8 @@ unfolding gapDue
 no-gap p c r = refl
 
 -- a token that is sent again, or, after the third, to the next station behind the one that is taken out: the pause is over
-again : (p : Parameters) (c : Core) (r : Ring) (now : Micros) (k : PassTokenAttempt) (os : List ℕ) → Ready p c r os → pauseOf p (c .«last_bus_activity») now .over ≡ true → Sends p now (headOr (p .address) os) (sentTo k os) (passTokenOf p (toPassToken c false k) r now false k)
-unfolding passTokenOf toPassToken withState
-again p c r now k os w e =
-    paused-sent p (toPassToken c false k) r now false k os _ (state-ready p c r os false k w) (no-gap p _ r) e
+again : (p : Parameters) (c : Core) (r : Ring) (now : Micros) (k : PassTokenAttempt) (os : List ℕ) → Ready p c r os → pauseOf p c now .over ≡ true → Sends p now (headOr (p .address) os) (sentTo k os) (passTokenOf p c r now false k)
+again p c r now k os w e = paused-sent p c r now false k os w (no-gap p c r) e
 
 taken-out : (p : Parameters) (c : Core) (r : Ring) (x : ℕ) (more : List ℕ) → Ready p c r (x ∷ more) → Ready p c (removeOf r (nextOf r)) more
 taken-out p c r x more w =
@@ -230,28 +228,27 @@ taken-out p c r x more w =
       are = ap (λ (a : ℕ). others (removeOf r a)) (next-is r x more (g .sound) (w .are)) ∙ others-remove r x more (g .sound) (w .are);
     }
 
-resent : (k : PassTokenAttempt) (p : Parameters) (c : Core) (r : Ring) (now : Micros) (x : ℕ) (more : List ℕ) → Ready p c r (x ∷ more) → pauseOf p (c .«last_bus_activity») now .over ≡ true → Sends p now (receiver (p .address) (checking k x more)) (next (checking k x more)) (resendOf p c r now k)
+resent : (k : PassTokenAttempt) (p : Parameters) (c : Core) (r : Ring) (now : Micros) (x : ℕ) (more : List ℕ) → Ready p c r (x ∷ more) → pauseOf p c now .over ≡ true → Sends p now (receiver (p .address) (checking k x more)) (next (checking k x more)) (resendOf p c r now k)
 unfolding resendOf
 resent First p c r now x more w e = again p c r now Second (x ∷ more) w e
 resent Second p c r now x more w e = again p c r now Third (x ∷ more) w e
 resent Third p c r now x more w e = again p c (removeOf r (nextOf r)) now First more (taken-out p c r x more w) e
 
-module _ (p : Parameters) (w : Slotted p) (c : Core) (r : Ring) (now : Micros) (bytes : List ℕ) (n : ℕ) where
+module _ (p : Parameters) (w : Slotted p) (s : State) (c : Core) (r : Ring) (now : Micros) (bytes : List ℕ) (n : ℕ) where
   -- a pass is being checked: once the slot has expired the next token is sent, before that nothing happens
-  expired : (k : PassTokenAttempt) (x : ℕ) (more : List ℕ) → At (checking k x more) p c r → slotExpiredOf p (c .«last_bus_activity») now .over ≡ true → Sends p now (receiver (p .address) (checking k x more)) (next (checking k x more)) (checkTokenPassOf p c r now k bytes n 0)
-  unfolding checkTokenPassOf checkAfter withActivity
-  expired k x more s e =
-      rw e (resent k p _ r now x more (active-ready p c r (x ∷ more) _ (s .0)) (expired-paused p w (c .«last_bus_activity») now e))
+  expired : (k : PassTokenAttempt) (x : ℕ) (more : List ℕ) → Ready p c r (x ∷ more) → slotExpiredOf p c now .over ≡ true → Sends p now (receiver (p .address) (checking k x more)) (next (checking k x more)) (checkTokenPassOf p c r now k bytes n 0)
+  unfolding checkTokenPassOf slotExpiredOf
+  expired k x more g e = rw e (resent k p _ r now x more (known-ready p c r (x ∷ more) now _ g) (expired-paused p w c now e))
 
-  unexpired : (k : PassTokenAttempt) (x : ℕ) (more : List ℕ) → At (checking k x more) p c r → slotExpiredOf p (c .«last_bus_activity») now .over ≡ false → Stays p (checking k x more) (checkTokenPassOf p c r now k bytes n 0)
-  unfolding checkTokenPassOf checkAfter checkReceived doneOf withActivity
-  unexpired k x more s e = rw e (record { nothing = refl; place = (active-ready p c r (x ∷ more) _ (s .0), s .1) })
+  unexpired : (k : PassTokenAttempt) (x : ℕ) (more : List ℕ) → Ready p c r (x ∷ more) → slotExpiredOf p c now .over ≡ false → Stays p (checking k x more) (checkTokenPassOf p c r now k bytes n 0)
+  unfolding checkTokenPassOf slotExpiredOf checkReceived doneOf
+  unexpired k x more g e = rw e (record { nothing = refl; place = (known-ready p c r (x ∷ more) now _ g, refl) })
 
-  pub turn-checking : (k : PassTokenAttempt) (x : ℕ) (more : List ℕ) → At (checking k x more) p c r → Turn p now (checking k x more) (slotAfter (c .«last_bus_activity») (now .0) (slotTimeOf p .0)) (quietStep p c r now bytes n)
+  pub turn-checking : (k : PassTokenAttempt) (x : ℕ) (more : List ℕ) → At (checking k x more) p s c r → Turn p now (checking k x more) (slotAfter (c .«last_bus_activity») (now .0) (slotTimeOf p .0)) (quietStep p s c r now bytes n)
   unfolding quietStep
-  turn-checking k x more s =
+  turn-checking k x more g =
       let counts = slotAfter (c .«last_bus_activity») (now .0) (slotTimeOf p .0) in
-      let slot = slotExpiredOf p (c .«last_bus_activity») now in
-      cases (busyOf (c .«last_bus_activity») now) (λ e. busy-checking p w c r now bytes n k x more s e)
-      (λ b. rw (b, dispatch-check p w c r now bytes n k (s .1))
-      (cases (slot .over) (λ e. sends (expired k x more s e)) (λ e. stays (not-counted counts (slot .over) (counted-expired p w _ now) e) (unexpired k x more s e))))
+      let over = slotExpiredOf p c now .over in
+      cases (busyOf (c .«last_bus_activity») now) (λ e. busy-checking p w s c r now bytes n k x more g e)
+      (λ b. rw (b, dispatch-check p w s c r now bytes n k (g .1))
+      (cases over (λ e. sends (expired k x more (g .0) e)) (λ e. stays (not-counted counts over (counted-expired p w c now) e) (unexpired k x more (g .0) e))))

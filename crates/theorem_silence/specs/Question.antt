@@ -12,17 +12,16 @@ use Rattle.ring.specs.declared.Ring.{Ring}
 use Rattle.ring.specs.declared.GapState.{GapState}
 use Rattle.ring.specs.declared.GapState.the-variants.{Waiting, DoPoll}
 use Rattle.codec_answers.specs.declared.Sent.the-variants.{StatusRequest}
-use Rattle.station.specs.declared.Activity.the-variants as activity
 use Rattle.station.specs.declared.PassTokenAttempt.{PassTokenAttempt}
 use Rattle.station.specs.declared.PassTokenAttempt.the-variants.{First}
+use Rattle.station.specs.declared.State.{State}
 use Rattle.station.specs.declared.State.the-variants.{PassToken}
 use Rattle.station.specs.declared.Core.{Core}
-use Rattle.station.specs.declared.Waited.{Waited}
 use Rattle.station.specs.declared.RingStep.{RingStep}
 use Rattle.station.specs.declared.Station.{Station}
-use Rattle.station.specs.Parts.{withActivity, withGap}
+use Rattle.station.specs.Parts.{withGap}
 use Rattle.station.specs.Steps.{pauseOf, transmitOf}
-use Rattle.station_pass.specs.Pass.{gapAdvanced, passPollOn, passPoll, passAfter, passTokenOf}
+use Rattle.station_pass.specs.Pass.{gapAdvanced, passPollOn, passPoll, passTokenOf}
 use Rattle.station_answer.specs.declared.Polled.{Polled}
 use Rattle.station_answer.specs.Answer.{polledOf, stepAnswer}
 use Rattle.station_poll.specs.Poll.{pollOf}
@@ -38,27 +37,26 @@ asked-on (Waiting count) p c r now k e = absurd (true≢false (sym e))
 asked-on (DoPoll current) p c r now k e = (current, refl)
 
 -- a pass whose pause is over and that has a question due
-asked-after : (p : Parameters) (c : Core) (r : Ring) (now : Micros) (gap : Bool) (k : PassTokenAttempt) (w : Waited) → gapDue p c r gap ≡ true → w .over ≡ true → (a : ℕ) × (passAfter p c r now gap k w .step .sent ≡ StatusRequest a)
-unfolding passAfter passPoll gapDue withGap
-asked-after p c r now true k w due e =
+asked-over : (p : Parameters) (c : Core) (r : Ring) (now : Micros) (gap : Bool) (k : PassTokenAttempt) → gapDue p c r gap ≡ true → pauseOf p c now .over ≡ true → (a : ℕ) × (passTokenOf p c r now gap k .step .sent ≡ StatusRequest a)
+unfolding passTokenOf passPoll gapDue withGap
+asked-over p c r now true k due e =
     let advanced = gapAdvanced p r (c .«gap_state») in
-    rw e (asked-on advanced p (withGap (withActivity c (activity.At (w .last))) advanced) r now k due)
-asked-after p c r now false k w due e = absurd (true≢false (sym due))
+    rw e (asked-on advanced p (withGap (pauseOf p c now .core) advanced) r now k due)
+asked-over p c r now false k due e = absurd (true≢false (sym due))
 
 -- the step of a counted poll in PassToken is the pass
-pass-step : (p : Parameters) (w : Slotted p) (c : Core) (r : Ring) (now : Micros) (bytes : List ℕ) (n : ℕ) (gap : Bool) → c .state ≡ PassToken gap First → slotAfter (c .«last_bus_activity») (now .0) (slotTimeOf p .0) ≡ true → quietStep p c r now bytes n ≡ passAfter p c r now gap First (pauseOf p (c .«last_bus_activity») now)
-unfolding quietStep passTokenOf
-pass-step p w c r now bytes n gap state e =
-    rw (counted-free p w (c .«last_bus_activity») now e) (dispatch-pass p w c r now bytes n gap First state)
+pass-step : (p : Parameters) (w : Slotted p) (s : State) (c : Core) (r : Ring) (now : Micros) (bytes : List ℕ) (n : ℕ) (gap : Bool) → s ≡ PassToken gap First → slotAfter (c .«last_bus_activity») (now .0) (slotTimeOf p .0) ≡ true → quietStep p s c r now bytes n ≡ passTokenOf p c r now gap First
+unfolding quietStep
+pass-step p w s c r now bytes n gap state e = rw (counted-free p w c now e) (dispatch-pass p w s c r now bytes n gap First state)
 
 -- with a question due, a counted poll sends a status request
-pub question-first : (s : Station) (bytes : List ℕ) (gap : Bool) → firstRefusal (plainOf (s .p)) ≡ 0 → online s ≡ true → s .core .state ≡ PassToken gap First → gapDue (s .p) (s .core) (s .«token_ring») gap ≡ true → Quiet (s .applications) bytes → counted s bytes ≡ true → (a : ℕ) × (pollOf s bytes .answer .sent ≡ StatusRequest a)
+pub question-first : (s : Station) (bytes : List ℕ) (gap : Bool) → firstRefusal (plainOf (s .p)) ≡ 0 → online s ≡ true → s .state ≡ PassToken gap First → gapDue (s .p) (s .core) (s .«token_ring») gap ≡ true → Quiet (s .applications) bytes → counted s bytes ≡ true → (a : ℕ) × (pollOf s bytes .answer .sent ≡ StatusRequest a)
 unfolding counted polledOf stepAnswer
 question-first s bytes gap settings on state due q e =
     let c = s .core in
     let r = s .«token_ring» in
     let w = slotted (s .p) settings in
-    let polled = poll-is (s .p) (s .applications) c r bytes q on (connected-pass c gap First state) in
-    let step = pass-step (s .p) w c r (clockOf bytes) bytes (s .applications) gap state e in
-    let asked = asked-after (s .p) c r (clockOf bytes) gap First _ due (counted-paused (s .p) w (c .«last_bus_activity») (clockOf bytes) e) in
+    let polled = poll-is (s .p) (s .applications) (s .state) c r bytes q on (connected-pass (s .state) gap First state) in
+    let step = pass-step (s .p) w (s .state) c r (clockOf bytes) bytes (s .applications) gap state e in
+    let asked = asked-over (s .p) c r (clockOf bytes) gap First due (counted-paused (s .p) w c (clockOf bytes) e) in
     (asked .0, ap (λ (y : Polled). y .answer .sent) polled ∙ ap (λ (x : RingStep). x .step .sent) step ∙ asked .1)

@@ -19,6 +19,7 @@ use Rattle.codec_records.specs.Records.{headOf}
 use Rattle.codec_answers.specs.declared.Sent.{Sent}
 use Rattle.codec_answers.specs.declared.Sent.the-variants.{Nothing, Token, StatusRequest, StatusResponse, Application}
 use Rattle.station.specs.declared.Activity.the-variants as activity
+use Rattle.station.specs.declared.State.{State}
 use Rattle.station.specs.declared.Core.{Core}
 use Rattle.station.specs.declared.Station.{Station}
 use Rattle.station.specs.declared.RingStep.{RingStep}
@@ -99,26 +100,26 @@ unfolding sentAt slotAfter
 next-counted p c now clock e a = rw a (le-leb (now + pauseTime p + slotTimeOf p .0) (clock + turnTime p) (omega arith))
 
 -- one poll of such a run, and the run from where it leads
-module _ (m : ℕ) (ph : Phase) (p : Parameters) (w : Slotted p) (n : ℕ) (c : Core) (r : Ring) (clock : ℕ) (u : Under ph) (s : At ph p c r) (on-time : slotAfter (c .«last_bus_activity») clock (slotTimeOf p .0) ≡ true) (low : clock < 2 ^ 48) where
+module _ (m : ℕ) (ph : Phase) (p : Parameters) (w : Slotted p) (n : ℕ) (s : State) (c : Core) (r : Ring) (clock : ℕ) (u : Under ph) (g : At ph p s c r) (on-time : slotAfter (c .«last_bus_activity») clock (slotTimeOf p .0) ≡ true) (low : clock < 2 ^ 48) where
   abbrev the-bytes : List ℕ
   the-bytes = silentAt n clock
 
   abbrev the-step : RingStep
-  the-step = quietStep p c r (clockOf the-bytes) the-bytes n
+  the-step = quietStep p s c r (clockOf the-bytes) the-bytes n
 
   is-counted : slotAfter (c .«last_bus_activity») (headOf the-bytes .clock) (slotTimeOf p .0) ≡ true
   is-counted = ap (λ (t : ℕ). slotAfter (c .«last_bus_activity») t (slotTimeOf p .0)) (silent-clock n clock low) ∙ on-time
 
   is-sent : Sends p (clockOf the-bytes) (receiver (p .address) ph) (next ph) the-step
-  is-sent = counted-sends p the-bytes ph _ the-step is-counted (turn-at ph p w n c r the-bytes u s)
+  is-sent = counted-sends p the-bytes ph _ the-step is-counted (turn-at ph p w n s c r the-bytes u g)
 
   tight-on :
-      ((d : Core) (t : Ring) → At (next ph) p d t → slotAfter (d .«last_bus_activity») (clock + turnTime p) (slotTimeOf p .0) ≡ true → countedIn (stationOf p n d t) (tight p n m (clock + turnTime p)) ≡ m)
-      → countedIn (stationOf p n c r) (silentAt n clock ∷ tight p n m (clock + turnTime p)) ≡ suc m
+      ((y : State) (d : Core) (t : Ring) → At (next ph) p y d t → slotAfter (d .«last_bus_activity») (clock + turnTime p) (slotTimeOf p .0) ≡ true → countedIn (stationOf p n y d t) (tight p n m (clock + turnTime p)) ≡ m)
+      → countedIn (stationOf p n s c r) (silentAt n clock ∷ tight p n m (clock + turnTime p)) ≡ suc m
   tight-on then =
-      counted-on p n c r the-bytes (tight p n m (clock + turnTime p)) the-step (poll-at ph p n c r the-bytes (silent-quiet n clock low) u s)
-      ∙ ap (λ (b : Bool). cond b 1 0 + countedIn (stationOf p n (the-step .step .core) (the-step .ring)) (tight p n m (clock + turnTime p))) is-counted
-      ∙ ap (λ (j : ℕ). 1 + j) (then (the-step .step .core) (the-step .ring) (is-sent .place) (next-counted p (the-step .step .core) (headOf the-bytes .clock) clock (silent-clock n clock low) (is-sent .marks)))
+      counted-on p n s c r the-bytes (tight p n m (clock + turnTime p)) the-step (poll-at ph p n s c r the-bytes (silent-quiet n clock low) u g)
+      ∙ ap (λ (b : Bool). cond b 1 0 + countedIn (stationOf p n (the-step .step .state) (the-step .step .core) (the-step .ring)) (tight p n m (clock + turnTime p))) is-counted
+      ∙ ap (λ (j : ℕ). 1 + j) (then (the-step .step .state) (the-step .step .core) (the-step .ring) (is-sent .place) (next-counted p (the-step .step .core) (headOf the-bytes .clock) clock (silent-clock n clock low) (is-sent .marks)))
       ∙ one-add m
 
 -- all m polls are counted, while there are m tokens to send
@@ -130,12 +131,12 @@ under-some own m holding l = omega arith
 next-room : (own m : ℕ) (ph : Phase) → suc m ≤ length (todo own ph) → m ≤ length (todo own (next ph))
 next-room own m ph l = let e = ap length (todo-next own ph (under-some own m ph l)) in omega arith
 
-tight-counted : (m : ℕ) (ph : Phase) (p : Parameters) → Slotted p → (n : ℕ) (c : Core) (r : Ring) (clock : ℕ) → At ph p c r → m ≤ length (todo (p .address) ph) → slotAfter (c .«last_bus_activity») clock (slotTimeOf p .0) ≡ true → clock + m * turnTime p < 2 ^ 48 → countedIn (stationOf p n c r) (tight p n m clock) ≡ m
+tight-counted : (m : ℕ) (ph : Phase) (p : Parameters) → Slotted p → (n : ℕ) (s : State) (c : Core) (r : Ring) (clock : ℕ) → At ph p s c r → m ≤ length (todo (p .address) ph) → slotAfter (c .«last_bus_activity») clock (slotTimeOf p .0) ≡ true → clock + m * turnTime p < 2 ^ 48 → countedIn (stationOf p n s c r) (tight p n m clock) ≡ m
 unfolding tight countedIn
-tight-counted zero ph p w n c r clock s l a room = refl
-tight-counted (suc m) ph p w n c r clock s l a room =
-    tight-on m ph p w n c r clock (under-some (p .address) m ph l) s a (room-here (suc m) (turnTime p) clock room)
-    (λ d t to b. tight-counted m (next ph) p w n d t (clock + turnTime p) to (next-room (p .address) m ph l) b (room-on m (turnTime p) clock room))
+tight-counted zero ph p w n s c r clock g l a room = refl
+tight-counted (suc m) ph p w n s c r clock g l a room =
+    tight-on m ph p w n s c r clock (under-some (p .address) m ph l) g a (room-here (suc m) (turnTime p) clock room)
+    (λ y d t to b. tight-counted m (next ph) p w n y d t (clock + turnTime p) to (next-room (p .address) m ph l) b (room-on m (turnTime p) clock room))
 
 -- m silent polls, each of them counted
 pub record CountedRun (s : Station) (m : ℕ) : Type 0 where
@@ -155,7 +156,7 @@ counted-run s last m h a l room =
       records = tight (s .p) (s .applications) m clock;
       quiet = tight-quiet m (s .p) (s .applications) clock room;
       long = tight-length m (s .p) (s .applications) clock;
-      all-counted = tight-counted m (starting os) (s .p) (slotted (s .p) (h .settings)) (s .applications) (s .core) (s .«token_ring») clock (started s h) (omega (arith, tokens-length os (s .p .address))) (rw a (le-leb clock clock (omega arith))) room;
+      all-counted = tight-counted m (starting os) (s .p) (slotted (s .p) (h .settings)) (s .applications) (s .state) (s .core) (s .«token_ring») clock (started s h) (omega (arith, tokens-length os (s .p .address))) (rw a (le-leb clock clock (omega arith))) room;
     }
 
 -- the bound is sharp: 3k counted polls that do not lead to the token, and 3k + 1 that do

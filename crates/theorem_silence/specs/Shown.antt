@@ -30,8 +30,7 @@ use Rattle.codec_answers.specs.declared.Sent.the-variants.{Token, Application}
 use Rattle.station.specs.declared.PassTokenAttempt.the-variants.{First}
 use Rattle.station.specs.declared.State.the-variants.{PassToken}
 use Rattle.station.specs.declared.Station.{Station}
-use Rattle.station.specs.declared.Started.the-variants as started
-use Rattle.station.specs.Parts.{newStation, freshStation, freshCore, withState, withActivity, withGap, withPending, withTokenTimes, withNextApplication, withOnline}
+use Rattle.station.specs.Parts.{freshStation, freshCore, withActivity, withGap, withPending, withTokenTimes, withNextApplication, withOnline}
 use Rattle.station.specs.Steps as steps
 use Rattle.station_hear_listen.specs.HearListen as hear
 use Rattle.station_listen.specs.Listen as listening
@@ -53,13 +52,13 @@ use Rattle.theorem_silence.specs.Met.{Met, PremisesMet}
 use Rattle.theorem_silence.specs.Rings.{UpTo, others-up-to, cut-all, cut-added, one-out, one-asked}
 use Rattle.theorem_silence.specs.Made.{lowestWith, coreAt, pass-look, pass-question, awaits-one, pass-answered, calls-none, calls-on, begun-look, ring-all, ring-alone, begun-question, ring-but-one, first-runs, members, says-token, cut-heard, claimed, one-gets-asked, one-answers}
 
--- with accepted settings `new` gives a station for one application, and calls make others of it
-one-new : (p : Parameters) → newStation p 1 ≡ started.Accepted (freshStation p 1)
-unfolding newStation applicationsRefusal refuseOutside
-one-new p = refl
+-- with accepted settings and one application there is a new station, and calls make others of it
+one-accepted : applicationsRefusal 1 ≡ 0
+unfolding applicationsRefusal refuseOutside
+one-accepted = refl
 
 made-by : (p : Parameters) (cs : List Call) (s : Station) → firstRefusal (plainOf p) ≡ 0 → run (freshStation p 1) cs ≡ s → ByCalls s
-made-by p cs s e m = record { settings = p; applications = 1; accepted = e; fresh = freshStation p 1; is-new = one-new p; calls = cs; makes = m }
+made-by p cs s e m = record { settings = p; applications = 1; accepted = e; number-accepted = one-accepted; calls = cs; makes = m }
 
 lowest-accepted : firstRefusal (plainOf lowest) ≡ 0
 unfolding firstRefusal earlyRefusal plainOf refuseBelow refuseOutside addressRefusal baudRefusal slotBitsRefusal hsaRefusal rotationRefusal gapWaitRefusal retryRefusal minTsdrRefusal factorsRefusal baudOf
@@ -71,9 +70,9 @@ unfolding slotTimeOf timeOf rounded
 room k last h l = omega arith
 
 -- a core that starts a token pass, and a ring with the members 0, 1, .. k: the premises are met
-met-by : (k : ℕ) (gap : Bool) (time from last : ℕ) (turn : GapState) (r : Ring) (cs : List Call) → k ≤ 125 → last ≤ 9000 → run (freshStation lowest 1) cs ≡ lowestWith (coreAt time from 64872 last (PassToken gap First) turn) r → gapDue lowest (coreAt time from 64872 last (PassToken gap First) turn) r gap ≡ false → r .own ≡ 0 → UpTo r k → Met k gap
-met-by k gap time from last turn r cs h l makes due own members =
-    let s = lowestWith (coreAt time from 64872 last (PassToken gap First) turn) r in
+met-by : (k : ℕ) (gap : Bool) (time hold last : ℕ) (turn : GapState) (r : Ring) (cs : List Call) → k ≤ 125 → last ≤ 9000 → run (freshStation lowest 1) cs ≡ lowestWith (PassToken gap First) (coreAt time hold last turn) r → gapDue lowest (coreAt time hold last turn) r gap ≡ false → r .own ≡ 0 → UpTo r k → Met k gap
+met-by k gap time hold last turn r cs h l makes due own members =
+    let s = lowestWith (PassToken gap First) (coreAt time hold last turn) r in
     let calls = made-by lowest cs s lowest-accepted makes in
     let starts = start-of-calls s calls refl gap refl due in
     let size = others-up-to r k own h members in
@@ -106,10 +105,10 @@ claimed-own : (r : Ring) → claimOf (claimOf r) .own ≡ r .own
 claimed-own r = claim-own (claimOf r) ∙ claim-own r
 
 -- the calls make this station
-made-look : (k : ℕ) → k ≤ 125 → run (freshStation lowest 1) (callsFor k true) ≡ lowestWith pass-look (claimOf (claimOf (ring-of k)))
+made-look : (k : ℕ) → k ≤ 125 → run (freshStation lowest 1) (callsFor k true) ≡ pass-look (claimOf (claimOf (ring-of k)))
 made-look k l = calls-on begins-look (others-look k ++ claims 3300) (freshStation lowest 1) ∙ ap (λ (s : Station). run s (others-look k ++ claims 3300)) (first-runs .look) ∙ go k l
   where
-    go : (k : ℕ) → k ≤ 125 → run begun-look (others-look k ++ claims 3300) ≡ lowestWith pass-look (claimOf (claimOf (ring-of k)))
+    go : (k : ℕ) → k ≤ 125 → run begun-look (others-look k ++ claims 3300) ≡ pass-look (claimOf (claimOf (ring-of k)))
     go zero l = claimed (freshOf 0) .look-none
     go (suc k) l =
         let cut = hears-cut 900 (suc k) ∷ [] in
@@ -117,18 +116,18 @@ made-look k l = calls-on begins-look (others-look k ++ claims 3300) (freshStatio
         ∙ ap (λ (s : Station). run s (claims 3300))
         (calls-on (hears-all 100 1 7) cut begun-look
         ∙ ap (λ (s : Station). run s cut) (first-runs .heard-all)
-        ∙ cut-heard _ 900 (suc k) (says-token (suc k) (omega arith) .0) (omega arith) 0 0 0 800 (Waiting 0) ring-all (omega arith) (omega arith))
+        ∙ cut-heard _ 900 (suc k) (says-token (suc k) (omega arith) .0) (omega arith) 0 0 800 (Waiting 0) ring-all (omega arith) (omega arith))
         ∙ claimed (witnessOf ring-all (suc k) 0) .look-heard
 
 -- no question is due: the count is 0
-no-question : (r : Ring) → gapDue lowest pass-look r true ≡ false
+no-question : (r : Ring) → gapDue lowest (pass-look r .core) r true ≡ false
 unfolding gapDue passing.gapAdvanced
 no-question r = refl
 
 met-look : (k : ℕ) → k ≤ 125 → Met k true
 met-look k l =
     let r = claimOf (claimOf (ring-of k)) in
-    met-by k true 3500 0 3566 (Waiting 0) r (callsFor k true) l (omega arith) (made-look k l) (no-question r) (claimed-own (ring-of k) ∙ own-of k)
+    met-by k true 3500 64872 3566 (Waiting 0) r (callsFor k true) l (omega arith) (made-look k l) (no-question r) (claimed-own (ring-of k) ∙ own-of k)
     (λ x m. claimed-has (ring-of k) x ∙ members-look k l x m)
 
 -- Without it: after a gap question.
@@ -186,10 +185,10 @@ members-question (suc k) l x m = add-has (claimOf (claimOf (before-one (suc k)))
     go (suc k) l = cut-added ring-but-one (suc (suc k)) (members .own-but-one) (omega arith) l (members .but-one) x m
 
 -- the calls make this station
-made-question : (k : ℕ) → k ≤ 125 → run (freshStation lowest 1) (callsFor k false) ≡ lowestWith pass-answered (after-one k)
+made-question : (k : ℕ) → k ≤ 125 → run (freshStation lowest 1) (callsFor k false) ≡ pass-answered (after-one k)
 made-question k l =
     let r = claimOf (claimOf (before-one k)) in
-    let pass = lowestWith pass-question r in
+    let pass = pass-question r in
     let question = one-asked r (sound-claim (claimOf (before-one k)) (sound-claim (before-one k) (sound-before k))) (claimed-own (before-one k) ∙ own-before k) (claimed-has (before-one k) 1 ∙ one-absent k l) in
     calls-on begins-question (others-question k ++ (claims 7400 ++ asks-one k)) (freshStation lowest 1)
     ∙ ap (λ (s : Station). run s (others-question k ++ (claims 7400 ++ asks-one k))) (first-runs .question)
@@ -200,7 +199,7 @@ made-question k l =
     ∙ ap (λ (s : Station). run s (pollHearing 8300 (responseOf1 (answer-type k) ∷ []) ∷ [])) (one-gets-asked r question)
     ∙ answered-for k
   where
-    claimed-for : (k : ℕ) → k ≤ 125 → run (run begun-question (others-question k)) (claims 7400) ≡ lowestWith pass-question (claimOf (claimOf (before-one k)))
+    claimed-for : (k : ℕ) → k ≤ 125 → run (run begun-question (others-question k)) (claims 7400) ≡ pass-question (claimOf (claimOf (before-one k)))
     claimed-for zero l = ap (λ (s : Station). run s (claims 7400)) (calls-none begun-question) ∙ claimed ring-alone .question-none
     claimed-for (suc zero) l = ap (λ (s : Station). run s (claims 7400)) (calls-none begun-question) ∙ claimed ring-alone .question-none
     claimed-for (suc (suc k)) l =
@@ -208,20 +207,20 @@ made-question k l =
         ap (λ (s : Station). run s (claims 7400))
         (calls-on (hears-all 4200 2 6) cut begun-question
         ∙ ap (λ (s : Station). run s cut) (first-runs .heard-but-one)
-        ∙ cut-heard _ 5000 (suc (suc k)) (says-token (suc (suc k)) (omega arith) .1) (omega arith) 3400 3000 64872 4900 (Waiting 2) ring-but-one (omega arith) (omega arith))
+        ∙ cut-heard _ 5000 (suc (suc k)) (says-token (suc (suc k)) (omega arith) .1) (omega arith) 3400 67872 4900 (Waiting 2) ring-but-one (omega arith) (omega arith))
         ∙ claimed (witnessOf ring-but-one (suc (suc k)) 0) .question-heard
 
-    answered-for : (k : ℕ) → run (lowestWith awaits-one (claimOf (claimOf (before-one k)))) (pollHearing 8300 (responseOf1 (answer-type k) ∷ []) ∷ []) ≡ lowestWith pass-answered (after-one k)
+    answered-for : (k : ℕ) → run (awaits-one (claimOf (claimOf (before-one k)))) (pollHearing 8300 (responseOf1 (answer-type k) ∷ []) ∷ []) ≡ pass-answered (after-one k)
     answered-for zero = one-answers (claimOf (claimOf ring-alone)) .not-ready
     answered-for (suc k) = one-answers (claimOf (claimOf (before-one (suc k)))) .in-ring
 
 -- no question is due where the gap is not looked at
-no-look : (r : Ring) → gapDue lowest pass-answered r false ≡ false
+no-look : (r : Ring) → gapDue lowest (pass-answered r .core) r false ≡ false
 unfolding gapDue
 no-look r = refl
 
 met-question : (k : ℕ) → k ≤ 125 → Met k false
-met-question k l = met-by k false 7600 3400 8300 (DoPoll 1) (after-one k) (callsFor k false) l (omega arith) (made-question k l) (no-look (after-one k)) (own-after k) (members-question k l)
+met-question k l = met-by k false 7600 68272 8300 (DoPoll 1) (after-one k) (callsFor k false) l (omega arith) (made-question k l) (no-look (after-one k)) (own-after k) (members-question k l)
 
 -- for both flags
 pub premises-met : PremisesMet
@@ -268,7 +267,7 @@ here-accepted = refl
 
 -- worked out from the definitions
 pub letter-run : LetterRun
-unfolding fieldOf beFrom loadOf rounded timeOf slotTimeOf tokenLostOf rotationTimeOf walk nearest betweenOf keeps sameSet roundOf lapsOf bitOf wordOf hasIn has make others freshOf passed witnessOf claimOf nextOf prevOf freshStation freshCore withState withActivity withGap withPending withTokenTimes withNextApplication withOnline after run zerosOr14 decisions.lengthRefusal words.responseStateOf decisions.decisionRefusal words.telegramRefusal words.telegramOf decisions.decisionOf records.headOf records.telegramAt records.decisionAt records.entryRefusal records.wordsRefusal records.recordRefusal steps.toListenToken steps.knownAt steps.elapsedOf steps.markedAt steps.busyOf steps.ongoingOf steps.pauseOf steps.sentAt steps.busActivityOf steps.rxOf steps.slotExpiredOf steps.tokenLostWaitOf steps.doneOf steps.transmitOf steps.heardOf hear.listenHeard hear.listenTelegramOn hear.listenTelegram listening.heardTelegram listening.heardAll listening.receivedAll listening.consumedAll listening.listenTokenOn listening.listenTokenAfter listening.listenTokenOf polling.connectedOn polling.connectedOf polling.dispatchOn polling.dispatchOf polling.pollOnline polling.pollInner answering.polledOf polling.acceptedAfter polling.acceptedPoll polling.pollOf commands.onlineOf steps.toClaimToken claiming.claimNext claiming.claimAfter claiming.claimTokenOf steps.toUseToken steps.withTokenTime steps.toPassToken listening.lostTokenOf holding.declinesOn holding.declinesAt holding.usePassOf holding.appTransmitOf holding.firstOr holding.turnOf holding.askedFrom holding.askedOf holding.holdLess holding.holdEndOf holding.holdsOf holding.useAppsAfter holding.useAppsOf holding.useTokenAfter holding.useTokenTimed holding.useTokenOf passing.gapAdvanced passing.passSent passing.passSend passing.passPollOn passing.passPoll passing.passAfter passing.passTokenOf checking.resendOf checking.checkReceived checking.checkAfter checking.checkTokenPassOf removeOf takeOut steps.toCheckTokenPass counted countedIn slotAfter sentIn answering.stepAnswer gapDue
+unfolding fieldOf beFrom loadOf rounded timeOf slotTimeOf tokenLostOf rotationTimeOf walk nearest betweenOf keeps sameSet roundOf lapsOf bitOf wordOf hasIn has make others freshOf passed witnessOf claimOf nextOf prevOf freshStation freshCore withActivity withGap withPending withTokenTimes withNextApplication withOnline after run zerosOr14 decisions.lengthRefusal words.responseStateOf decisions.decisionRefusal words.telegramRefusal words.telegramOf decisions.decisionOf records.headOf records.telegramAt records.decisionAt records.entryRefusal records.wordsRefusal records.recordRefusal steps.knownAt steps.elapsedOf steps.waitedOf steps.markedAt steps.busyOf steps.ongoingOf steps.pauseOf steps.sentAt steps.busActivityOf steps.rxOf steps.slotExpiredOf steps.tokenLostWaitOf steps.doneOf steps.transmitOf steps.heardOf hear.listenHeard hear.listenTelegram listening.heardTelegram listening.heardAll listening.receivedAll listening.consumedAll listening.listenTokenOn listening.handleLostToken listening.listenTokenOf polling.connectedOf polling.dispatchOf polling.pollOnline polling.pollInner answering.polledOf polling.acceptedAfter polling.acceptedPoll polling.pollOf commands.onlineOf claiming.claimNext claiming.claimTokenOf steps.withTokenTime holding.declinesOn holding.declinesAt holding.usePassOf holding.appTransmitOf holding.firstOr holding.turnOf holding.askedFrom holding.askedOf holding.holdLess holding.capped holding.endOf holding.holdEndOf holding.holdsOf holding.useAppsAfter holding.useAppsOf holding.useTokenTimed holding.useTokenOf passing.gapAdvanced passing.passSent passing.passSend passing.passPollOn passing.passPoll passing.passTokenOf checking.resendOf checking.checkReceived checking.checkTokenPassOf removeOf takeOut counted countedIn slotAfter sentIn answering.stepAnswer gapDue
 letter-run =
     record {
       starts = start-of-calls letterStation (made-by here letterCalls letterStation here-accepted refl) refl true refl refl;

@@ -63,7 +63,7 @@ pub record Start (s : Station) : Type 0 where
   pub not-offline : online s ≡ true
   -- it is in PassToken, at its first attempt, with or without a look at the gap
   pub gap : Bool
-  pub passing : s .core .state ≡ PassToken gap First
+  pub passing : s .state ≡ PassToken gap First
   -- no gap question is due
   pub no-question : gapDue (s .p) (s .core) (s .«token_ring») gap ≡ false
 
@@ -86,7 +86,7 @@ AllQuiet n (bytes ∷ later) = Quiet n bytes × AllQuiet n later
 
 -- holds the token: the state UseToken
 unfoldable pub holdsToken : Station → Bool
-holdsToken s = eqb (stateNumber (s .core .state)) 3
+holdsToken s = eqb (stateNumber (s .state)) 3
 
 -- the station at the end of the run, or, if it is earlier, when it first holds the token
 unfoldable pub until : Station → List (List ℕ) → Station

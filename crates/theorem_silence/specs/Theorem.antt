@@ -25,8 +25,8 @@ use Rattle.station.specs.declared.Core.{Core}
 use Rattle.station.specs.declared.Station.{Station}
 use Rattle.station.specs.declared.RingStep.{RingStep}
 use Rattle.station.specs.Parts.{stateNumber}
-use Rattle.station.specs.Steps.{ongoingOf, busActivityOf, doneOf}
-use Rattle.station_poll.specs.Poll.{connectedOn, connectedOf, pollOnline, pollInner, acceptedAfter, acceptedPoll, pollOf}
+use Rattle.station.specs.Steps.{ongoingOf, busActivityOf, doneOf, ringStepOf}
+use Rattle.station_poll.specs.Poll.{connectedOf, pollOnline, pollInner, acceptedAfter, acceptedPoll, pollOf}
 use Rattle.station_answer.specs.Answer.{polledOf, stepAnswer}
 use Rattle.theorem_silence.specs.Silence.{Start, Quiet, AllQuiet, holdsToken, until, told, sentUntil, counted, countedIn, slotAfter, Theorem}
 use Rattle.theorem_silence.specs.Times.{Slotted, slotted}
@@ -34,75 +34,75 @@ use Rattle.theorem_silence.specs.Phases.{Phase, starting, checking, hold
 use Rattle.theorem_silence.specs.OnePoll.{At, Turn, sends, stays, quietStep, turn-starting, turn-checking}
 
 -- the station of these parts
-abbrev pub stationOf : Parameters → ℕ → Core → Ring → Station
-stationOf p n c r = record { core = c; «token_ring» = r; p = p; applications = n }
+abbrev pub stationOf : Parameters → ℕ → State → Core → Ring → Station
+stationOf p n s c r = record { state = s; core = c; «token_ring» = r; p = p; applications = n }
 
 -- a poll record's clock
 abbrev pub clockOf : List ℕ → Micros
 clockOf bytes = record { 0 = headOf bytes .clock }
 
 -- a silent poll of an online station that has left Offline is the silent step
-online-quiet : (p : Parameters) (c : Core) (r : Ring) (now : Micros) (bytes : List ℕ) (n : ℕ) → pollOnline p c r now false 0 bytes n 0 ≡ quietStep p c r now bytes n
+online-quiet : (p : Parameters) (s : State) (c : Core) (r : Ring) (now : Micros) (bytes : List ℕ) (n : ℕ) → pollOnline p s c r now false 0 bytes n 0 ≡ quietStep p s c r now bytes n
 unfolding pollOnline busActivityOf ongoingOf quietStep
-online-quiet p c r now bytes n = rw (le-ltb (c .«pending_bytes») 0 (omega arith))
+online-quiet p s c r now bytes n = rw (le-ltb (c .«pending_bytes») 0 (omega arith))
 
-inner-quiet : (p : Parameters) (c : Core) (r : Ring) (now : Micros) (bytes : List ℕ) (n : ℕ) → c .online ≡ true → connectedOf c ≡ c → pollInner p c r now false 0 bytes n 0 ≡ quietStep p c r now bytes n
+inner-quiet : (p : Parameters) (s : State) (c : Core) (r : Ring) (now : Micros) (bytes : List ℕ) (n : ℕ) → c .online ≡ true → connectedOf s ≡ s → pollInner p s c r now false 0 bytes n 0 ≡ quietStep p s c r now bytes n
 unfolding pollInner
-inner-quiet p c r now bytes n on out =
-    ap (λ (b : Bool). cond b (pollOnline p (connectedOf c) r now false 0 bytes n 0) (record { step = doneOf c outcome.Offline; ring = r })) on
-    ∙ ap (λ (d : Core). pollOnline p d r now false 0 bytes n 0) out
-    ∙ online-quiet p c r now bytes n
+inner-quiet p s c r now bytes n on out =
+    ap (λ (b : Bool). cond b (pollOnline p (connectedOf s) c r now false 0 bytes n 0) (ringStepOf (doneOf s c outcome.Offline) r)) on
+    ∙ ap (λ (x : State). pollOnline p x c r now false 0 bytes n 0) out
+    ∙ online-quiet p s c r now bytes n
 
-pub poll-is : (p : Parameters) (n : ℕ) (c : Core) (r : Ring) (bytes : List ℕ) → Quiet n bytes → c .online ≡ true → connectedOf c ≡ c → pollOf (stationOf p n c r) bytes ≡ polledOf p n (quietStep p c r (clockOf bytes) bytes n)
+pub poll-is : (p : Parameters) (n : ℕ) (s : State) (c : Core) (r : Ring) (bytes : List ℕ) → Quiet n bytes → c .online ≡ true → connectedOf s ≡ s → pollOf (stationOf p n s c r) bytes ≡ polledOf p n (quietStep p s c r (clockOf bytes) bytes n)
 unfolding pollOf acceptedPoll acceptedAfter
-poll-is p n c r bytes q on out =
+poll-is p n s c r bytes q on out =
     rw (eq-eqb _ _ (q .accepted), q .no-telegram, q .no-pending, q .no-transmission)
-    (ap (polledOf p n) (inner-quiet p c r (clockOf bytes) bytes n on out))
+    (ap (polledOf p n) (inner-quiet p s c r (clockOf bytes) bytes n on out))
 
 -- the states of a token pass have left Offline
-pub connected-pass : (c : Core) (gap : Bool) (k : PassTokenAttempt) → c .state ≡ PassToken gap k → connectedOf c ≡ c
-unfolding connectedOf connectedOn
-connected-pass c gap k e = ap (λ (x : State). connectedOn x c) e
+pub connected-pass : (s : State) (gap : Bool) (k : PassTokenAttempt) → s ≡ PassToken gap k → connectedOf s ≡ s
+unfolding connectedOf
+connected-pass s gap k e = ap connectedOf e ∙ sym e
 
-connected-check : (c : Core) (k : PassTokenAttempt) → c .state ≡ CheckTokenPass k → connectedOf c ≡ c
-unfolding connectedOf connectedOn
-connected-check c k e = ap (λ (x : State). connectedOn x c) e
+connected-check : (s : State) (k : PassTokenAttempt) → s ≡ CheckTokenPass k → connectedOf s ≡ s
+unfolding connectedOf
+connected-check s k e = ap connectedOf e ∙ sym e
 
 -- a silent poll of a station at a place, told by the silent step
-pub poll-at : (ph : Phase) (p : Parameters) (n : ℕ) (c : Core) (r : Ring) (bytes : List ℕ) → Quiet n bytes → Under ph → At ph p c r → pollOf (stationOf p n c r) bytes ≡ polledOf p n (quietStep p c r (clockOf bytes) bytes n)
-poll-at (starting os) p n c r bytes q u s = poll-is p n c r bytes q (s .0 .on) (connected-pass c (s .1 .gap) _ (s .1 .passing))
-poll-at (checking k x more) p n c r bytes q u s = poll-is p n c r bytes q (s .0 .on) (connected-check c k (s .1))
-poll-at holding p n c r bytes q u s = absurd u
+pub poll-at : (ph : Phase) (p : Parameters) (n : ℕ) (s : State) (c : Core) (r : Ring) (bytes : List ℕ) → Quiet n bytes → Under ph → At ph p s c r → pollOf (stationOf p n s c r) bytes ≡ polledOf p n (quietStep p s c r (clockOf bytes) bytes n)
+poll-at (starting os) p n s c r bytes q u a = poll-is p n s c r bytes q (a .0 .on) (connected-pass s (a .1 .gap) _ (a .1 .passing))
+poll-at (checking k x more) p n s c r bytes q u a = poll-is p n s c r bytes q (a .0 .on) (connected-check s k (a .1))
+poll-at holding p n s c r bytes q u a = absurd u
 
 -- and what it comes to
-pub turn-at : (ph : Phase) (p : Parameters) → Slotted p → (n : ℕ) (c : Core) (r : Ring) (bytes : List ℕ) → Under ph → At ph p c r → Turn p (clockOf bytes) ph (slotAfter (c .«last_bus_activity») (headOf bytes .clock) (slotTimeOf p .0)) (quietStep p c r (clockOf bytes) bytes n)
-turn-at (starting os) p w n c r bytes u s = turn-starting p w c r (clockOf bytes) bytes n os s
-turn-at (checking k x more) p w n c r bytes u s = turn-checking p w c r (clockOf bytes) bytes n k x more s
-turn-at holding p w n c r bytes u s = absurd u
+pub turn-at : (ph : Phase) (p : Parameters) → Slotted p → (n : ℕ) (s : State) (c : Core) (r : Ring) (bytes : List ℕ) → Under ph → At ph p s c r → Turn p (clockOf bytes) ph (slotAfter (c .«last_bus_activity») (headOf bytes .clock) (slotTimeOf p .0)) (quietStep p s c r (clockOf bytes) bytes n)
+turn-at (starting os) p w n s c r bytes u a = turn-starting p w s c r (clockOf bytes) bytes n os a
+turn-at (checking k x more) p w n s c r bytes u a = turn-checking p w s c r (clockOf bytes) bytes n k x more a
+turn-at holding p w n s c r bytes u a = absurd u
 
 -- a station holds the token exactly at the last place
-not-holding : (ph : Phase) (p : Parameters) (n : ℕ) (c : Core) (r : Ring) → Under ph → At ph p c r → holdsToken (stationOf p n c r) ≡ false
+not-holding : (ph : Phase) (p : Parameters) (n : ℕ) (s : State) (c : Core) (r : Ring) → Under ph → At ph p s c r → holdsToken (stationOf p n s c r) ≡ false
 unfolding holdsToken
-not-holding (starting os) p n c r u s = ap (λ (x : State). eqb (stateNumber x) 3) (s .1 .passing)
-not-holding (checking k x more) p n c r u s = ap (λ (x : State). eqb (stateNumber x) 3) (s .1)
-not-holding holding p n c r u s = absurd u
+not-holding (starting os) p n s c r u a = ap (λ (x : State). eqb (stateNumber x) 3) (a .1 .passing)
+not-holding (checking k x more) p n s c r u a = ap (λ (x : State). eqb (stateNumber x) 3) (a .1)
+not-holding holding p n s c r u a = absurd u
 
-pub is-holding : (p : Parameters) (n : ℕ) (c : Core) (r : Ring) → At holding p c r → holdsToken (stationOf p n c r) ≡ true
+pub is-holding : (p : Parameters) (n : ℕ) (s : State) (c : Core) (r : Ring) → At holding p s c r → holdsToken (stationOf p n s c r) ≡ true
 unfolding holdsToken
-is-holding p n c r s = ap (λ (x : State). eqb (stateNumber x) 3) (s .1 .held)
+is-holding p n s c r a = ap (λ (x : State). eqb (stateNumber x) 3) (a .1 .held)
 
 -- a poll of a run counts or not
-pub counted-on : (p : Parameters) (n : ℕ) (c : Core) (r : Ring) (bytes : List ℕ) (later : List (List ℕ)) (x : RingStep) → pollOf (stationOf p n c r) bytes ≡ polledOf p n x → countedIn (stationOf p n c r) (bytes ∷ later) ≡ cond (slotAfter (c .«last_bus_activity») (headOf bytes .clock) (slotTimeOf p .0)) 1 0 + countedIn (stationOf p n (x .step .core) (x .ring)) later
+pub counted-on : (p : Parameters) (n : ℕ) (s : State) (c : Core) (r : Ring) (bytes : List ℕ) (later : List (List ℕ)) (x : RingStep) → pollOf (stationOf p n s c r) bytes ≡ polledOf p n x → countedIn (stationOf p n s c r) (bytes ∷ later) ≡ cond (slotAfter (c .«last_bus_activity») (headOf bytes .clock) (slotTimeOf p .0)) 1 0 + countedIn (stationOf p n (x .step .state) (x .step .core) (x .ring)) later
 unfolding countedIn counted polledOf
-counted-on p n c r bytes later x is = rw is
+counted-on p n s c r bytes later x is = rw is
 
 -- a run that does not start with the token held goes on with its first poll
-module _ (p : Parameters) (n : ℕ) (c : Core) (r : Ring) (bytes : List ℕ) (later : List (List ℕ)) (x : RingStep) (out : holdsToken (stationOf p n c r) ≡ false) (is : pollOf (stationOf p n c r) bytes ≡ polledOf p n x) where
-  until-on : until (stationOf p n c r) (bytes ∷ later) ≡ until (stationOf p n (x .step .core) (x .ring)) later
+module _ (p : Parameters) (n : ℕ) (s : State) (c : Core) (r : Ring) (bytes : List ℕ) (later : List (List ℕ)) (x : RingStep) (out : holdsToken (stationOf p n s c r) ≡ false) (is : pollOf (stationOf p n s c r) bytes ≡ polledOf p n x) where
+  until-on : until (stationOf p n s c r) (bytes ∷ later) ≡ until (stationOf p n (x .step .state) (x .step .core) (x .ring)) later
   unfolding until polledOf
   until-on = rw (out, is)
 
-  sent-on : sentUntil (stationOf p n c r) (bytes ∷ later) ≡ told (x .step .sent) ++ sentUntil (stationOf p n (x .step .core) (x .ring)) later
+  sent-on : sentUntil (stationOf p n s c r) (bytes ∷ later) ≡ told (x .step .sent) ++ sentUntil (stationOf p n (x .step .state) (x .step .core) (x .ring)) later
   unfolding sentUntil polledOf stepAnswer
   sent-on = rw (out, is)
 
@@ -131,29 +131,29 @@ one-less false left polls l = omega arith
 -- has gone on from place to place; what it sends and what is then still to be sent is what was to be sent; and enough counted polls
 -- lead to the token.
 record Ran (p : Parameters) (ph : Phase) (out : List Sent) (end : Station) (polls : ℕ) : Type 0 where
-  pub reached : At (advance (length out) ph) p (end .core) (end .«token_ring»)
+  pub reached : At (advance (length out) ph) p (end .state) (end .core) (end .«token_ring»)
   pub so-far : out ++ todo (p .address) (advance (length out) ph) ≡ todo (p .address) ph
   pub in-time : length (todo (p .address) ph) ≤ polls → holdsToken end ≡ true
-  pub same-parts : end ≡ stationOf p (end .applications) (end .core) (end .«token_ring»)
+  pub same-parts : end ≡ stationOf p (end .applications) (end .state) (end .core) (end .«token_ring»)
 
 -- the run of a list of records
 abbrev RanOn : Parameters → Phase → Station → List (List ℕ) → Type 0
 RanOn p ph s records = Ran p ph (sentUntil s records) (until s records) (countedIn s records)
 
-ran-holding : (p : Parameters) (n : ℕ) (c : Core) (r : Ring) (records : List (List ℕ)) → At holding p c r → RanOn p holding (stationOf p n c r) records
+ran-holding : (p : Parameters) (n : ℕ) (s : State) (c : Core) (r : Ring) (records : List (List ℕ)) → At holding p s c r → RanOn p holding (stationOf p n s c r) records
 unfolding advance
-ran-holding p n c r records s =
-    let held = is-holding p n c r s in
-    let s₀ = stationOf p n c r in
+ran-holding p n s c r records a =
+    let held = is-holding p n s c r a in
+    let s₀ = stationOf p n s c r in
     rw (until-held s₀ records held, sent-held s₀ records held)
-    (record { reached = s; so-far = refl; in-time = λ l. held; same-parts = refl })
+    (record { reached = a; so-far = refl; in-time = λ l. held; same-parts = refl })
 
 -- no poll: nothing is sent
-ran-none : (ph : Phase) (p : Parameters) (n : ℕ) (c : Core) (r : Ring) → Under ph → At ph p c r → RanOn p ph (stationOf p n c r) []
+ran-none : (ph : Phase) (p : Parameters) (n : ℕ) (s : State) (c : Core) (r : Ring) → Under ph → At ph p s c r → RanOn p ph (stationOf p n s c r) []
 unfolding advance sentUntil until countedIn
-ran-none ph p n c r u s =
+ran-none ph p n s c r u a =
     record {
-      reached = s;
+      reached = a;
       so-far = refl;
       in-time = λ l. absurd (todo-some (p .address) ph u (empty-length (todo (p .address) ph) l));
       same-parts = refl;
@@ -176,69 +176,69 @@ ran-sends p ph x out end counts polls u e g =
     })
 
 -- one poll, and a run from wherever it leads
-module _ (ph : Phase) (p : Parameters) (w : Slotted p) (n : ℕ) (c : Core) (r : Ring) (bytes : List ℕ) (later : List (List ℕ)) (u : Under ph) (s : At ph p c r) (q : Quiet n bytes) (then : (to : Phase) (d : Core) (t : Ring) → At to p d t → RanOn p to (stationOf p n d t) later) where
+module _ (ph : Phase) (p : Parameters) (w : Slotted p) (n : ℕ) (s : State) (c : Core) (r : Ring) (bytes : List ℕ) (later : List (List ℕ)) (u : Under ph) (a : At ph p s c r) (q : Quiet n bytes) (then : (to : Phase) (y : State) (d : Core) (t : Ring) → At to p y d t → RanOn p to (stationOf p n y d t) later) where
   -- the step, and whether the poll is counted
   abbrev the-step : RingStep
-  the-step = quietStep p c r (clockOf bytes) bytes n
+  the-step = quietStep p s c r (clockOf bytes) bytes n
 
   abbrev is-counted : Bool
   is-counted = slotAfter (c .«last_bus_activity») (headOf bytes .clock) (slotTimeOf p .0)
 
   abbrev after-it : Station
-  after-it = stationOf p n (the-step .step .core) (the-step .ring)
+  after-it = stationOf p n (the-step .step .state) (the-step .step .core) (the-step .ring)
 
   by-turn : Turn p (clockOf bytes) ph is-counted the-step → Ran p ph (told (the-step .step .sent) ++ sentUntil after-it later) (until after-it later) (cond is-counted 1 0 + countedIn after-it later)
-  by-turn (sends g) = ran-sends p ph _ _ _ is-counted _ u (g .token) (then (next ph) _ _ (g .place))
-  by-turn (stays f g) = ran-stays p ph _ _ _ is-counted _ (g .nothing) f (then ph _ _ (g .place))
+  by-turn (sends g) = ran-sends p ph _ _ _ is-counted _ u (g .token) (then (next ph) _ _ _ (g .place))
+  by-turn (stays f g) = ran-stays p ph _ _ _ is-counted _ (g .nothing) f (then ph _ _ _ (g .place))
 
-  ran-poll : RanOn p ph (stationOf p n c r) (bytes ∷ later)
+  ran-poll : RanOn p ph (stationOf p n s c r) (bytes ∷ later)
   ran-poll =
-      let out = not-holding ph p n c r u s in
-      let is = poll-at ph p n c r bytes q u s in
-      rw (sent-on p n c r bytes later the-step out is, until-on p n c r bytes later the-step out is, counted-on p n c r bytes later the-step is)
-      (by-turn (turn-at ph p w n c r bytes u s))
+      let out = not-holding ph p n s c r u a in
+      let is = poll-at ph p n s c r bytes q u a in
+      rw (sent-on p n s c r bytes later the-step out is, until-on p n s c r bytes later the-step out is, counted-on p n s c r bytes later the-step is)
+      (by-turn (turn-at ph p w n s c r bytes u a))
 
 -- from any place: no poll, and one poll with a run from wherever it leads
-ran-end : (ph : Phase) (p : Parameters) (n : ℕ) (c : Core) (r : Ring) → At ph p c r → RanOn p ph (stationOf p n c r) []
-ran-end (starting os) p n c r s = ran-none (starting os) p n c r tt s
-ran-end (checking k x more) p n c r s = ran-none (checking k x more) p n c r tt s
-ran-end holding p n c r s = ran-holding p n c r [] s
+ran-end : (ph : Phase) (p : Parameters) (n : ℕ) (s : State) (c : Core) (r : Ring) → At ph p s c r → RanOn p ph (stationOf p n s c r) []
+ran-end (starting os) p n s c r a = ran-none (starting os) p n s c r tt a
+ran-end (checking k x more) p n s c r a = ran-none (checking k x more) p n s c r tt a
+ran-end holding p n s c r a = ran-holding p n s c r [] a
 
-ran-on : (ph : Phase) (p : Parameters) → Slotted p → (n : ℕ) (c : Core) (r : Ring) (bytes : List ℕ) (later : List (List ℕ)) → At ph p c r → Quiet n bytes → ((to : Phase) (d : Core) (t : Ring) → At to p d t → RanOn p to (stationOf p n d t) later) → RanOn p ph (stationOf p n c r) (bytes ∷ later)
-ran-on (starting os) p w n c r bytes later s q then = ran-poll (starting os) p w n c r bytes later tt s q then
-ran-on (checking k x more) p w n c r bytes later s q then = ran-poll (checking k x more) p w n c r bytes later tt s q then
-ran-on holding p w n c r bytes later s q then = ran-holding p n c r (bytes ∷ later) s
+ran-on : (ph : Phase) (p : Parameters) → Slotted p → (n : ℕ) (s : State) (c : Core) (r : Ring) (bytes : List ℕ) (later : List (List ℕ)) → At ph p s c r → Quiet n bytes → ((to : Phase) (y : State) (d : Core) (t : Ring) → At to p y d t → RanOn p to (stationOf p n y d t) later) → RanOn p ph (stationOf p n s c r) (bytes ∷ later)
+ran-on (starting os) p w n s c r bytes later a q then = ran-poll (starting os) p w n s c r bytes later tt a q then
+ran-on (checking k x more) p w n s c r bytes later a q then = ran-poll (checking k x more) p w n s c r bytes later tt a q then
+ran-on holding p w n s c r bytes later a q then = ran-holding p n s c r (bytes ∷ later) a
 
 -- any list of silent polls, from any place
-ran : (records : List (List ℕ)) (p : Parameters) → Slotted p → (n : ℕ) → AllQuiet n records → (ph : Phase) (c : Core) (r : Ring) → At ph p c r → RanOn p ph (stationOf p n c r) records
-ran [] p w n q ph c r s = ran-end ph p n c r s
-ran (bytes ∷ later) p w n q ph c r s = ran-on ph p w n c r bytes later s (q .0) (λ to d t a. ran later p w n (q .1) to d t a)
+ran : (records : List (List ℕ)) (p : Parameters) → Slotted p → (n : ℕ) → AllQuiet n records → (ph : Phase) (s : State) (c : Core) (r : Ring) → At ph p s c r → RanOn p ph (stationOf p n s c r) records
+ran [] p w n q ph s c r a = ran-end ph p n s c r a
+ran (bytes ∷ later) p w n q ph s c r a = ran-on ph p w n s c r bytes later a (q .0) (λ to y d t b. ran later p w n (q .1) to y d t b)
 
 -- the others at a place
-at-others : (ph : Phase) (p : Parameters) (c : Core) (r : Ring) → At ph p c r → others r ≡ inRing ph
-at-others (starting os) p c r s = s .0 .are
-at-others (checking k x more) p c r s = s .0 .are
-at-others holding p c r s = s .0 .are
+at-others : (ph : Phase) (p : Parameters) (s : State) (c : Core) (r : Ring) → At ph p s c r → others r ≡ inRing ph
+at-others (starting os) p s c r a = a .0 .are
+at-others (checking k x more) p s c r a = a .0 .are
+at-others holding p s c r a = a .0 .are
 
 -- the token is held exactly where nothing is still to be sent
-none-left : (ph : Phase) (p : Parameters) (n : ℕ) (c : Core) (r : Ring) → At ph p c r → holdsToken (stationOf p n c r) ≡ true → todo (p .address) ph ≡ []
-none-left (starting os) p n c r s e = absurd (true≢false (sym e ∙ not-holding (starting os) p n c r tt s))
-none-left (checking k x more) p n c r s e = absurd (true≢false (sym e ∙ not-holding (checking k x more) p n c r tt s))
-none-left holding p n c r s e = refl
+none-left : (ph : Phase) (p : Parameters) (n : ℕ) (s : State) (c : Core) (r : Ring) → At ph p s c r → holdsToken (stationOf p n s c r) ≡ true → todo (p .address) ph ≡ []
+none-left (starting os) p n s c r a e = absurd (true≢false (sym e ∙ not-holding (starting os) p n s c r tt a))
+none-left (checking k x more) p n s c r a e = absurd (true≢false (sym e ∙ not-holding (checking k x more) p n s c r tt a))
+none-left holding p n s c r a e = refl
 
-some-left-there : (ph : Phase) (p : Parameters) (n : ℕ) (c : Core) (r : Ring) → At ph p c r → holdsToken (stationOf p n c r) ≡ false → todo (p .address) ph ≡ [] → ⊥
-some-left-there (starting os) p n c r s e = todo-some (p .address) (starting os) tt
-some-left-there (checking k x more) p n c r s e = todo-some (p .address) (checking k x more) tt
-some-left-there holding p n c r s e = absurd (true≢false (sym (is-holding p n c r s) ∙ e))
+some-left-there : (ph : Phase) (p : Parameters) (n : ℕ) (s : State) (c : Core) (r : Ring) → At ph p s c r → holdsToken (stationOf p n s c r) ≡ false → todo (p .address) ph ≡ [] → ⊥
+some-left-there (starting os) p n s c r a e = todo-some (p .address) (starting os) tt
+some-left-there (checking k x more) p n s c r a e = todo-some (p .address) (checking k x more) tt
+some-left-there holding p n s c r a e = absurd (true≢false (sym (is-holding p n s c r a) ∙ e))
 
 -- a station at a place that holds the token is at the last
-at-holding : (ph : Phase) (p : Parameters) (n : ℕ) (c : Core) (r : Ring) → At ph p c r → holdsToken (stationOf p n c r) ≡ true → At holding p c r
-at-holding (starting os) p n c r s e = absurd (true≢false (sym e ∙ not-holding (starting os) p n c r tt s))
-at-holding (checking k x more) p n c r s e = absurd (true≢false (sym e ∙ not-holding (checking k x more) p n c r tt s))
-at-holding holding p n c r s e = s
+at-holding : (ph : Phase) (p : Parameters) (n : ℕ) (s : State) (c : Core) (r : Ring) → At ph p s c r → holdsToken (stationOf p n s c r) ≡ true → At holding p s c r
+at-holding (starting os) p n s c r a e = absurd (true≢false (sym e ∙ not-holding (starting os) p n s c r tt a))
+at-holding (checking k x more) p n s c r a e = absurd (true≢false (sym e ∙ not-holding (checking k x more) p n s c r tt a))
+at-holding holding p n s c r a e = a
 
 -- a station that starts a token pass is at the first place
-pub started : (s : Station) → Start s → At (starting (others (s .«token_ring»))) (s .p) (s .core) (s .«token_ring»)
+pub started : (s : Station) → Start s → At (starting (others (s .«token_ring»))) (s .p) (s .state) (s .core) (s .«token_ring»)
 started s h = (
   record { on = h .not-offline; ring-good = record { sound = h .sound .ring-sound; own = h .sound .own-is }; are = refl },
   record { gap = h .gap; passing = h .passing; no-question = h .no-question },
@@ -246,17 +246,17 @@ started s h = (
 
 -- its run, and where it ends
 ran-of : (s : Station) (records : List (List ℕ)) → Start s → AllQuiet (s .applications) records → RanOn (s .p) (starting (others (s .«token_ring»))) s records
-ran-of s records h q = ran records (s .p) (slotted (s .p) (h .settings)) (s .applications) q _ (s .core) (s .«token_ring») (started s h)
+ran-of s records h q = ran records (s .p) (slotted (s .p) (h .settings)) (s .applications) q _ (s .state) (s .core) (s .«token_ring») (started s h)
 
 abbrev phaseOf : Station → List (List ℕ) → Phase
 phaseOf s records = advance (length (sentUntil s records)) (starting (others (s .«token_ring»)))
 
 -- once it holds the token it is at the last place
-pub held-place : (s : Station) (records : List (List ℕ)) → Start s → AllQuiet (s .applications) records → holdsToken (until s records) ≡ true → At holding (s .p) (until s records .core) (until s records .«token_ring»)
+pub held-place : (s : Station) (records : List (List ℕ)) → Start s → AllQuiet (s .applications) records → holdsToken (until s records) ≡ true → At holding (s .p) (until s records .state) (until s records .core) (until s records .«token_ring»)
 held-place s records h q e =
     let g = ran-of s records h q in
     let end = until s records in
-    at-holding (phaseOf s records) (s .p) (end .applications) (end .core) (end .«token_ring») (g .reached) (subst (λ (x : Station). holdsToken x ≡ true) (g .same-parts) e)
+    at-holding (phaseOf s records) (s .p) (end .applications) (end .state) (end .core) (end .«token_ring») (g .reached) (subst (λ (x : Station). holdsToken x ≡ true) (g .same-parts) e)
 
 -- the theorem
 pub silence : Theorem
@@ -269,8 +269,8 @@ silence s records h q =
     record {
       rest = todo (p .address) ph;
       sends = g .so-far;
-      all-sent = λ e. none-left ph p (end .applications) (end .core) (end .«token_ring») (g .reached) (subst (λ (x : Station). holdsToken x ≡ true) (g .same-parts) e);
-      some-left = λ e. some-left-there ph p (end .applications) (end .core) (end .«token_ring») (g .reached) (subst (λ (x : Station). holdsToken x ≡ false) (g .same-parts) e);
-      removes = at-others ph p (end .core) (end .«token_ring») (g .reached) ∙ ring-after os (length (sentUntil s records));
+      all-sent = λ e. none-left ph p (end .applications) (end .state) (end .core) (end .«token_ring») (g .reached) (subst (λ (x : Station). holdsToken x ≡ true) (g .same-parts) e);
+      some-left = λ e. some-left-there ph p (end .applications) (end .state) (end .core) (end .«token_ring») (g .reached) (subst (λ (x : Station). holdsToken x ≡ false) (g .same-parts) e);
+      removes = at-others ph p (end .state) (end .core) (end .«token_ring») (g .reached) ∙ ring-after os (length (sentUntil s records));
       bound = λ l. g .in-time (rw (tokens-length os (p .address)) l);
     }

@@ -1,10 +1,9 @@
 -- What accepted settings give: a slot time that is not zero and not shorter than the pause; and what a counted poll then knows.
-use Prim.Native.Nat.{ℕ, _+_, _<_, _≤_}
+use Prim.Native.Nat.{ℕ, _+_, _≤_}
 use mathlib.Core.Bool.{true, false}
 use mathlib.Core.Path.{_≡_, refl, sym}
 use native.Mathlib.Omega.{arith}
 use borrow.Author.Tests.{le-leb, lt-leb, leb-true}
-use lib.Dec.{leb}
 use Rattle.bit_times.specs.declared.Micros.{Micros}
 use Rattle.bit_times.specs.Times.{pauseBits, leastSlotBits, timeOf}
 use Rattle.bit_times.specs.Laws.{listed, time-grows}
@@ -12,7 +11,9 @@ use Rattle.settings.specs.declared.Parameters.{Parameters}
 use Rattle.ring_addresses.specs.SetLaws.{true≢false}
 use Rattle.station.specs.declared.Activity.{Activity}
 use Rattle.station.specs.declared.Activity.the-variants as activity
-use Rattle.station.specs.Steps.{knownAt, elapsedOf, busyOf, pauseOf, slotExpiredOf}
+use Rattle.station.specs.declared.Core.{Core}
+use Rattle.station.specs.Parts.{withActivity}
+use Rattle.station.specs.Steps.{knownAt, elapsedOf, busyOf, waitedOf, pauseOf, slotExpiredOf}
 use Rattle.theorem_sound.specs.Keeps.{time-some}
 use Rattle.theorem_silence.specs.Silence.{slotAfter}
 use Rattle.settings.specs.Rules.{slotBitsRefusal}
@@ -43,37 +44,37 @@ slotted p e =
     record { some = time-some _ (p .baudrate) (omega arith); pause = time-grows 33 _ (p .baudrate) (omega arith) }
 
 -- What the poll's tests say of a counted poll, and what a counted poll's tests say.
-module _ (p : Parameters) (w : Slotted p) (a : Activity) (now : Micros) where
+module _ (p : Parameters) (w : Slotted p) (c : Core) (now : Micros) where
   -- a counted poll finds no transmission going on
-  pub counted-free : slotAfter a (now .0) (slotTimeOf p .0) ≡ true → busyOf a now ≡ false
+  pub counted-free : slotAfter (c .«last_bus_activity») (now .0) (slotTimeOf p .0) ≡ true → busyOf (c .«last_bus_activity») now ≡ false
   unfolding slotAfter busyOf
-  counted-free = go a
+  counted-free = go (c .«last_bus_activity»)
     where
       go : (a : Activity) → slotAfter a (now .0) (slotTimeOf p .0) ≡ true → busyOf a now ≡ false
       go activity.Unknown e = refl
       go (activity.At last) e = lt-leb (now .0) (last .0) (omega (arith, leb-true (last .0 + slotTimeOf p .0) (now .0) e, w .some))
 
   -- a counted poll finds the pause over
-  pub counted-paused : slotAfter a (now .0) (slotTimeOf p .0) ≡ true → pauseOf p a now .over ≡ true
-  unfolding slotAfter pauseOf elapsedOf knownAt
-  counted-paused = go a
+  pub counted-paused : slotAfter (c .«last_bus_activity») (now .0) (slotTimeOf p .0) ≡ true → pauseOf p c now .over ≡ true
+  unfolding slotAfter pauseOf waitedOf elapsedOf knownAt
+  counted-paused = go (c .«last_bus_activity»)
     where
       go : (a : Activity) → slotAfter a (now .0) (slotTimeOf p .0) ≡ true → elapsedOf now (knownAt a now) (timeOf (record { 0 = pauseBits }) (p .baudrate)) ≡ true
       go activity.Unknown e = absurd (true≢false (sym e))
       go (activity.At last) e = le-leb (last .0 + pauseTime p) (now .0) (omega (arith, leb-true (last .0 + slotTimeOf p .0) (now .0) e, w .pause))
 
   -- a counted poll finds the slot expired
-  pub counted-expired : slotAfter a (now .0) (slotTimeOf p .0) ≡ true → slotExpiredOf p a now .over ≡ true
-  unfolding slotAfter slotExpiredOf elapsedOf knownAt
-  counted-expired = go a
+  pub counted-expired : slotAfter (c .«last_bus_activity») (now .0) (slotTimeOf p .0) ≡ true → slotExpiredOf p c now .over ≡ true
+  unfolding slotAfter slotExpiredOf waitedOf elapsedOf knownAt
+  counted-expired = go (c .«last_bus_activity»)
     where
       go : (a : Activity) → slotAfter a (now .0) (slotTimeOf p .0) ≡ true → elapsedOf now (knownAt a now) (slotTimeOf p) ≡ true
       go activity.Unknown e = absurd (true≢false (sym e))
       go (activity.At last) e = e
 
   -- where the slot has expired, the pause since the same activity is over
-  pub expired-paused : slotExpiredOf p a now .over ≡ true → pauseOf p (activity.At (slotExpiredOf p a now .last)) now .over ≡ true
-  unfolding slotExpiredOf pauseOf elapsedOf knownAt
+  pub expired-paused : slotExpiredOf p c now .over ≡ true → pauseOf p (slotExpiredOf p c now .core) now .over ≡ true
+  unfolding slotExpiredOf pauseOf waitedOf elapsedOf knownAt withActivity
   expired-paused e =
-      let last = knownAt a now .0 in
+      let last = knownAt (c .«last_bus_activity») now .0 in
       le-leb (last + pauseTime p) (now .0) (omega (arith, leb-true (last + slotTimeOf p .0) (now .0) e, w .pause))

@@ -42,20 +42,19 @@ use Rattle.station.specs.declared.State.{State}
 use Rattle.station.specs.declared.State.the-variants.{Offline, ListenToken, ActiveIdle, UseToken, ClaimToken, AwaitDataResponse, PassToken, CheckTokenPass, AwaitStatusResponse}
 use Rattle.station.specs.declared.Core.{Core}
 use Rattle.station.specs.declared.Station.{Station}
-use Rattle.station.specs.declared.Waited.{Waited}
 use Rattle.station.specs.declared.Step.{Step}
 use Rattle.station.specs.declared.RingStep.{RingStep}
-use Rattle.station.specs.Parts.{withState, withActivity, withGap, withNextApplication, withOnline, freshCore, stateNumber}
-use Rattle.station.specs.Steps.{ongoingOf, busActivityOf, pauseOf, slotExpiredOf, tokenLostWaitOf, doneOf, transmitOf}
-use Rattle.station_claim.specs.Claim.{claimAfter, claimTokenOf}
+use Rattle.station.specs.Parts.{withActivity, withGap, withNextApplication, withOnline, freshCore, stateNumber}
+use Rattle.station.specs.Steps.{ongoingOf, busActivityOf, waitedOf, pauseOf, slotExpiredOf, tokenLostWaitOf, doneOf, transmitOf, ringStepOf}
+use Rattle.station_claim.specs.Claim.{claimTokenOf}
 use Rattle.station_hold.specs.declared.Asked.{Asked}
-use Rattle.station_hold.specs.Hold.{validResponse, holdsOf, askedOf, appTransmitOf, usePassOf, useAppsAfter, useAppsOf, useTokenAfter, useTokenTimed, useTokenOf, receivedOf, withNotice, timeoutOf, awaitDataAfter, awaitDataOf}
+use Rattle.station_hold.specs.Hold.{validResponse, holdsOf, askedOf, appTransmitOf, usePassOf, useAppsAfter, useAppsOf, useTokenTimed, useTokenOf, receivedOf, withNotice, timeoutOf, awaitDataOf}
 use Rattle.station.specs.declared.Heard.{Heard}
-use Rattle.station_listen.specs.Listen.{lostTokenOf, listenResponseAfter, listenResponse, consumedAll, listenTokenOn, listenTokenAfter, listenTokenOf, activeResponseAfter, activeResponse, activeIdleOn, activeIdleAfter, activeIdleOf}
-use Rattle.station_pass.specs.Pass.{passSent, passSend, passPollOn, passPoll, passAfter, passTokenOf}
-use Rattle.station_await_status.specs.AwaitStatus.{statusAnswered, statusUnexpected, statusReceived, statusTimeout, awaitStatusAfter, awaitStatusOf}
-use Rattle.station_check_pass.specs.CheckPass.{resendOf, checkReceived, checkAfter, checkTokenPassOf}
-use Rattle.station_poll.specs.Poll.{connectedOf, dispatchOn, dispatchOf, pollOnline, pollInner, acceptedAfter, acceptedPoll, pollOf}
+use Rattle.station_listen.specs.Listen.{handleLostToken, listenResponse, consumedAll, listenTokenOn, listenTokenOf, activeResponse, activeIdleOn, activeIdleOf}
+use Rattle.station_pass.specs.Pass.{passSent, passSend, passPollOn, passPoll, passTokenOf}
+use Rattle.station_await_status.specs.AwaitStatus.{statusAnswered, statusUnexpected, statusReceived, awaitStatusOf}
+use Rattle.station_check_pass.specs.CheckPass.{resendOf, checkReceived, checkTokenPassOf}
+use Rattle.station_poll.specs.Poll.{connectedOf, dispatchOf, pollOnline, pollInner, acceptedAfter, acceptedPoll, pollOf}
 use Rattle.station_answer.specs.Answer.{stepAnswer, polledOf, refusedPoll}
 use Rattle.station_command.specs.Command.{onlineOf, offlineOf, passiveOf}
 use Rattle.theorem_sound.specs.Moves.{Low, Clock, GapAddressed}
@@ -77,13 +76,13 @@ record Fit (x : RingStep) : Type 0 where
   pub step-fits : StepFits (x .step)
 
 -- a step that sends and tells nothing, and one that sends
-done-fits : (c : Core) (o : Outcome) → StepFits (doneOf c o)
+done-fits : (x : State) (c : Core) (o : Outcome) → StepFits (doneOf x c o)
 unfolding doneOf
-done-fits c o = record { sent-fits = tt; consumed-fits = lit≤ tt; notice-fits = tt }
+done-fits x c o = record { sent-fits = tt; consumed-fits = lit≤ tt; notice-fits = tt }
 
-transmit-fits : (p : Parameters) (c : Core) (now : Micros) (x : Sent) → SentFits x → StepFits (transmitOf p c now x)
+transmit-fits : (p : Parameters) (y : State) (c : Core) (now : Micros) (x : Sent) → SentFits x → StepFits (transmitOf p y c now x)
 unfolding transmitOf
-transmit-fits p c now x f = record { sent-fits = f; consumed-fits = lit≤ tt; notice-fits = tt }
+transmit-fits p y c now x f = record { sent-fits = f; consumed-fits = lit≤ tt; notice-fits = tt }
 
 -- What is known in a poll whose record is not refused: an address of settings, at most 8 applications and telegrams, and decisions
 -- that fit.
@@ -100,25 +99,25 @@ module _ (p : Parameters) (n : ℕ) (bytes : List ℕ) (count : ℕ) (now : Micr
 
   -- do_claim_token
   claim-fits : (c : Core) (r : Ring) (first : Bool) → Fit (claimTokenOf p c r now first)
-  unfolding claimTokenOf claimAfter
+  unfolding claimTokenOf
   claim-fits c r first =
-      either Fit (pauseOf p (c .«last_bus_activity») now .over) _ _
-      (record { step-fits = transmit-fits p _ now _ (omega (arith, k .own-low)) })
-      (record { step-fits = done-fits _ _ })
+      either Fit (pauseOf p c now .over) _ _
+      (record { step-fits = transmit-fits p _ _ now _ (omega (arith, k .own-low)) })
+      (record { step-fits = done-fits _ _ _ })
 
   -- do_use_token
   use-pass-fits : (c : Core) → StepFits (usePassOf c)
   unfolding usePassOf
-  use-pass-fits c = done-fits _ _
+  use-pass-fits c = done-fits _ _ _
 
   app-fits : (c : Core) (held : UseTokenData) (d : Decision) (high : Bool) → DecisionFits d → c .«next_application» < n → StepFits (appTransmitOf p c now held d high)
   unfolding appTransmitOf
   app-fits c held decision.Decline high f l = use-pass-fits c
-  app-fits c held (decision.Send size) high f l = transmit-fits p c now _ (lit< tt, omega (arith, k .eight), f .0, f .1)
-  app-fits c held (decision.SendExpectReply a size) high f l = transmit-fits p _ now _ (f .0, omega (arith, k .eight), f .1, f .2)
+  app-fits c held (decision.Send size) high f l = transmit-fits p _ c now _ (lit< tt, omega (arith, k .eight), f .0, f .1)
+  app-fits c held (decision.SendExpectReply a size) high f l = transmit-fits p _ _ now _ (f .0, omega (arith, k .eight), f .1, f .2)
 
   apps-after-fits : (c : Core) (held : UseTokenData) (high : Bool) (a : Asked) → AskedGood n a → StepFits (useAppsAfter p c now held bytes n high a)
-  unfolding useAppsAfter withState withNextApplication
+  unfolding useAppsAfter withNextApplication
   apps-after-fits c held high a g =
       either StepFits (a .sends) _ _ (app-fits _ _ _ high (k .decisions _ high (g .asked)) (g .asked)) (use-pass-fits _)
 
@@ -126,17 +125,17 @@ module _ (p : Parameters) (n : ℕ) (bytes : List ℕ) (count : ℕ) (now : Micr
   unfolding useAppsOf askedOf
   apps-fits c held high b = apps-after-fits c held high _ (asked-good n bytes n _ _ high (b))
 
-  use-after-fits : (c : Core) (held : UseTokenData) (cycled : Bool) (w : Waited) → c .«next_application» < n → StepFits (useTokenAfter p c now held cycled bytes n w)
-  unfolding useTokenAfter withActivity
-  use-after-fits c held cycled w b =
-      either StepFits (w .over) _ _
+  use-timed-fits : (c : Core) (held : UseTokenData) (cycled : Bool) → c .«next_application» < n → StepFits (useTokenTimed p c now held cycled bytes n)
+  unfolding useTokenTimed pauseOf waitedOf withActivity
+  use-timed-fits c held cycled b =
+      either StepFits (pauseOf p c now .over) _ _
       (either StepFits (holdsOf now (c .«end_token_hold_time»)) _ _ (apps-fits _ held false b)
       (either StepFits cycled _ _ (use-pass-fits _) (apps-fits _ held true b)))
-      (done-fits _ _)
+      (done-fits _ _ _)
 
   use-token-fits : (c : Core) (held : UseTokenData) (cycled : Bool) → c .«next_application» < n → StepFits (useTokenOf p c now held cycled bytes n)
-  unfolding useTokenOf useTokenTimed
-  use-token-fits c held cycled b = use-after-fits _ held cycled _ (rw hold-next b)
+  unfolding useTokenOf
+  use-token-fits c held cycled b = use-timed-fits _ held cycled (rw hold-next b)
 
   -- do_await_data_response
   received-fits : (c : Core) (a : ℕ) (held : UseTokenData) (t : Telegram) → a < 128 → c .«next_application» < n → StepFits (receivedOf p c now a held t)
@@ -150,64 +149,60 @@ module _ (p : Parameters) (n : ℕ) (bytes : List ℕ) (count : ℕ) (now : Micr
   noticed-fits s x f g = record { sent-fits = g .sent-fits; consumed-fits = g .consumed-fits; notice-fits = f }
 
   timeout-fits : (c : Core) (a : ℕ) (held : UseTokenData) → a < 128 → c .«next_application» < n → StepFits (timeoutOf p c now a held bytes n)
-  unfolding timeoutOf withState
+  unfolding timeoutOf
   timeout-fits c a held l b = noticed-fits _ _ (next-fits c b, l) (use-token-fits _ held true b)
 
-  await-after-fits : (c : Core) (a : ℕ) (held : UseTokenData) (w : Waited) → a < 128 → c .«next_application» < n → StepFits (awaitDataAfter p c now a held bytes n w)
-  unfolding awaitDataAfter withActivity
-  await-after-fits c a held w l b = either StepFits (w .over) _ _ (timeout-fits _ a held l b) (done-fits _ _)
-
   await-data-fits : (c : Core) (a : ℕ) (held : UseTokenData) → a < 128 → c .«next_application» < n → StepFits (awaitDataOf p c now a held bytes n count)
-  unfolding awaitDataOf
-  await-data-fits c a held l b = either StepFits (ltb 0 count) _ _ (received-fits c a held _ l b) (await-after-fits c a held _ l b)
+  unfolding awaitDataOf slotExpiredOf waitedOf withActivity
+  await-data-fits c a held l b =
+      either StepFits (ltb 0 count) _ _ (received-fits c a held _ l b)
+      (either StepFits (slotExpiredOf p c now .over) _ _ (timeout-fits _ a held l b) (done-fits _ _ _))
 
   -- do_listen_token
-  lost-fits : (c : Core) (r : Ring) → Fit (lostTokenOf p c r now)
-  unfolding lostTokenOf
-  lost-fits c r = claim-fits _ r true
+  lost-fits : (c : Core) (r : Ring) (rest : Core → RingStep) → ((d : Core) → Fit (rest d)) → Fit (handleLostToken p c r now rest)
+  unfolding handleLostToken
+  lost-fits c r rest f = either Fit (tokenLostWaitOf p c now .over) _ _ (claim-fits _ r true) (f _)
 
   all-fits : (h : Heard) → Fit (consumedAll h count)
   unfolding consumedAll
   all-fits h = record { step-fits = record { sent-fits = tt; consumed-fits = k .telegrams; notice-fits = tt } }
 
-  response-fits : (c : Core) (r : Ring) (source collisions : ℕ) (w : Waited) → source < 128 → Fit (listenResponseAfter p c r now source collisions w)
-  unfolding listenResponseAfter
-  response-fits c r source collisions w l =
-      either Fit (w .over) _ _ (record { step-fits = transmit-fits p _ now _ l }) (record { step-fits = done-fits _ _ })
+  response-fits : (c : Core) (r : Ring) (source collisions : ℕ) → source < 128 → Fit (listenResponse p c r now source collisions)
+  unfolding listenResponse
+  response-fits c r source collisions l =
+      either Fit (pauseOf p c now .over) _ _ (record { step-fits = transmit-fits p _ _ now _ l }) (record { step-fits = done-fits _ _ _ })
 
   listen-on-fits : (q : OptionAddress) (c : Core) (r : Ring) (collisions : ℕ) → Low q → Fit (listenTokenOn q p c r now collisions bytes n count)
-  unfolding listenTokenOn listenResponse
+  unfolding listenTokenOn
   listen-on-fits optionAddress.None c r collisions l = all-fits _
-  listen-on-fits (optionAddress.Some source) c r collisions l = response-fits c r source collisions _ l
+  listen-on-fits (optionAddress.Some source) c r collisions l = response-fits c r source collisions l
 
   listen-fits : (c : Core) (r : Ring) (q : OptionAddress) (collisions : ℕ) → Low q → Fit (listenTokenOf p c r now q collisions bytes n count)
-  unfolding listenTokenOf listenTokenAfter
-  listen-fits c r q collisions l =
-      either Fit (tokenLostWaitOf p (c .«last_bus_activity») now .over) _ _ (lost-fits _ r) (listen-on-fits q _ r collisions l)
+  unfolding listenTokenOf
+  listen-fits c r q collisions l = lost-fits c r _ (λ d. listen-on-fits q d r collisions l)
 
   -- do_active_idle
-  active-response-fits : (c : Core) (r : Ring) (source : ℕ) (m : OptionAddress) (collisions : ℕ) (w : Waited) → source < 128 → Fit (activeResponseAfter p c r now source m collisions w)
-  unfolding activeResponseAfter
-  active-response-fits c r source m collisions w l =
-      either Fit (w .over) _ _ (record { step-fits = transmit-fits p _ now _ l }) (record { step-fits = done-fits _ _ })
+  active-response-fits : (c : Core) (r : Ring) (source : ℕ) (m : OptionAddress) (collisions : ℕ) → source < 128 → Fit (activeResponse p c r now source m collisions)
+  unfolding activeResponse
+  active-response-fits c r source m collisions l =
+      either Fit (pauseOf p c now .over) _ _ (record { step-fits = transmit-fits p _ _ now _ l }) (record { step-fits = done-fits _ _ _ })
 
   active-on-fits : (q : OptionAddress) (c : Core) (r : Ring) (m : OptionAddress) (collisions : ℕ) → Low q → Fit (activeIdleOn q p c r now m collisions bytes n count)
-  unfolding activeIdleOn activeResponse
+  unfolding activeIdleOn
   active-on-fits optionAddress.None c r m collisions l = all-fits _
-  active-on-fits (optionAddress.Some source) c r m collisions l = active-response-fits c r source m collisions _ l
+  active-on-fits (optionAddress.Some source) c r m collisions l = active-response-fits c r source m collisions l
 
   active-fits : (c : Core) (r : Ring) (q m : OptionAddress) (collisions : ℕ) → Low q → Fit (activeIdleOf p c r now q m collisions bytes n count)
-  unfolding activeIdleOf activeIdleAfter
-  active-fits c r q m collisions l =
-      either Fit (tokenLostWaitOf p (c .«last_bus_activity») now .over) _ _ (lost-fits _ r) (active-on-fits q _ r m collisions l)
+  unfolding activeIdleOf
+  active-fits c r q m collisions l = lost-fits c r _ (λ d. active-on-fits q d r m collisions l)
 
   -- do_pass_token
   pass-sent-fits : (c : Core) (a : PassTokenAttempt) (next : ℕ) (r : Ring) → next < 126 → Fit (passSent p c now a next r)
   unfolding passSent
   pass-sent-fits c a next r l =
       either Fit (eqb (nextOf r) (p .address)) _ _
-      (record { step-fits = transmit-fits p _ now _ (omega arith) })
-      (record { step-fits = transmit-fits p _ now _ (omega arith) })
+      (record { step-fits = transmit-fits p _ _ now _ (omega arith) })
+      (record { step-fits = transmit-fits p _ _ now _ (omega arith) })
 
   pass-send-fits : (c : Core) (r : Ring) (a : PassTokenAttempt) → RingGood p r → Fit (passSend p c r now a)
   unfolding passSend
@@ -216,14 +211,14 @@ module _ (p : Parameters) (n : ℕ) (bytes : List ℕ) (count : ℕ) (now : Micr
   pass-poll-fits : (s : GapState) (c : Core) (r : Ring) (a : PassTokenAttempt) → GapAddressed s → RingGood p r → Fit (passPollOn s p c r now a)
   unfolding passPollOn
   pass-poll-fits (Waiting count) c r a l g = pass-send-fits c r a g
-  pass-poll-fits (DoPoll current) c r a l g = record { step-fits = transmit-fits p _ now _ (omega arith) }
+  pass-poll-fits (DoPoll current) c r a l g = record { step-fits = transmit-fits p _ _ now _ (omega arith) }
 
   pass-fits : (c : Core) (r : Ring) (gap : Bool) (a : PassTokenAttempt) → RingGood p r → Fit (passTokenOf p c r now gap a)
-  unfolding passTokenOf passAfter passPoll withGap
+  unfolding passTokenOf passPoll withGap
   pass-fits c r gap a g =
-      either Fit (pauseOf p (c .«last_bus_activity») now .over) _ _
+      either Fit (pauseOf p c now .over) _ _
       (either Fit gap _ _ (pass-poll-fits _ _ r a (advanced-good p r (c .«gap_state») g) g) (pass-send-fits _ r a g))
-      (record { step-fits = done-fits _ _ })
+      (record { step-fits = done-fits _ _ _ })
 
   -- do_await_status_response
   answered-fits : (c : Core) (r : Ring) → Fit (statusAnswered c r)
@@ -243,10 +238,10 @@ module _ (p : Parameters) (n : ℕ) (bytes : List ℕ) (count : ℕ) (now : Micr
       either Fit (eqb source a) _ _ (either Fit (eqb destination (p .address)) _ _ (answered-fits c _) (unexpected-fits c r)) (unexpected-fits c r)
 
   await-status-fits : (c : Core) (r : Ring) (a : ℕ) → RingGood p r → Fit (awaitStatusOf p c r now a bytes n count)
-  unfolding awaitStatusOf awaitStatusAfter statusTimeout
+  unfolding awaitStatusOf
   await-status-fits c r a g =
       either Fit (ltb 0 count) _ _ (status-fits _ r a _)
-      (either Fit (slotExpiredOf p (c .«last_bus_activity») now .over) _ _ (pass-fits _ r false First g) (record { step-fits = done-fits _ _ }))
+      (either Fit (slotExpiredOf p c now .over) _ _ (pass-fits _ r false First g) (record { step-fits = done-fits _ _ _ }))
 
   -- do_check_token_pass
   resend-fits : (c : Core) (r : Ring) (a : PassTokenAttempt) → RingGood p r → Fit (resendOf p c r now a)
@@ -256,43 +251,43 @@ module _ (p : Parameters) (n : ℕ) (bytes : List ℕ) (count : ℕ) (now : Micr
   resend-fits c r Third g = pass-fits _ _ false First (remove-good p r (nextOf r) g)
 
   check-fits : (c : Core) (r : Ring) (a : PassTokenAttempt) → RingGood p r → Fit (checkTokenPassOf p c r now a bytes n count)
-  unfolding checkTokenPassOf checkAfter checkReceived
+  unfolding checkTokenPassOf checkReceived
   check-fits c r a g =
-      either Fit (slotExpiredOf p (c .«last_bus_activity») now .over) _ _ (resend-fits _ r a g)
-      (either Fit (ltb 0 count) _ _ (all-fits _) (record { step-fits = done-fits _ _ }))
+      either Fit (slotExpiredOf p c now .over) _ _ (resend-fits _ r a g)
+      (either Fit (ltb 0 count) _ _ (all-fits _) (record { step-fits = done-fits _ _ _ }))
 
   -- poll_inner
-  dispatch-fits : (x : State) (c : Core) (r : Ring) → Addressed x → c .«next_application» < n → RingGood p r → Fit (dispatchOn x p c r now bytes n count)
-  unfolding dispatchOn
-  dispatch-fits Offline c r l b g = record { step-fits = done-fits _ _ }
+  dispatch-fits : (x : State) (c : Core) (r : Ring) → Addressed x → c .«next_application» < n → RingGood p r → Fit (dispatchOf p x c r now bytes n count)
+  unfolding dispatchOf
+  dispatch-fits Offline c r l b g = record { step-fits = done-fits _ _ _ }
   dispatch-fits (ListenToken q m) c r l b g = listen-fits c r q m l
   dispatch-fits (ActiveIdle q m i) c r l b g = active-fits c r q m i (l .0)
-  dispatch-fits (UseToken d i) c r l b g = record { step-fits = use-token-fits c d i b }
+  dispatch-fits (UseToken i d) c r l b g = record { step-fits = use-token-fits c d i b }
   dispatch-fits (ClaimToken f) c r l b g = claim-fits c r f
   dispatch-fits (AwaitDataResponse a d) c r l b g = record { step-fits = await-data-fits c a d l b }
   dispatch-fits (PassToken x a) c r l b g = pass-fits c r x a g
   dispatch-fits (CheckTokenPass a) c r l b g = check-fits c r a g
   dispatch-fits (AwaitStatusResponse a) c r l b g = await-status-fits c r a g
 
-  poll-online-fits : (c : Core) (r : Ring) (t : Bool) (pending : ℕ) → SoundCore p n (busActivityOf c now pending) → RingGood p r → Fit (pollOnline p c r now t pending bytes n count)
-  unfolding pollOnline dispatchOf
-  poll-online-fits c r t pending w g =
-      either Fit (ongoingOf (c .«last_bus_activity») now t) _ _ (record { step-fits = done-fits _ _ }) (dispatch-fits _ _ r (w .addresses) (w .next-one) g)
+  poll-online-fits : (x : State) (c : Core) (r : Ring) (t : Bool) (pending : ℕ) → SoundCore p n x (busActivityOf c now pending) → RingGood p r → Fit (pollOnline p x c r now t pending bytes n count)
+  unfolding pollOnline
+  poll-online-fits x c r t pending w g =
+      either Fit (ongoingOf (c .«last_bus_activity») now t) _ _ (record { step-fits = done-fits _ _ _ }) (dispatch-fits x _ r (w .addresses) (w .next-one) g)
 
-  poll-inner-fits : (c : Core) (r : Ring) (t : Bool) (pending : ℕ) → Clock now → SoundCore p n c → RingGood p r → Fit (pollInner p c r now t pending bytes n count)
+  poll-inner-fits : (x : State) (c : Core) (r : Ring) (t : Bool) (pending : ℕ) → Clock now → SoundCore p n x c → RingGood p r → Fit (pollInner p x c r now t pending bytes n count)
   unfolding pollInner
-  poll-inner-fits c r t pending l w g = go (c .online) refl
+  poll-inner-fits x c r t pending l w g = go (c .online) refl
     where
-      go : (b : Bool) → c .online ≡ b → Fit (cond b (pollOnline p (connectedOf c) r now t pending bytes n count) (record { step = doneOf c outcome.Offline; ring = r }))
-      go true o = poll-online-fits _ r t pending (dispatched p n now c pending l o w) g
-      go false o = record { step-fits = done-fits _ _ }
+      go : (b : Bool) → c .online ≡ b → Fit (cond b (pollOnline p (connectedOf x) c r now t pending bytes n count) (ringStepOf (doneOf x c outcome.Offline) r))
+      go true o = poll-online-fits _ _ r t pending (dispatched p n now x c pending l o w) g
+      go false o = record { step-fits = done-fits _ _ _ }
 
 -- a state's number is one of document 01's
 state-known : (x : State) → stateNumber x ≤ lastState
 state-known Offline = lit≤ tt
 state-known (ListenToken q k) = lit≤ tt
 state-known (ActiveIdle q m k) = lit≤ tt
-state-known (UseToken d k) = lit≤ tt
+state-known (UseToken k d) = lit≤ tt
 state-known (ClaimToken f) = lit≤ tt
 state-known (AwaitDataResponse a d) = lit≤ tt
 state-known (PassToken x a) = lit≤ tt
@@ -306,7 +301,7 @@ polled-fits p n x e l g f =
     record {
       refusal = refl;
       plain = λ z. absurd (z refl);
-      state = state-known (x .step .core .state);
+      state = state-known (x .step .state);
       sent = f .step-fits .sent-fits;
       consumed = f .step-fits .consumed-fits;
       notice = f .step-fits .notice-fits;
@@ -318,7 +313,7 @@ polled-fits p n x e l g f =
 refused-poll-fits : (s : Station) (k : ℕ) → SoundStation s → refusalKnown k ≡ true → Fits (refusedPoll s k .answer)
 unfolding refusedPoll
 refused-poll-fits s k w e =
-    refused-fits k _ _ _ e (state-known (s .core .state)) (omega (arith, w .core-sound .next-one, w .eight)) (omega (arith, next-low (s .«token_ring») (w .ring-sound)))
+    refused-fits k _ _ _ e (state-known (s .state)) (omega (arith, w .core-sound .next-one, w .eight)) (omega (arith, next-low (s .«token_ring») (w .ring-sound)))
 
 -- a record's refusal is none or one of a record's: 12 to 15
 abbrev Known : ℕ → Type 0
@@ -405,8 +400,8 @@ accepted-fits s bytes w z =
     let g = part-ring s w in
     let l = clock-fits bytes in
     let m = inner-made s bytes _ _ _ w in
-    polled-fits (s .p) (s .applications) _ (w .eight) (moves-keep l _ _ (m .made-step .moves) (w .core-sound) .next-one) (m .made-ring)
-    (poll-inner-fits (s .p) (s .applications) bytes _ _ (given s bytes w z) (s .core) (s .«token_ring») _ _ l (w .core-sound) g)
+    polled-fits (s .p) (s .applications) _ (w .eight) (moves-keep l (m .made-step .moves) (w .core-sound) .next-one) (m .made-ring)
+    (poll-inner-fits (s .p) (s .applications) bytes _ _ (given s bytes w z) (s .state) (s .core) (s .«token_ring») _ _ l (w .core-sound) g)
 
 -- The theorem, call by call: the answers of a sound station fit.
 pub poll-fits : (s : Station) (bytes : List ℕ) → SoundStation s → Fits (pollOf s bytes .answer)
@@ -419,12 +414,12 @@ poll-fits s bytes w =
 pub online-fits : (s : Station) → SoundStation s → Fits (onlineOf s .answer)
 unfolding onlineOf withOnline doneOf
 online-fits s w =
-    polled-fits (s .p) (s .applications) _ (w .eight) (w .core-sound .next-one) (part-ring s w) (record { step-fits = done-fits _ _ })
+    polled-fits (s .p) (s .applications) _ (w .eight) (w .core-sound .next-one) (part-ring s w) (record { step-fits = done-fits _ _ _ })
 
 pub offline-fits : (s : Station) → SoundStation s → Fits (offlineOf s .answer)
 unfolding offlineOf freshCore doneOf
 offline-fits s w =
-    polled-fits (s .p) (s .applications) _ (w .eight) (omega (arith, w .some)) (again-good (s .p) (s .«token_ring») (part-ring s w)) (record { step-fits = done-fits _ _ })
+    polled-fits (s .p) (s .applications) _ (w .eight) (omega (arith, w .some)) (again-good (s .p) (s .«token_ring») (part-ring s w)) (record { step-fits = done-fits _ _ _ })
 
 pub passive-fits : (s : Station) → SoundStation s → Fits (passiveOf s .answer)
 unfolding passiveOf refusalKnown

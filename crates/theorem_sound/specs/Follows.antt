@@ -12,12 +12,12 @@ use Rattle.bit_times.specs.declared.Micros.{Micros}
 use Rattle.bit_times.specs.Times.{pauseBits, timeOf}
 use Rattle.settings.specs.declared.Parameters.{Parameters}
 use Rattle.settings.specs.Settings.{slotTimeOf}
-use Rattle.station.specs.declared.Activity.{Activity}
 use Rattle.station.specs.declared.PassTokenAttempt.the-variants.{First}
 use Rattle.station.specs.declared.State.{State}
 use Rattle.station.specs.declared.State.the-variants.{Offline, ListenToken, ActiveIdle, UseToken, ClaimToken, AwaitDataResponse, PassToken, CheckTokenPass, AwaitStatusResponse}
+use Rattle.station.specs.declared.Core.{Core}
 use Rattle.station.specs.Parts.{stateNumber}
-use Rattle.station.specs.Steps.{knownAt, elapsedOf, pauseOf, slotExpiredOf}
+use Rattle.station.specs.Steps.{knownAt, elapsedOf, waitedOf, pauseOf, slotExpiredOf}
 use Rattle.theorem_sound.specs.Moves.{lists, listenTokenFrom, activeIdleFrom, useTokenFrom, claimTokenFrom, awaitDataResponseFrom, passTokenFrom, checkTokenPassFrom, awaitStatusResponseFrom}
 use Rattle.bit_times.specs.Laws.{time-grows}
 
@@ -31,7 +31,7 @@ abbrev pub reached : State → List ℕ
 reached Offline = 0 ∷ 1 ∷ 4 ∷ []
 reached (ListenToken request collisions) = 0 ∷ 1 ∷ 2 ∷ 4 ∷ []
 reached (ActiveIdle request newPreviousStation collisions) = 1 ∷ 2 ∷ 3 ∷ 4 ∷ []
-reached (UseToken held cycled) = 3 ∷ 5 ∷ 6 ∷ []
+reached (UseToken cycled held) = 3 ∷ 5 ∷ 6 ∷ []
 reached (ClaimToken first) = 3 ∷ 4 ∷ []
 reached (AwaitDataResponse address held) = 2 ∷ 3 ∷ 5 ∷ 6 ∷ []
 reached (PassToken gap attempt) = 3 ∷ 6 ∷ 7 ∷ 8 ∷ []
@@ -43,7 +43,7 @@ abbrev pub FirstAttempt : State → Type 0
 FirstAttempt Offline = Unit {0}
 FirstAttempt (ListenToken request collisions) = Unit {0}
 FirstAttempt (ActiveIdle request newPreviousStation collisions) = Unit {0}
-FirstAttempt (UseToken held cycled) = Unit {0}
+FirstAttempt (UseToken cycled held) = Unit {0}
 FirstAttempt (ClaimToken first) = Unit {0}
 FirstAttempt (AwaitDataResponse address held) = Unit {0}
 FirstAttempt (PassToken gap attempt) = attempt ≡ First
@@ -65,10 +65,11 @@ pub record Follows (p : Parameters) (x y : State) : Type 0 where
   pub at-first : SlotCoversPause p → FirstAttempt y
 
 -- where the slot has expired the pause is over
-pub covered : (p : Parameters) (a : Activity) (now : Micros) → SlotCoversPause p → slotExpiredOf p a now .over ≡ true → pauseOf p a now .over ≡ false → ⊥
-unfolding slotExpiredOf pauseOf elapsedOf
-covered p a now s e f =
-    omega (arith, leb-true (knownAt a now .0 + slotTimeOf p .0) (now .0) e, leb-false (knownAt a now .0 + timeOf (record { 0 = pauseBits }) (p .baudrate) .0) (now .0) f)
+pub covered : (p : Parameters) (c : Core) (now : Micros) → SlotCoversPause p → slotExpiredOf p c now .over ≡ true → pauseOf p c now .over ≡ false → ⊥
+unfolding slotExpiredOf pauseOf waitedOf elapsedOf
+covered p c now s e f =
+    let last = knownAt (c .«last_bus_activity») now .0 in
+    omega (arith, leb-true (last + slotTimeOf p .0) (now .0) e, leb-false (last + timeOf (record { 0 = pauseBits }) (p .baudrate) .0) (now .0) f)
 
 -- The table and the assertions: each state that the table has is joined to the one before by at most two transitions, each from a state
 -- that its `debug_assert_state!` names, or is Offline by set_offline. By the numbers of the states: the ones a transition may start from.
@@ -97,7 +98,7 @@ pub table-is-joined : (x : State) → allOf (reached x) (joined (stateNumber x))
 table-is-joined Offline = refl
 table-is-joined (ListenToken q k) = refl
 table-is-joined (ActiveIdle q m k) = refl
-table-is-joined (UseToken d k) = refl
+table-is-joined (UseToken k d) = refl
 table-is-joined (ClaimToken f) = refl
 table-is-joined (AwaitDataResponse a d) = refl
 table-is-joined (PassToken g k) = refl

@@ -1,6 +1,6 @@
--- What a sound core is, line by line: each line is a predicate of the state and the parts that it speaks of. Kept.antt has a law for
+-- What a sound state and core are, line by line: each line is a predicate of the state and the parts of the core that it speaks of. Kept.antt has a law for
 -- each line: every move keeps it.
-use Prim.Native.Nat.{ℕ, _+_, _*_, _≤_, _<_, _^_}
+use Prim.Native.Nat.{ℕ, _+_, _*_, _≤_, _<_}
 use mathlib.Core.Bool.{true, false}
 use mathlib.Core.Path.{_≡_}
 use mathlib.Core.Logic.{_⊎_}
@@ -14,9 +14,8 @@ use Rattle.station.specs.declared.Activity.{Activity}
 use Rattle.station.specs.declared.Activity.the-variants as activity
 use Rattle.station.specs.declared.State.{State}
 use Rattle.station.specs.declared.State.the-variants.{Offline, ListenToken, ActiveIdle, UseToken, ClaimToken, AwaitDataResponse, PassToken, CheckTokenPass, AwaitStatusResponse}
-use Rattle.station.specs.declared.HoldEnd.{HoldEnd}
 use Rattle.station.specs.declared.Core.{Core}
-use Rattle.station_hold.specs.Hold.{holdLess}
+use Rattle.station_hold.specs.Hold.{holdLess, endOf}
 use Rattle.theorem_sound.specs.Moves.{Known, Low, Clock, HeldFits, GapAddressed, GapCounted}
 
 -- Each address that a state holds is below 128: who asked for the status, who may be the new previous station, and who is to answer.
@@ -24,7 +23,7 @@ abbrev pub Addressed : State → Type 0
 Addressed Offline = Unit {0}
 Addressed (ListenToken request collisions) = Low request
 Addressed (ActiveIdle request newPreviousStation collisions) = Low request × Low newPreviousStation
-Addressed (UseToken held cycled) = Unit {0}
+Addressed (UseToken cycled held) = Unit {0}
 Addressed (ClaimToken first) = Unit {0}
 Addressed (AwaitDataResponse a held) = a < 128
 Addressed (PassToken gap attempt) = Unit {0}
@@ -36,7 +35,7 @@ abbrev pub CollidedOnce : State → Type 0
 CollidedOnce Offline = Unit {0}
 CollidedOnce (ListenToken request collisions) = collisions ≤ 1
 CollidedOnce (ActiveIdle request newPreviousStation collisions) = collisions ≤ 1
-CollidedOnce (UseToken held cycled) = Unit {0}
+CollidedOnce (UseToken cycled held) = Unit {0}
 CollidedOnce (ClaimToken first) = Unit {0}
 CollidedOnce (AwaitDataResponse a held) = Unit {0}
 CollidedOnce (PassToken gap attempt) = Unit {0}
@@ -48,7 +47,7 @@ abbrev pub KnownIn : State → Activity → Type 0
 KnownIn Offline a = Unit {0}
 KnownIn (ListenToken request collisions) a = Unit {0}
 KnownIn (ActiveIdle request newPreviousStation collisions) a = Known a
-KnownIn (UseToken held cycled) a = Known a
+KnownIn (UseToken cycled held) a = Known a
 KnownIn (ClaimToken first) a = Known a
 KnownIn (AwaitDataResponse address held) a = Known a
 KnownIn (PassToken gap attempt) a = Known a
@@ -60,7 +59,7 @@ abbrev pub HeldIn : ℕ → State → Type 0
 HeldIn n Offline = Unit {0}
 HeldIn n (ListenToken request collisions) = Unit {0}
 HeldIn n (ActiveIdle request newPreviousStation collisions) = Unit {0}
-HeldIn n (UseToken held cycled) = HeldFits n held
+HeldIn n (UseToken cycled held) = HeldFits n held
 HeldIn n (ClaimToken first) = Unit {0}
 HeldIn n (AwaitDataResponse address held) = HeldFits n held
 HeldIn n (PassToken gap attempt) = Unit {0}
@@ -72,8 +71,8 @@ abbrev pub LastToken : State → Micros → Type 0
 LastToken Offline last = Unit {0}
 LastToken (ListenToken request collisions) last = Unit {0}
 LastToken (ActiveIdle request newPreviousStation collisions) last = Unit {0}
-LastToken (UseToken held true) last = held .«token_time» .0 ≡ last .0
-LastToken (UseToken held false) last = Unit {0}
+LastToken (UseToken true held) last = held .«token_time» .0 ≡ last .0
+LastToken (UseToken false held) last = Unit {0}
 LastToken (ClaimToken first) last = Unit {0}
 LastToken (AwaitDataResponse address held) last = held .«token_time» .0 ≡ last .0
 LastToken (PassToken gap attempt) last = Unit {0}
@@ -86,47 +85,45 @@ ActivityFits baud activity.Unknown = Unit {0}
 ActivityFits baud (activity.At last) = last .0 < clockEnd + timeOf (record { 0 = byteBits * 255 }) baud .0
 
 -- no token was used yet but one that came at the clock 0: last token time and end of hold are a fresh station's
-pub record NoToken (last : Micros) (end : HoldEnd) : Type 0 where
+pub record NoToken (last end : Micros) : Type 0 where
   pub no-last : last .0 ≡ 0
-  pub no-from : end .from .0 ≡ 0
-  pub no-span : end .span .0 ≡ 0
-  pub no-less : end .less .0 ≡ 0
+  pub no-end : end .0 ≡ 0
 
 -- the end of hold was set with the last token time: it counts from an earlier token time, which was another one, and spans the
--- rotation time, less the time of a gap poll or less nothing
-pub record HoldSet (p : Parameters) (last : Micros) (end : HoldEnd) : Type 0 where
-  pub clock : Clock (end .from)
-  pub another : end .from .0 ≡ last .0 → ⊥
-  pub rotation : end .span ≡ rotationTimeOf p
+-- rotation time, less the time of a gap poll or less nothing. (The cap of endOf is never met: hold-itself in Sizes.antt.)
+pub record HoldSet (p : Parameters) (last end : Micros) : Type 0 where
+  pub from : Micros
+  pub clock : Clock from
+  pub another : from .0 ≡ last .0 → ⊥
   pub gap : GapState
-  pub gap-poll : end .less ≡ holdLess p gap
+  pub end-is : end ≡ endOf from (rotationTimeOf p) (holdLess p gap)
 
 -- The end of hold is a fresh station's, or it was set with the last token time.
-abbrev pub HoldMade : Parameters → Micros → HoldEnd → Type 0
+abbrev pub HoldMade : Parameters → Micros → Micros → Type 0
 HoldMade p last end = NoToken last end ⊎ HoldSet p last end
 
--- A sound core, of a station with settings p and n applications.
-pub record SoundCore (p : Parameters) (n : ℕ) (c : Core) : Type 0 where
+-- A sound state x with its core c, of a station with settings p and n applications.
+pub record SoundCore (p : Parameters) (n : ℕ) (x : State) (c : Core) : Type 0 where
   -- the next application to be asked is one of them
   pub next-one : c .«next_application» < n
   -- the addresses that the state holds are below 128
-  pub addresses : Addressed (c .state)
+  pub addresses : Addressed x
   -- the address that the gap state polls is below 126
   pub gap-address : GapAddressed (c .«gap_state»)
   -- the count of a gap state that waits is at most one above the settings' gap wait
   pub gap-count : GapCounted p (c .«gap_state»)
   -- a station that is not online is in Offline
-  pub offline : c .online ≡ false → c .state ≡ Offline
+  pub offline : c .online ≡ false → x ≡ Offline
   -- at most one collision is counted
-  pub collided-once : CollidedOnce (c .state)
+  pub collided-once : CollidedOnce x
   -- the last bus activity is known in every state but Offline and ListenToken
-  pub activity-known : KnownIn (c .state) (c .«last_bus_activity»)
+  pub activity-known : KnownIn x (c .«last_bus_activity»)
   -- the last bus activity fits: at most the time of 255 bytes after a clock
   pub activity-fits : ActivityFits (p .baudrate) (c .«last_bus_activity»)
   -- a token in hand has a time of a clock, and a first application that is one of n
-  pub token-held : HeldIn n (c .state)
+  pub token-held : HeldIn n x
   -- the token in hand is the last token, once its first cycle is done
-  pub last-token : LastToken (c .state) (c .«last_token_time»)
+  pub last-token : LastToken x (c .«last_token_time»)
   -- the last token time is a clock's
   pub token-time : Clock (c .«last_token_time»)
   -- the end of hold is a fresh station's, or was set with the last token time

@@ -1,11 +1,11 @@
--- What calls do to a station's core, move by move, and from which states the published text lets each transition start.
+-- What calls do to a station's state and core, move by move, and from which states the published text lets each transition start.
 --
--- A move is one of the places where active.rs writes to the station. Its transitions carry the assertion of the Rust
--- (`debug_assert_state!`) as a premise. That a call's moves (`Moves`) lead from the core before it to the core after it says that
--- transitions lead there, each from a state that its assertion allows; and what each move keeps, each call keeps. The proof takes the
+-- A move is one of the places where active.rs writes to the station. It goes from a state and the core beside it to a state and its
+-- core. Its transitions carry the assertion of the Rust (`debug_assert_state!`) as a premise. That a call's moves (`Moves`) lead from the
+-- state and core before it to those after it says that transitions lead there, each from a state that its assertion allows; and what each move keeps, each call keeps. The proof takes the
 -- transitions where the definitions make them, one by one; the statement alone says that such moves exist. Which states a poll joins
 -- is said by the table in Follows.antt.
-use Prim.Native.Nat.{ℕ, _+_, _≤_, _<_, _^_}
+use Prim.Native.Nat.{ℕ, _+_, _≤_, _<_}
 use mathlib.Core.Bool.{Bool, true, false, cond}
 use mathlib.Core.Path.{_≡_}
 use mathlib.Core.List.{List, [], _∷_}
@@ -23,10 +23,11 @@ use Rattle.station.specs.declared.OptionApplication.{OptionApplication}
 use Rattle.station.specs.declared.OptionApplication.the-variants as optionApplication
 use Rattle.station.specs.declared.PassTokenAttempt.{PassTokenAttempt}
 use Rattle.station.specs.declared.UseTokenData.{UseTokenData}
-use Rattle.station.specs.declared.State.the-variants.{ListenToken, ActiveIdle, UseToken, ClaimToken}
+use Rattle.station.specs.declared.State.{State}
+use Rattle.station.specs.declared.State.the-variants.{Offline, ListenToken, ActiveIdle, UseToken, ClaimToken, AwaitDataResponse, PassToken, CheckTokenPass, AwaitStatusResponse}
 use Rattle.station.specs.declared.Core.{Core}
-use Rattle.station.specs.Parts.{withState, withActivity, withPending, withGap, withNextApplication, withOnline, freshCore, stateNumber}
-use Rattle.station.specs.Steps.{toListenToken, toActiveIdle, toUseToken, toClaimToken, toAwaitDataResponse, toPassToken, toCheckTokenPass, toAwaitStatusResponse, knownAt, markedAt, sentAt}
+use Rattle.station.specs.Parts.{withActivity, withPending, withGap, withNextApplication, withOnline, freshCore, stateNumber}
+use Rattle.station.specs.Steps.{toListenToken, toActiveIdle, knownAt, markedAt, sentAt}
 use Rattle.station_hold.specs.Hold.{holdEndOf}
 
 -- a list has a number
@@ -61,9 +62,9 @@ checkTokenPassFrom = 7 ∷ 6 ∷ []
 abbrev pub awaitStatusResponseFrom : List ℕ
 awaitStatusResponseFrom = 8 ∷ 6 ∷ []
 
--- a core is in one of these states: the assertion of a transition that starts there
-abbrev pub In : List ℕ → Core → Type 0
-In states c = lists states (stateNumber (c .state)) ≡ true
+-- a state is one of these: the assertion of a transition that starts there
+abbrev pub In : List ℕ → State → Type 0
+In states x = lists states (stateNumber x) ≡ true
 
 -- the last bus activity is known
 abbrev pub Known : Activity → Type 0
@@ -99,57 +100,58 @@ abbrev pub GapCounted : Parameters → GapState → Type 0
 GapCounted p (Waiting count) = count ≤ p .«gap_wait_rotations» + 1
 GapCounted p (DoPoll a) = Unit {0}
 
--- The moves, with settings p, n applications and the clock now: each place of active.rs that writes to the core.
-pub data Move (p : Parameters) (n : ℕ) (now : Micros) : Core → Core → Type 0 where
+-- The moves, with settings p, n applications and the clock now: each place of active.rs that writes to the station. The first ones
+-- leave the state, and most of the others leave the core.
+pub data Move (p : Parameters) (n : ℕ) (now : Micros) : State → Core → State → Core → Type 0 where
   -- last_bus_activity.get_or_insert(now): before a pause, a slot and a lost token are looked at
-  waits : {c : Core} → Move p n now c (withActivity c (activity.At (knownAt (c .«last_bus_activity») now)))
+  waits : {x : State} {c : Core} → Move p n now x c x (withActivity c (activity.At (knownAt (c .«last_bus_activity») now)))
   -- mark_bus_activity
-  marks : {c : Core} → Move p n now c (withActivity c (markedAt (c .«last_bus_activity») now))
+  marks : {x : State} {c : Core} → Move p n now x c x (withActivity c (markedAt (c .«last_bus_activity») now))
   -- mark_tx: a telegram of at most 255 bytes
-  sends : {c : Core} (bytes : ℕ) → bytes ≤ 255 → Move p n now c (withActivity c (sentAt p now bytes))
+  sends : {x : State} {c : Core} (bytes : ℕ) → bytes ≤ 255 → Move p n now x c x (withActivity c (sentAt p now bytes))
   -- check_for_bus_activity, mark_rx: the pending bytes
-  pends : {c : Core} (pending : ℕ) → Move p n now c (withPending c pending)
+  pends : {x : State} {c : Core} (pending : ℕ) → Move p n now x c x (withPending c pending)
   -- do_use_token: the end of hold and the last token time, by the token in hand
-  holds : {c : Core} (held : UseTokenData) (cycled : Bool) → c .state ≡ UseToken held cycled → HeldFits n held → Move p n now c (holdEndOf p c (held .«token_time»))
+  holds : {c : Core} (held : UseTokenData) (cycled : Bool) → HeldFits n held → Move p n now (UseToken cycled held) c (UseToken cycled held) (holdEndOf p c (held .«token_time»))
   -- schedule_next_application
-  turns : {c : Core} (a : ℕ) → a < n → Move p n now c (withNextApplication c a)
+  turns : {x : State} {c : Core} (a : ℕ) → a < n → Move p n now x c x (withNextApplication c a)
   -- do_pass_token: the gap's turn
-  gaps : {c : Core} (g : GapState) → GapAddressed g → GapCounted p g → Move p n now c (withGap c g)
+  gaps : {x : State} {c : Core} (g : GapState) → GapAddressed g → GapCounted p g → Move p n now x c x (withGap c g)
   -- get_listen_token_status_request, get_listen_token_collision_count: a field of ListenToken
-  listens : {c : Core} (q q' : OptionAddress) (k k' : ℕ) → c .state ≡ ListenToken q k → Low q' → k' ≤ 1 → Move p n now c (withState c (ListenToken q' k'))
+  listens : {c : Core} (q q' : OptionAddress) (k k' : ℕ) → Low q' → k' ≤ 1 → Move p n now (ListenToken q k) c (ListenToken q' k') c
   -- get_active_idle_status_request, get_active_idle_new_previous_station, get_active_idle_collision_count: a field of ActiveIdle
-  idles : {c : Core} (q q' m m' : OptionAddress) (k k' : ℕ) → c .state ≡ ActiveIdle q m k → Low q' → Low m' → k' ≤ 1 → Move p n now c (withState c (ActiveIdle q' m' k'))
+  idles : {c : Core} (q q' m m' : OptionAddress) (k k' : ℕ) → Low q' → Low m' → k' ≤ 1 → Move p n now (ActiveIdle q m k) c (ActiveIdle q' m' k') c
   -- get_use_token_data, get_use_token_first_cycle_done: the first cycle is done, by the token whose time is the last token time
-  cycles : {c : Core} (held kept : UseTokenData) (cycled : Bool) → c .state ≡ UseToken held cycled → HeldFits n kept → kept .«token_time» .0 ≡ c .«last_token_time» .0 → Move p n now c (withState c (UseToken kept true))
+  cycles : {c : Core} (held kept : UseTokenData) (cycled : Bool) → HeldFits n kept → kept .«token_time» .0 ≡ c .«last_token_time» .0 → Move p n now (UseToken cycled held) c (UseToken true kept) c
   -- get_claim_token_first: the second token is to be sent
-  claims : {c : Core} → c .state ≡ ClaimToken true → Move p n now c (withState c (ClaimToken false))
+  claims : {c : Core} → Move p n now (ClaimToken true) c (ClaimToken false) c
   -- transition_listen_token, of a station that is online
-  listen-token : {c : Core} → In listenTokenFrom c → c .online ≡ true → Move p n now c (toListenToken c)
+  listen-token : {x : State} {c : Core} → In listenTokenFrom x → c .online ≡ true → Move p n now x c toListenToken c
   -- transition_active_idle: from ListenToken too, where the activity is known by then
-  active-idle : {c : Core} → In activeIdleFrom c → Known (c .«last_bus_activity») → Move p n now c (toActiveIdle c)
+  active-idle : {x : State} {c : Core} → In activeIdleFrom x → Known (c .«last_bus_activity») → Move p n now x c toActiveIdle c
   -- transition_use_token
-  use-token : {c : Core} (held : UseTokenData) → In useTokenFrom c → HeldFits n held → Move p n now c (toUseToken c held)
+  use-token : {x : State} {c : Core} (held : UseTokenData) → In useTokenFrom x → HeldFits n held → Move p n now x c (UseToken false held) c
   -- transition_claim_token: from ListenToken too, where the activity is known by then
-  claim-token : {c : Core} → In claimTokenFrom c → Known (c .«last_bus_activity») → Move p n now c (toClaimToken c)
+  claim-token : {x : State} {c : Core} → In claimTokenFrom x → Known (c .«last_bus_activity») → Move p n now x c (ClaimToken true) c
   -- transition_await_data_response: with the token whose time is the last token time
-  await-data-response : {c : Core} (a : ℕ) (held : UseTokenData) → In awaitDataResponseFrom c → a < 128 → HeldFits n held → held .«token_time» .0 ≡ c .«last_token_time» .0 → Move p n now c (toAwaitDataResponse c a held)
+  await-data-response : {x : State} {c : Core} (a : ℕ) (held : UseTokenData) → In awaitDataResponseFrom x → a < 128 → HeldFits n held → held .«token_time» .0 ≡ c .«last_token_time» .0 → Move p n now x c (AwaitDataResponse a held) c
   -- transition_pass_token
-  pass-token : {c : Core} (gap : Bool) (attempt : PassTokenAttempt) → In passTokenFrom c → Move p n now c (toPassToken c gap attempt)
+  pass-token : {x : State} {c : Core} (gap : Bool) (attempt : PassTokenAttempt) → In passTokenFrom x → Move p n now x c (PassToken gap attempt) c
   -- transition_check_token_pass
-  check-token-pass : {c : Core} (attempt : PassTokenAttempt) → In checkTokenPassFrom c → Move p n now c (toCheckTokenPass c attempt)
+  check-token-pass : {x : State} {c : Core} (attempt : PassTokenAttempt) → In checkTokenPassFrom x → Move p n now x c (CheckTokenPass attempt) c
   -- transition_await_status_response
-  await-status-response : {c : Core} (a : ℕ) → In awaitStatusResponseFrom c → a < 128 → Move p n now c (toAwaitStatusResponse c a)
+  await-status-response : {x : State} {c : Core} (a : ℕ) → In awaitStatusResponseFrom x → a < 128 → Move p n now x c (AwaitStatusResponse a) c
   -- set_offline: by command, or by a second collision
-  goes-offline : {c : Core} → Move p n now c freshCore
+  goes-offline : {x : State} {c : Core} → Move p n now x c Offline freshCore
   -- set_online
-  goes-online : {c : Core} → Move p n now c (withOnline c true)
+  goes-online : {x : State} {c : Core} → Move p n now x c x (withOnline c true)
 
--- a list of moves, from a core to a core
-pub data Moves (p : Parameters) (n : ℕ) (now : Micros) : Core → Core → Type 0 where
-  none : {c : Core} → Moves p n now c c
-  then : {c d e : Core} → Moves p n now c d → Move p n now d e → Moves p n now c e
+-- a list of moves, from a state and its core to a state and its core
+pub data Moves (p : Parameters) (n : ℕ) (now : Micros) : State → Core → State → Core → Type 0 where
+  none : {x : State} {c : Core} → Moves p n now x c x c
+  then : {x y z : State} {c d e : Core} → Moves p n now x c y d → Move p n now y d z e → Moves p n now x c z e
 
 -- what each move keeps, a list of moves keeps
-pub keeps : (p : Parameters) (n : ℕ) (now : Micros) (P : Core → Type 0) → ((c d : Core) → Move p n now c d → P c → P d) → (c d : Core) → Moves p n now c d → P c → P d
-keeps p n now P step c d none b = b
-keeps p n now P step c d (then {d = e} more m) b = step e d m (keeps p n now P step c e more b)
+pub keeps : {p : Parameters} {n : ℕ} {now : Micros} {x y : State} {c d : Core} (P : State → Core → Type 0) → ((x y : State) (c d : Core) → Move p n now x c y d → P x c → P y d) → Moves p n now x c y d → P x c → P y d
+keeps P step none b = b
+keeps P step (then more m) b = step _ _ _ _ m (keeps P step more b)

@@ -2,7 +2,7 @@
 -- it; and tests that are never asked.
 use Prim.Native.Nat.{ℕ, zero, suc, _+_, _-_, _*_, _≤_, _<_}
 use mathlib.Core.Bool.{Bool, true, false}
-use mathlib.Core.Path.{_≡_, refl, sym, ap, _∙_}
+use mathlib.Core.Path.{_≡_, refl, sym, ap}
 use mathlib.Core.Logic.{_⊎_, inl, inr}
 use mathlib.Core.List.{List}
 use native.Mathlib.Omega.{arith}
@@ -22,7 +22,6 @@ use Rattle.codec_telegrams.specs.declared.Telegram.the-variants as telegram
 use Rattle.codec_telegrams.specs.Words.{telegramOf}
 use Rattle.codec_records.specs.Records.{headOf, decisionWordAt, telegramWordAt, decisionAt, telegramAt, recordRefusal}
 use Rattle.codec_records.specs.Laws.{good}
-use Rattle.codec_answers.specs.declared.Outcome.{Outcome}
 use Rattle.codec_answers.specs.declared.Outcome.the-variants as outcome
 use Rattle.station.specs.declared.Activity.{Activity}
 use Rattle.station.specs.declared.Activity.the-variants as activity
@@ -34,43 +33,38 @@ use Rattle.station.specs.declared.State.{State}
 use Rattle.station.specs.declared.State.the-variants.{Offline, ListenToken, ActiveIdle, UseToken, ClaimToken, AwaitDataResponse, PassToken, CheckTokenPass, AwaitStatusResponse}
 use Rattle.station.specs.declared.Core.{Core}
 use Rattle.station.specs.declared.Heard.{Heard}
-use Rattle.station.specs.Parts.{withState, withActivity, withPending, freshCore, stateNumber}
-use Rattle.station.specs.Steps.{toListenToken, knownAt, markedAt, busyOf, ongoingOf, busActivityOf, rxOf, heardOf, lastRequestToUs}
+use Rattle.station.specs.Parts.{withActivity, withPending, stateNumber}
+use Rattle.station.specs.Steps.{knownAt, markedAt, busyOf, ongoingOf, busActivityOf, heardOf, lastRequestToUs}
 use Rattle.station_hold.specs.declared.Asked.{Asked}
 use Rattle.station_hold.specs.Hold.{declinesOn, declinesAt, firstOr, turnOf, askedFrom, askedOf}
-use Rattle.station_hear_active.specs.HearActive.{activeCollided, tokenWitnessed, tokenHeard, activeRequested, activeHeard, handleTelegramOn, handleTelegram}
-use Rattle.station_hear_listen.specs.HearListen.{collided, listened, listenHeard, listenTelegramOn, listenTelegram}
+use Rattle.station_hear_active.specs.HearActive.{activeCollided, tokenWitnessed, tokenHeard, activeRequested, activeHeard, handleTelegram}
+use Rattle.station_hear_listen.specs.HearListen.{collided, listened, listenHeard, listenTelegram}
 use Rattle.station_listen.specs.Listen.{heardTelegram, heardAll}
-use Rattle.station_poll.specs.Poll.{connectedOn, connectedOf}
+use Rattle.station_poll.specs.Poll.{connectedOf}
 use Rattle.theorem_sound.specs.Moves.{OneOf, Clock}
 use Rattle.theorem_sound.specs.Lines.{KnownIn, SoundCore}
 use Rattle.theorem_sound.specs.Sound.{dispatched}
 use Rattle.theorem_sound.specs.Kept.{not-true}
 use Rattle.theorem_sound.specs.Keeps.{either}
-use Rattle.theorem_sound.specs.Walk.{bus-state}
 use Rattle.theorem_sound.specs.Hold.{turn-good, asked-good, first-or-good}
 
 -- no state but Offline has the number 0
 no-state : (k : ℕ) → suc k ≡ 0 → ⊥
 no-state k e = omega arith
 
--- 1. Offline inside the dispatch (`unreachable!()` in poll_inner): the core that an online station's dispatch is given is not in
--- Offline, since connectedOf comes first.
-not-offline : (x : State) (c : Core) → c .state ≡ x → connectedOn x c .state ≡ Offline → ⊥
-unfolding connectedOn toListenToken withState
-not-offline Offline c e f = no-state 0 (ap stateNumber f)
-not-offline (ListenToken q k) c e f = no-state 0 (ap stateNumber (sym e ∙ f))
-not-offline (ActiveIdle q m k) c e f = no-state 1 (ap stateNumber (sym e ∙ f))
-not-offline (UseToken d k) c e f = no-state 2 (ap stateNumber (sym e ∙ f))
-not-offline (ClaimToken b) c e f = no-state 3 (ap stateNumber (sym e ∙ f))
-not-offline (AwaitDataResponse a d) c e f = no-state 4 (ap stateNumber (sym e ∙ f))
-not-offline (PassToken g k) c e f = no-state 5 (ap stateNumber (sym e ∙ f))
-not-offline (CheckTokenPass k) c e f = no-state 6 (ap stateNumber (sym e ∙ f))
-not-offline (AwaitStatusResponse a) c e f = no-state 7 (ap stateNumber (sym e ∙ f))
-
-pub dispatch-never-offline : (c : Core) (now : Micros) (pending : ℕ) → busActivityOf (connectedOf c) now pending .state ≡ Offline → ⊥
+-- 1. Offline inside the dispatch (`unreachable!()` in poll_inner): the state that an online station's dispatch is given is not Offline,
+-- since connectedOf comes first.
+pub dispatch-never-offline : (x : State) → connectedOf x ≡ Offline → ⊥
 unfolding connectedOf
-dispatch-never-offline c now pending e = not-offline (c .state) c refl (sym (bus-state (connectedOn (c .state) c) now pending) ∙ e)
+dispatch-never-offline Offline e = no-state 0 (ap stateNumber e)
+dispatch-never-offline (ListenToken q k) e = no-state 0 (ap stateNumber e)
+dispatch-never-offline (ActiveIdle q m k) e = no-state 1 (ap stateNumber e)
+dispatch-never-offline (UseToken k d) e = no-state 2 (ap stateNumber e)
+dispatch-never-offline (ClaimToken b) e = no-state 3 (ap stateNumber e)
+dispatch-never-offline (AwaitDataResponse a d) e = no-state 4 (ap stateNumber e)
+dispatch-never-offline (PassToken g k) e = no-state 5 (ap stateNumber e)
+dispatch-never-offline (CheckTokenPass k) e = no-state 6 (ap stateNumber e)
+dispatch-never-offline (AwaitStatusResponse a) e = no-state 7 (ap stateNumber e)
 
 -- 2. An application that declines where one was found to send (appTransmitOf, its first clause): the one that asking found to send
 -- does not decline.
@@ -92,7 +86,7 @@ sender-never-declines (suc k) bytes n a first high =
     (λ d. rw d (record { no-decline = λ s e. declined bytes n a high d e }))
 
 -- 3. An application past the last (decisionAt, `apps[next_application]`): asking starts with the next application, which is one of the
--- n (`next-one` of a sound core), goes from each to one of them, and ends with one; and the decision of one of the n is its word's.
+-- n (`next-one` of SoundCore), goes from each to one of them, and ends with one; and the decision of one of the n is its word's.
 pub application-never-past : (k : ℕ) (bytes : List ℕ) (n a : ℕ) (first : OptionApplication) (high : Bool) → a < n → (turnOf a n < n) × (askedFrom k bytes n a first high .application < n)
 application-never-past k bytes n a first high l = (turn-good a n l, asked-good k bytes n a first high l .asked)
 
@@ -187,7 +181,7 @@ never-asked-before-activity c now transmitting pending o =
     let l = free (c .«last_bus_activity») now transmitting o in
     either (λ (d : Core). NotAfter (d .«last_bus_activity») now) (ltb (c .«pending_bytes») pending) _ _ (marked-by (c .«last_bus_activity») now l) l
 
--- 7. A telegram heard in another state (listenTelegramOn and handleTelegramOn, their other clauses), and a request noted while telegrams
+-- 7. A telegram heard in another state (listenTelegram and handleTelegram, their other clauses), and a request noted while telegrams
 -- are received. Before each telegram of do_listen_token the station is in ListenToken with no request noted, or Offline by a second
 -- collision of the same poll.
 abbrev pub Listening : State → Type 0
@@ -195,7 +189,7 @@ Listening Offline = Unit {0}
 Listening (ListenToken optionAddress.None collisions) = Unit {0}
 Listening (ListenToken (optionAddress.Some source) collisions) = ⊥
 Listening (ActiveIdle request newPreviousStation collisions) = ⊥
-Listening (UseToken held cycled) = ⊥
+Listening (UseToken cycled held) = ⊥
 Listening (ClaimToken first) = ⊥
 Listening (AwaitDataResponse address held) = ⊥
 Listening (PassToken gap attempt) = ⊥
@@ -209,7 +203,7 @@ Handling Offline = ⊥
 Handling (ListenToken request collisions) = Unit {0}
 Handling (ActiveIdle optionAddress.None newPreviousStation collisions) = Unit {0}
 Handling (ActiveIdle (optionAddress.Some source) newPreviousStation collisions) = ⊥
-Handling (UseToken held cycled) = ⊥
+Handling (UseToken cycled held) = ⊥
 Handling (ClaimToken first) = ⊥
 Handling (AwaitDataResponse address held) = ⊥
 Handling (PassToken gap attempt) = ⊥
@@ -222,95 +216,78 @@ unfolding lastRequestToUs
 never-noted destination own true = cases (eqb destination own) (λ e. rw e refl) (λ e. rw e refl)
 never-noted destination own false = refl
 
--- reception leaves the state
-rx-state : (c : Core) (now : Micros) → rxOf c now .state ≡ c .state
-unfolding rxOf withActivity withPending
-rx-state c now = refl
-
 -- what was heard so far leaves the station listening
 abbrev ListeningOn : Heard → Type 0
-ListeningOn h = Listening (h .core .state)
-
-same-listening : (c : Core) (r : Ring) (o : Outcome) (x : State) → c .state ≡ x → Listening x → ListeningOn (heardOf c r o)
-unfolding heardOf
-same-listening c r o x e l = rw e l
+ListeningOn h = Listening (h .state)
 
 collided-listening : (p : Parameters) (c : Core) (r : Ring) (k : ℕ) → ListeningOn (collided p c r optionAddress.None k)
-unfolding collided heardOf withState freshCore
+unfolding collided heardOf
 collided-listening p c r k = either ListeningOn (eqb k 0) _ _ tt tt
 
-listen-heard-listening : (p : Parameters) (c : Core) (r : Ring) (k : ℕ) (t : Telegram) → c .state ≡ ListenToken optionAddress.None k → ListeningOn (listenHeard p c r optionAddress.None k t false)
-unfolding listenHeard listened
-listen-heard-listening p c r k (telegram.Token destination source) e =
-    either ListeningOn (eqb source (p .address)) _ _ (collided-listening p c r k) (same-listening c _ _ _ e tt)
-listen-heard-listening p c r k telegram.ShortConfirmation e = same-listening c _ _ _ e tt
-listen-heard-listening p c r k (telegram.Request destination source asks) e =
-    either ListeningOn (eqb source (p .address)) _ _ (collided-listening p c r k) (rw (never-noted destination (p .address) asks) (same-listening c _ _ _ e tt))
-listen-heard-listening p c r k (telegram.Response destination source state status) e =
-    either ListeningOn (eqb source (p .address)) _ _ (collided-listening p c r k) (same-listening c _ _ _ e tt)
+listen-heard-listening : (p : Parameters) (c : Core) (r : Ring) (k : ℕ) (t : Telegram) → ListeningOn (listenHeard p c r optionAddress.None k t false)
+unfolding listenHeard listened heardOf
+listen-heard-listening p c r k (telegram.Token destination source) = either ListeningOn (eqb source (p .address)) _ _ (collided-listening p c r k) tt
+listen-heard-listening p c r k telegram.ShortConfirmation = tt
+listen-heard-listening p c r k (telegram.Request destination source asks) =
+    either ListeningOn (eqb source (p .address)) _ _ (collided-listening p c r k) (rw (never-noted destination (p .address) asks) tt)
+listen-heard-listening p c r k (telegram.Response destination source state status) = either ListeningOn (eqb source (p .address)) _ _ (collided-listening p c r k) tt
 
-listen-on-listening : (x : State) (p : Parameters) (c : Core) (r : Ring) (t : Telegram) → c .state ≡ x → Listening x → ListeningOn (listenTelegramOn x p c r t false)
-unfolding listenTelegramOn
-listen-on-listening Offline p c r t e l = same-listening c _ _ _ e tt
-listen-on-listening (ListenToken optionAddress.None k) p c r t e l = listen-heard-listening p c r k t e
-listen-on-listening (ListenToken (optionAddress.Some a) k) p c r t e l = absurd l
-listen-on-listening (ActiveIdle q m k) p c r t e l = absurd l
-listen-on-listening (UseToken d k) p c r t e l = absurd l
-listen-on-listening (ClaimToken f) p c r t e l = absurd l
-listen-on-listening (AwaitDataResponse a d) p c r t e l = absurd l
-listen-on-listening (PassToken g k) p c r t e l = absurd l
-listen-on-listening (CheckTokenPass k) p c r t e l = absurd l
-listen-on-listening (AwaitStatusResponse a) p c r t e l = absurd l
+listen-on-listening : (p : Parameters) (x : State) (c : Core) (r : Ring) (t : Telegram) → Listening x → ListeningOn (listenTelegram p x c r t false)
+unfolding listenTelegram heardOf
+listen-on-listening p Offline c r t l = tt
+listen-on-listening p (ListenToken optionAddress.None k) c r t l = listen-heard-listening p c r k t
+listen-on-listening p (ListenToken (optionAddress.Some a) k) c r t l = absurd l
+listen-on-listening p (ActiveIdle q m k) c r t l = absurd l
+listen-on-listening p (UseToken k d) c r t l = absurd l
+listen-on-listening p (ClaimToken f) c r t l = absurd l
+listen-on-listening p (AwaitDataResponse a d) c r t l = absurd l
+listen-on-listening p (PassToken g k) c r t l = absurd l
+listen-on-listening p (CheckTokenPass k) c r t l = absurd l
+listen-on-listening p (AwaitStatusResponse a) c r t l = absurd l
 
 -- what was heard so far leaves the station in a state that handles telegrams
 abbrev HandlingOn : Heard → Type 0
-HandlingOn h = Handling (h .core .state)
-
-same-handling : (c : Core) (r : Ring) (o : Outcome) (x : State) → c .state ≡ x → Handling x → HandlingOn (heardOf c r o)
-unfolding heardOf
-same-handling c r o x e l = rw e l
+HandlingOn h = Handling (h .state)
 
 token-handling : (p : Parameters) (c : Core) (r : Ring) (now : Micros) (m : OptionAddress) (k destination source : ℕ) → HandlingOn (tokenHeard p c r now optionAddress.None m k destination source false)
-unfolding tokenHeard activeCollided tokenWitnessed toListenToken heardOf withState
+unfolding tokenHeard activeCollided tokenWitnessed heardOf
 token-handling p c r now m k destination source =
     either HandlingOn (eqb source (p .address)) _ _ (either HandlingOn (eqb k 0) _ _ tt tt) (either HandlingOn (eqb destination (p .address)) _ _ tt tt)
 
-active-heard-handling : (p : Parameters) (c : Core) (r : Ring) (now : Micros) (m : OptionAddress) (k : ℕ) (t : Telegram) → c .state ≡ ActiveIdle optionAddress.None m k → HandlingOn (activeHeard p c r now optionAddress.None m k t false)
-unfolding activeHeard activeRequested
-active-heard-handling p c r now m k (telegram.Token destination source) e = token-handling p c r now m k destination source
-active-heard-handling p c r now m k telegram.ShortConfirmation e = same-handling c _ _ _ e tt
-active-heard-handling p c r now m k (telegram.Request destination source asks) e = rw (never-noted destination (p .address) asks) (same-handling c _ _ _ e tt)
-active-heard-handling p c r now m k (telegram.Response destination source state status) e = same-handling c _ _ _ e tt
+active-heard-handling : (p : Parameters) (c : Core) (r : Ring) (now : Micros) (m : OptionAddress) (k : ℕ) (t : Telegram) → HandlingOn (activeHeard p c r now optionAddress.None m k t false)
+unfolding activeHeard activeRequested heardOf
+active-heard-handling p c r now m k (telegram.Token destination source) = token-handling p c r now m k destination source
+active-heard-handling p c r now m k telegram.ShortConfirmation = tt
+active-heard-handling p c r now m k (telegram.Request destination source asks) = rw (never-noted destination (p .address) asks) tt
+active-heard-handling p c r now m k (telegram.Response destination source state status) = tt
 
-handle-on-handling : (x : State) (p : Parameters) (c : Core) (r : Ring) (now : Micros) (t : Telegram) → c .state ≡ x → Handling x → HandlingOn (handleTelegramOn x p c r now t false)
-unfolding handleTelegramOn
-handle-on-handling Offline p c r now t e l = absurd l
-handle-on-handling (ListenToken q k) p c r now t e l = same-handling c _ _ _ e tt
-handle-on-handling (ActiveIdle optionAddress.None m k) p c r now t e l = active-heard-handling p c r now m k t e
-handle-on-handling (ActiveIdle (optionAddress.Some a) m k) p c r now t e l = absurd l
-handle-on-handling (UseToken d k) p c r now t e l = absurd l
-handle-on-handling (ClaimToken f) p c r now t e l = absurd l
-handle-on-handling (AwaitDataResponse a d) p c r now t e l = absurd l
-handle-on-handling (PassToken g k) p c r now t e l = absurd l
-handle-on-handling (CheckTokenPass k) p c r now t e l = absurd l
-handle-on-handling (AwaitStatusResponse a) p c r now t e l = absurd l
+handle-on-handling : (p : Parameters) (x : State) (c : Core) (r : Ring) (now : Micros) (t : Telegram) → Handling x → HandlingOn (handleTelegram p x c r now t false)
+unfolding handleTelegram heardOf
+handle-on-handling p Offline c r now t l = absurd l
+handle-on-handling p (ListenToken q k) c r now t l = tt
+handle-on-handling p (ActiveIdle optionAddress.None m k) c r now t l = active-heard-handling p c r now m k t
+handle-on-handling p (ActiveIdle (optionAddress.Some a) m k) c r now t l = absurd l
+handle-on-handling p (UseToken k d) c r now t l = absurd l
+handle-on-handling p (ClaimToken f) c r now t l = absurd l
+handle-on-handling p (AwaitDataResponse a d) c r now t l = absurd l
+handle-on-handling p (PassToken g k) c r now t l = absurd l
+handle-on-handling p (CheckTokenPass k) c r now t l = absurd l
+handle-on-handling p (AwaitStatusResponse a) c r now t l = absurd l
 
 -- receive_all_telegrams, of a poll with count telegrams: before telegram i
-pub listen-telegram-only-listening : (p : Parameters) (c : Core) (r : Ring) (now : Micros) (k : ℕ) (bytes : List ℕ) (n count i : ℕ) → c .state ≡ ListenToken optionAddress.None k → i < count → Listening (heardAll p (heardOf c r outcome.Bus) now true bytes n count i .core .state)
-unfolding heardAll heardTelegram listenTelegram
-listen-telegram-only-listening p c r now k bytes n count zero e l = same-listening c r _ _ e tt
-listen-telegram-only-listening p c r now k bytes n count (suc i) e l =
-    let before = listen-telegram-only-listening p c r now k bytes n count i e (omega arith) in
-    rw (ne-eqb (suc i) count (λ z. omega arith))
-    (listen-on-listening _ p (rxOf (heardAll p (heardOf c r outcome.Bus) now true bytes n count i .core) now) _ _ refl (rw rx-state before))
+pub listen-telegram-only-listening : (p : Parameters) (c : Core) (r : Ring) (now : Micros) (k : ℕ) (bytes : List ℕ) (n count i : ℕ) → i < count → Listening (heardAll p (heardOf (ListenToken optionAddress.None k) c r outcome.Bus) now true bytes n count i .state)
+unfolding heardAll heardTelegram heardOf
+listen-telegram-only-listening p c r now k bytes n count zero l = tt
+listen-telegram-only-listening p c r now k bytes n count (suc i) l =
+    let before = listen-telegram-only-listening p c r now k bytes n count i (omega arith) in
+    rw (ne-eqb (suc i) count (λ z. omega arith)) (listen-on-listening p _ _ _ _ before)
 
-pub handle-telegram-only-active : (p : Parameters) (c : Core) (r : Ring) (now : Micros) (m : OptionAddress) (k : ℕ) (bytes : List ℕ) (n count i : ℕ) → c .state ≡ ActiveIdle optionAddress.None m k → i < count → Handling (heardAll p (heardOf c r outcome.Bus) now false bytes n count i .core .state)
-unfolding heardAll heardTelegram handleTelegram
-handle-telegram-only-active p c r now m k bytes n count zero e l = same-handling c r _ _ e tt
-handle-telegram-only-active p c r now m k bytes n count (suc i) e l =
-    let before = handle-telegram-only-active p c r now m k bytes n count i e (omega arith) in
-    rw (ne-eqb (suc i) count (λ z. omega arith))
-    (handle-on-handling _ p (rxOf (heardAll p (heardOf c r outcome.Bus) now false bytes n count i .core) now) _ now _ refl (rw rx-state before))
+pub handle-telegram-only-active : (p : Parameters) (c : Core) (r : Ring) (now : Micros) (m : OptionAddress) (k : ℕ) (bytes : List ℕ) (n count i : ℕ) → i < count → Handling (heardAll p (heardOf (ActiveIdle optionAddress.None m k) c r outcome.Bus) now false bytes n count i .state)
+unfolding heardAll heardTelegram heardOf
+handle-telegram-only-active p c r now m k bytes n count zero l = tt
+handle-telegram-only-active p c r now m k bytes n count (suc i) l =
+    let before = handle-telegram-only-active p c r now m k bytes n count i (omega arith) in
+    rw (ne-eqb (suc i) count (λ z. omega arith)) (handle-on-handling p _ _ _ now _ before)
 
 -- 8. A pause or a slot asked with the activity unknown (`get_or_insert` in wait_synchronization_pause and check_slot_expired): the
 -- dispatch of a sound station is given an unknown activity in ListenToken alone, where the lost-token test comes first and sets it.
@@ -318,13 +295,13 @@ unknown-listening : (x : State) (a : Activity) → (x ≡ Offline → ⊥) → K
 unknown-listening Offline a z k e = absurd (z refl)
 unknown-listening (ListenToken q i) a z k e = refl
 unknown-listening (ActiveIdle q m i) a z k e = absurd (rw e at k)
-unknown-listening (UseToken d i) a z k e = absurd (rw e at k)
+unknown-listening (UseToken i d) a z k e = absurd (rw e at k)
 unknown-listening (ClaimToken f) a z k e = absurd (rw e at k)
 unknown-listening (AwaitDataResponse s d) a z k e = absurd (rw e at k)
 unknown-listening (PassToken g i) a z k e = absurd (rw e at k)
 unknown-listening (CheckTokenPass i) a z k e = absurd (rw e at k)
 unknown-listening (AwaitStatusResponse s) a z k e = absurd (rw e at k)
 
-pub only-listening-unknown : (p : Parameters) (n : ℕ) (now : Micros) (c : Core) (pending : ℕ) → Clock now → c .online ≡ true → SoundCore p n c → busActivityOf (connectedOf c) now pending .«last_bus_activity» ≡ activity.Unknown → stateNumber (busActivityOf (connectedOf c) now pending .state) ≡ 1
-only-listening-unknown p n now c pending l o w e =
-    unknown-listening _ _ (dispatch-never-offline c now pending) (dispatched p n now c pending l o w .activity-known) e
+pub only-listening-unknown : (p : Parameters) (n : ℕ) (now : Micros) (x : State) (c : Core) (pending : ℕ) → Clock now → c .online ≡ true → SoundCore p n x c → busActivityOf c now pending .«last_bus_activity» ≡ activity.Unknown → stateNumber (connectedOf x) ≡ 1
+only-listening-unknown p n now x c pending l o w e =
+    unknown-listening _ _ (dispatch-never-offline x) (dispatched p n now x c pending l o w .activity-known) e

@@ -16,21 +16,20 @@ use Rattle.codec_telegrams.specs.declared.ResponseState.{ResponseState}
 use Rattle.codec_telegrams.specs.declared.ResponseState.the-variants.{Slave, MasterNotReady, MasterWithoutToken, MasterInRing}
 use Rattle.codec_telegrams.specs.declared.Telegram.{Telegram}
 use Rattle.codec_telegrams.specs.declared.Telegram.the-variants as telegram
-use Rattle.station.specs.declared.OptionAddress.the-variants as optionAddress
 use Rattle.station.specs.declared.UseTokenData.{UseTokenData}
 use Rattle.station.specs.declared.PassTokenAttempt.{PassTokenAttempt}
 use Rattle.station.specs.declared.PassTokenAttempt.the-variants.{First, Second, Third}
 use Rattle.station.specs.declared.State.{State}
-use Rattle.station.specs.declared.State.the-variants.{ActiveIdle, UseToken, PassToken, CheckTokenPass, AwaitStatusResponse}
+use Rattle.station.specs.declared.State.the-variants.{UseToken, PassToken, CheckTokenPass, AwaitStatusResponse}
 use Rattle.station.specs.declared.Core.{Core}
-use Rattle.station.specs.Parts.{withState, withActivity}
-use Rattle.station.specs.Steps.{toPassToken, knownAt, pauseOf, slotExpiredOf}
-use Rattle.station_pass.specs.Pass.{gapAdvanced, passSent, passSend, passPollOn, passPoll, passAfter, passTokenOf}
-use Rattle.station_await_status.specs.AwaitStatus.{statusRingOn, statusRing, statusAnswered, statusUnexpected, statusReceived, statusTimeout, awaitStatusAfter, awaitStatusOf}
-use Rattle.station_check_pass.specs.CheckPass.{resendOf, checkReceived, checkAfter, checkTokenPassOf}
+use Rattle.station.specs.Parts.{withActivity}
+use Rattle.station.specs.Steps.{toActiveIdle, knownAt, waitedOf, pauseOf, slotExpiredOf}
+use Rattle.station_pass.specs.Pass.{gapAdvanced, passSent, passSend, passPollOn, passPoll, passTokenOf}
+use Rattle.station_await_status.specs.AwaitStatus.{statusRingOn, statusRing, statusAnswered, statusUnexpected, statusReceived, awaitStatusOf}
+use Rattle.station_check_pass.specs.CheckPass.{resendOf, checkReceived, checkTokenPassOf}
 use Rattle.theorem_sound.specs.Moves.{GapAddressed, GapCounted}
 use Rattle.theorem_sound.specs.Keeps.{RingGood, either, decided, gap-low, add-good, remove-good, witness-good}
-use Rattle.theorem_sound.specs.Walk.{Came, RingMade, sound-at, known-here, new-token, paused, slotted, waited-known, rx, gap-turned, to-idle, to-use, to-pass, to-check, to-await-status, done-made, transmit-made}
+use Rattle.theorem_sound.specs.Walk.{Came, RingMade, sound-at, known-here, new-token, paused, slotted, slot-known, rx, gap-turned, to-idle, to-use, to-pass, to-check, to-await-status, done-made, transmit-made}
 use Rattle.theorem_sound.specs.Listen.{ActiveEnds, handled-made}
 
 -- do_pass_token: the gap's turn
@@ -64,77 +63,77 @@ status-ring-good p r a s status g = either (RingGood p) (eqb status 0) _ _ (stat
 -- where a token pass may end: with the token, if alone; checking the pass; with a gap question, if it looks at the gap; and where it was,
 -- if the pause is not over
 pub record PassEnds (E : State → Type 0) (gap : Bool) : Type 0 where
-  pub ends-alone : (held : UseTokenData) → E (UseToken held false)
+  pub ends-alone : (held : UseTokenData) → E (UseToken false held)
   pub ends-check : (attempt : PassTokenAttempt) → E (CheckTokenPass attempt)
   pub ends-asking : gap ≡ true → (a : ℕ) → E (AwaitStatusResponse a)
 
-module _ {p : Parameters} {n : ℕ} {now : Micros} {c₀ : Core} {E : State → Type 0} where
+module _ {p : Parameters} {n : ℕ} {now : Micros} {x₀ : State} {c₀ : Core} {E : State → Type 0} where
   -- do_pass_token
-  send-made : {gap : Bool} {attempt : PassTokenAttempt} {c : Core} (r : Ring) → PassEnds E gap → Came p n now c₀ (PassToken gap attempt) c → RingGood p r → RingMade p n now c₀ E (passSend p c r now attempt)
+  send-made : {gap : Bool} {attempt : PassTokenAttempt} {c : Core} (r : Ring) → PassEnds E gap → Came p n now x₀ c₀ (PassToken gap attempt) c → RingGood p r → RingMade p n now x₀ c₀ E (passSend p c r now attempt)
   unfolding passSend passSent
   send-made {attempt = attempt} r e k g =
       let w = witness-good p r (p .address) (nextOf r) g in
-      either (RingMade p n now c₀ E) (eqb (nextOf _) (p .address)) _ _
+      either (RingMade p n now x₀ c₀ E) (eqb (nextOf _) (p .address)) _ _
       (record { made-step = transmit-made _ (lit≤ tt) (to-use _ refl (new-token n now (k .clock)) k) (e .ends-alone _); made-ring = w })
       (record { made-step = transmit-made _ (lit≤ tt) (to-check attempt refl k) (e .ends-check _); made-ring = w })
 
-  poll-on-made : {attempt : PassTokenAttempt} {c : Core} (s : GapState) (r : Ring) → GapAddressed s → PassEnds E true → Came p n now c₀ (PassToken true attempt) c → RingGood p r → RingMade p n now c₀ E (passPollOn s p c r now attempt)
+  poll-on-made : {attempt : PassTokenAttempt} {c : Core} (s : GapState) (r : Ring) → GapAddressed s → PassEnds E true → Came p n now x₀ c₀ (PassToken true attempt) c → RingGood p r → RingMade p n now x₀ c₀ E (passPollOn s p c r now attempt)
   unfolding passPollOn
   poll-on-made (Waiting count) r l e k g = send-made r e k g
   poll-on-made (DoPoll current) r l e k g =
       record { made-step = transmit-made _ (lit≤ tt) (to-await-status current refl (omega arith) k) (e .ends-asking refl _); made-ring = g }
 
-  pub pass-token-made : {attempt : PassTokenAttempt} {c : Core} (gap : Bool) (r : Ring) → PassEnds E gap → (pauseOf p (c .«last_bus_activity») now .over ≡ false → E (PassToken gap attempt)) → Came p n now c₀ (PassToken gap attempt) c → RingGood p r → RingMade p n now c₀ E (passTokenOf p c r now gap attempt)
-  unfolding passTokenOf passAfter passPoll
+  pub pass-token-made : {attempt : PassTokenAttempt} {c : Core} (gap : Bool) (r : Ring) → PassEnds E gap → (pauseOf p c now .over ≡ false → E (PassToken gap attempt)) → Came p n now x₀ c₀ (PassToken gap attempt) c → RingGood p r → RingMade p n now x₀ c₀ E (passTokenOf p c r now gap attempt)
+  unfolding passTokenOf passPoll
   pass-token-made {c = c} true r e u k g =
       let t = gap-turned _ (advanced-good p r (c .«gap_state») g) (advanced-counted p r (c .«gap_state»)) (paused k) in
-      decided (RingMade p n now c₀ E) (pauseOf p (c .«last_bus_activity») now .over) _ _ (λ o. poll-on-made _ r (sound-at t .gap-address) e t g)
+      decided (RingMade p n now x₀ c₀ E) (pauseOf p c now .over) _ _ (λ o. poll-on-made _ r (sound-at t .gap-address) e t g)
       (λ o. record { made-step = done-made _ (paused k) (u o); made-ring = g })
   pass-token-made {c = c} false r e u k g =
-      decided (RingMade p n now c₀ E) (pauseOf p (c .«last_bus_activity») now .over) _ _ (λ o. send-made r e (paused k) g)
+      decided (RingMade p n now x₀ c₀ E) (pauseOf p c now .over) _ _ (λ o. send-made r e (paused k) g)
       (λ o. record { made-step = done-made _ (paused k) (u o); made-ring = g })
 
   -- do_await_status_response
-  answered-made : {a : ℕ} {c : Core} (r : Ring) → E (PassToken false First) → Came p n now c₀ (AwaitStatusResponse a) c → RingGood p r → RingMade p n now c₀ E (statusAnswered c r)
+  answered-made : {a : ℕ} {c : Core} (r : Ring) → E (PassToken false First) → Came p n now x₀ c₀ (AwaitStatusResponse a) c → RingGood p r → RingMade p n now x₀ c₀ E (statusAnswered c r)
   unfolding statusAnswered
   answered-made r e k g =
       let q = to-pass false First refl k in
-      record { made-step = record { moves = q .by; ends = rw (q .is) e }; made-ring = g }
+      record { made-step = record { moves = q .by; ends = e }; made-ring = g }
 
-  unexpected-made : {a : ℕ} {c : Core} (r : Ring) → E (ActiveIdle optionAddress.None optionAddress.None 0) → Came p n now c₀ (AwaitStatusResponse a) c → RingGood p r → RingMade p n now c₀ E (statusUnexpected c r)
+  unexpected-made : {a : ℕ} {c : Core} (r : Ring) → E toActiveIdle → Came p n now x₀ c₀ (AwaitStatusResponse a) c → RingGood p r → RingMade p n now x₀ c₀ E (statusUnexpected c r)
   unfolding statusUnexpected
   unexpected-made r e k g =
       let q = to-idle refl (known-here k) k in
-      record { made-step = record { moves = q .by; ends = rw (q .is) e }; made-ring = g }
+      record { made-step = record { moves = q .by; ends = e }; made-ring = g }
 
-  status-made : {a : ℕ} {c : Core} (r : Ring) (t : Telegram) → E (PassToken false First) → E (ActiveIdle optionAddress.None optionAddress.None 0) → Came p n now c₀ (AwaitStatusResponse a) c → RingGood p r → RingMade p n now c₀ E (statusReceived p c r a t)
+  status-made : {a : ℕ} {c : Core} (r : Ring) (t : Telegram) → E (PassToken false First) → E toActiveIdle → Came p n now x₀ c₀ (AwaitStatusResponse a) c → RingGood p r → RingMade p n now x₀ c₀ E (statusReceived p c r a t)
   unfolding statusReceived
   status-made r (telegram.Token destination source) e i k g = unexpected-made r i k g
   status-made r telegram.ShortConfirmation e i k g = unexpected-made r i k g
   status-made r (telegram.Request destination source asks) e i k g = unexpected-made r i k g
   status-made {a} r (telegram.Response destination source state status) e i k g =
-      either (RingMade p n now c₀ E) (eqb source a) _ _
-      (either (RingMade p n now c₀ E) (eqb destination (p .address)) _ _ (answered-made _ e k (status-ring-good p r a state status g)) (unexpected-made r i k g))
+      either (RingMade p n now x₀ c₀ E) (eqb source a) _ _
+      (either (RingMade p n now x₀ c₀ E) (eqb destination (p .address)) _ _ (answered-made _ e k (status-ring-good p r a state status g)) (unexpected-made r i k g))
       (unexpected-made r i k g)
 
-  pub await-status-made : {a : ℕ} {c : Core} (r : Ring) (bytes : List ℕ) (count : ℕ) → PassEnds E false → E (PassToken false First) → E (ActiveIdle optionAddress.None optionAddress.None 0) → E (AwaitStatusResponse a) → Came p n now c₀ (AwaitStatusResponse a) c → RingGood p r → RingMade p n now c₀ E (awaitStatusOf p c r now a bytes n count)
-  unfolding awaitStatusOf awaitStatusAfter statusTimeout
+  pub await-status-made : {a : ℕ} {c : Core} (r : Ring) (bytes : List ℕ) (count : ℕ) → PassEnds E false → E (PassToken false First) → E toActiveIdle → E (AwaitStatusResponse a) → Came p n now x₀ c₀ (AwaitStatusResponse a) c → RingGood p r → RingMade p n now x₀ c₀ E (awaitStatusOf p c r now a bytes n count)
+  unfolding awaitStatusOf
   await-status-made {c = c} r bytes count e f i y k g =
-      either (RingMade p n now c₀ E) (ltb 0 count) _ _ (status-made r _ f i (rx k) g)
-      (either (RingMade p n now c₀ E) (slotExpiredOf p (c .«last_bus_activity») now .over) _ _ (pass-token-made false r e (λ o. f) (to-pass false First refl (slotted k)) g)
+      either (RingMade p n now x₀ c₀ E) (ltb 0 count) _ _ (status-made r _ f i (rx k) g)
+      (either (RingMade p n now x₀ c₀ E) (slotExpiredOf p c now .over) _ _ (pass-token-made false r e (λ o. f) (to-pass false First refl (slotted k)) g)
       (record { made-step = done-made _ (slotted k) y; made-ring = g }))
 
   -- do_check_token_pass
-  resend-made : {c : Core} (attempt : PassTokenAttempt) (r : Ring) → PassEnds E false → (pauseOf p (c .«last_bus_activity») now .over ≡ false → (k : PassTokenAttempt) → E (PassToken false k)) → Came p n now c₀ (CheckTokenPass attempt) c → RingGood p r → RingMade p n now c₀ E (resendOf p c r now attempt)
-  unfolding resendOf toPassToken withState
+  resend-made : {c : Core} (attempt : PassTokenAttempt) (r : Ring) → PassEnds E false → (pauseOf p c now .over ≡ false → (k : PassTokenAttempt) → E (PassToken false k)) → Came p n now x₀ c₀ (CheckTokenPass attempt) c → RingGood p r → RingMade p n now x₀ c₀ E (resendOf p c r now attempt)
+  unfolding resendOf
   resend-made First r e u k g = pass-token-made false r e (λ o. u o Second) (to-pass false Second refl k) g
   resend-made Second r e u k g = pass-token-made false r e (λ o. u o Third) (to-pass false Third refl k) g
   resend-made Third r e u k g = pass-token-made false _ e (λ o. u o First) (to-pass false First refl k) (remove-good p r (nextOf r) g)
 
-  pub check-token-made : {c : Core} (attempt : PassTokenAttempt) (r : Ring) (bytes : List ℕ) (count : ℕ) → PassEnds E false → ActiveEnds E → (slotExpiredOf p (c .«last_bus_activity») now .over ≡ true → pauseOf p (c .«last_bus_activity») now .over ≡ false → (k : PassTokenAttempt) → E (PassToken false k)) → Came p n now c₀ (CheckTokenPass attempt) c → RingGood p r → RingMade p n now c₀ E (checkTokenPassOf p c r now attempt bytes n count)
-  unfolding checkTokenPassOf checkAfter checkReceived slotExpiredOf pauseOf knownAt withActivity
+  pub check-token-made : {c : Core} (attempt : PassTokenAttempt) (r : Ring) (bytes : List ℕ) (count : ℕ) → PassEnds E false → ActiveEnds E → (slotExpiredOf p c now .over ≡ true → pauseOf p c now .over ≡ false → (k : PassTokenAttempt) → E (PassToken false k)) → Came p n now x₀ c₀ (CheckTokenPass attempt) c → RingGood p r → RingMade p n now x₀ c₀ E (checkTokenPassOf p c r now attempt bytes n count)
+  unfolding checkTokenPassOf checkReceived slotExpiredOf pauseOf waitedOf knownAt withActivity
   check-token-made {c} attempt r bytes count e h u k g =
       let q = slotted k in
-      decided (RingMade p n now c₀ E) (slotExpiredOf p (c .«last_bus_activity») now .over) _ _ (λ o. resend-made attempt r e (u o) q g)
-      (λ o. either (RingMade p n now c₀ E) (ltb 0 count) _ _ (handled-made r bytes count h (to-idle refl (waited-known c (knownAt (c .«last_bus_activity») now)) q) (h .ends-idle _ _ _) g)
+      decided (RingMade p n now x₀ c₀ E) (slotExpiredOf p c now .over) _ _ (λ o. resend-made attempt r e (u o) q g)
+      (λ o. either (RingMade p n now x₀ c₀ E) (ltb 0 count) _ _ (handled-made r bytes count h (to-idle refl (slot-known p c now) q) (h .ends-idle _ _ _) g)
       (record { made-step = done-made _ q (e .ends-check attempt); made-ring = g }))

@@ -1,12 +1,11 @@
--- Every station that the public calls make is sound: one that `new` accepts for an address of settings, and what any list of
--- polls and commands makes of it.
+-- Every station that the public calls make is sound: what `new` gives for an address of settings and a number of applications that is
+-- not refused, and what any list of polls and commands makes of it.
 use Prim.Native.Nat.{ℕ, _<_, _≤_}
 use mathlib.Core.Bool.{Bool, true, false, cond}
-use mathlib.Core.Path.{_≡_, refl, sym, subst}
+use mathlib.Core.Path.{_≡_, refl}
 use mathlib.Core.Logic.{inl}
 use mathlib.Core.List.{List, [], _∷_}
 use native.Mathlib.Omega.{arith}
-use borrow.Author.Tests.{eqb-true}
 use lib.Dec.{eqb, lit<}
 use Rattle.bit_times.specs.declared.Micros.{Micros}
 use Rattle.settings.specs.declared.Parameters.{Parameters}
@@ -22,13 +21,11 @@ use Rattle.station.specs.declared.State.{State}
 use Rattle.station.specs.declared.State.the-variants.{Offline, ListenToken, ActiveIdle, UseToken, ClaimToken, AwaitDataResponse, PassToken, CheckTokenPass, AwaitStatusResponse}
 use Rattle.station.specs.declared.Core.{Core}
 use Rattle.station.specs.declared.Station.{Station}
-use Rattle.station.specs.declared.Started.{Started}
-use Rattle.station.specs.declared.Started.the-variants as started
 use Rattle.station.specs.declared.RingStep.{RingStep}
-use Rattle.station.specs.Parts.{zeroTime, withOnline, freshCore, freshStation, newStation, stateNumber}
-use Rattle.station.specs.Steps.{ongoingOf, busActivityOf, doneOf}
+use Rattle.station.specs.Parts.{zeroTime, freshCore, freshStation, stateNumber}
+use Rattle.station.specs.Steps.{ongoingOf, busActivityOf, doneOf, ringStepOf}
 use Rattle.station_answer.specs.declared.Polled.{Polled}
-use Rattle.station_poll.specs.Poll.{connectedOn, connectedOf, dispatchOn, dispatchOf, pollOnline, pollInner, acceptedAfter, acceptedPoll, pollOf}
+use Rattle.station_poll.specs.Poll.{connectedOf, dispatchOf, pollOnline, pollInner, acceptedAfter, acceptedPoll, pollOf}
 use Rattle.station_answer.specs.Answer.{polledOf, refusedPoll}
 use Rattle.station_command.specs.Command.{onlineOf, offlineOf, passiveOf}
 use Rattle.theorem_sound.specs.Moves.{lists, Clock, Moves, none, then, goes-offline, goes-online}
@@ -36,7 +33,7 @@ use Rattle.theorem_sound.specs.Lines.{SoundCore}
 use Rattle.theorem_sound.specs.Kept.{not-true, moves-keep}
 use Rattle.theorem_sound.specs.Follows.{reached, FirstAttempt, SlotCoversPause, Follows, covered}
 use Rattle.theorem_sound.specs.Keeps.{RingGood, either, fresh-good, again-good}
-use Rattle.theorem_sound.specs.Walk.{Came, RingMade, arrived, sound-at, marked, bus, to-listen, done-made}
+use Rattle.theorem_sound.specs.Walk.{Came, RingMade, sound-at, marked, bus, to-listen, done-made}
 use Rattle.theorem_sound.specs.Hold.{use-token-made, await-data-made}
 use Rattle.theorem_sound.specs.Listen.{claim-token-made, listen-token-made, active-idle-made}
 use Rattle.theorem_sound.specs.Pass.{pass-token-made, await-status-made, check-token-made}
@@ -51,14 +48,9 @@ pub record SoundStation (s : Station) : Type 0 where
   pub some : 1 ≤ s .applications
   pub eight : s .applications ≤ 8
   -- a token pass stands at its first attempt, where the slot is not shorter than the pause
-  pub first-attempt : SlotCoversPause (s .p) → FirstAttempt (s .core .state)
-  -- its core is sound: see SoundCore, in Lines.antt, for the lines
-  pub core-sound : SoundCore (s .p) (s .applications) (s .core)
-
--- what `new` gives is a sound station or none
-abbrev pub SoundStarted : Started → Type 0
-SoundStarted (started.Accepted s) = SoundStation s
-SoundStarted (started.Refused k) = Unit {0}
+  pub first-attempt : SlotCoversPause (s .p) → FirstAttempt (s .state)
+  -- its state and core are sound: see SoundCore, in Lines.antt, for the lines
+  pub core-sound : SoundCore (s .p) (s .applications) (s .state) (s .core)
 
 -- a call of a station
 pub data Call : Type 0 where
@@ -95,31 +87,30 @@ goes : {p : Parameters} {x y : State} → lists (reached x) (stateNumber y) ≡ 
 goes i f = record { in-table = λ s. i; at-first = λ s. f }
 
 -- a poll's part of it
-module _ {p : Parameters} {n : ℕ} {now : Micros} {c₀ : Core} where
+module _ {p : Parameters} {n : ℕ} {now : Micros} {x₀ : State} {c₀ : Core} where
   -- an online station leaves Offline before anything else
-  connected-came : (x : State) {c : Core} → c .online ≡ true → Came p n now c₀ x c → Came p n now c₀ (connectedOn x c .state) (connectedOn x c)
-  unfolding connectedOn
-  connected-came Offline o k = arrived (to-listen refl o k)
-  connected-came (ListenToken q i) o k = arrived k
-  connected-came (ActiveIdle q m i) o k = arrived k
-  connected-came (UseToken d i) o k = arrived k
-  connected-came (ClaimToken f) o k = arrived k
-  connected-came (AwaitDataResponse a d) o k = arrived k
-  connected-came (PassToken x a) o k = arrived k
-  connected-came (CheckTokenPass a) o k = arrived k
-  connected-came (AwaitStatusResponse a) o k = arrived k
+  connected-came : (x : State) {c : Core} → c .online ≡ true → Came p n now x₀ c₀ x c → Came p n now x₀ c₀ (connectedOf x) c
+  unfolding connectedOf
+  connected-came Offline o k = to-listen refl o k
+  connected-came (ListenToken q i) o k = k
+  connected-came (ActiveIdle q m i) o k = k
+  connected-came (UseToken i d) o k = k
+  connected-came (ClaimToken f) o k = k
+  connected-came (AwaitDataResponse a d) o k = k
+  connected-came (PassToken x a) o k = k
+  connected-came (CheckTokenPass a) o k = k
+  connected-came (AwaitStatusResponse a) o k = k
 
   -- what a poll comes to by what its dispatch does, from the state x
-  poll-online-made : {E : State → Type 0} {x : State} {c : Core} (r : Ring) (t : Bool) (pending : ℕ) (bytes : List ℕ) (count : ℕ) → E x → ((d : Core) → Came p n now c₀ x d → RingMade p n now c₀ E (dispatchOn x p d r now bytes n count)) → Came p n now c₀ x c → RingGood p r → RingMade p n now c₀ E (pollOnline p c r now t pending bytes n count)
-  unfolding pollOnline dispatchOf
-  poll-online-made {E} {x} {c} r t pending bytes count y dispatch k g =
-      let d = busActivityOf c now pending in
-      either (RingMade p n now c₀ E) (ongoingOf (c .«last_bus_activity») now t) _ _ (record { made-step = done-made _ (marked k) y; made-ring = g })
-      (subst (λ (z : State). RingMade p n now c₀ E (dispatchOn z p d r now bytes n count)) (sym (bus pending k .is)) (dispatch d (bus pending k)))
+  poll-online-made : {E : State → Type 0} {x : State} {c : Core} (r : Ring) (t : Bool) (pending : ℕ) (bytes : List ℕ) (count : ℕ) → E x → ((d : Core) → Came p n now x₀ c₀ x d → RingMade p n now x₀ c₀ E (dispatchOf p x d r now bytes n count)) → Came p n now x₀ c₀ x c → RingGood p r → RingMade p n now x₀ c₀ E (pollOnline p x c r now t pending bytes n count)
+  unfolding pollOnline
+  poll-online-made {E} {c = c} r t pending bytes count y dispatch k g =
+      either (RingMade p n now x₀ c₀ E) (ongoingOf (c .«last_bus_activity») now t) _ _ (record { made-step = done-made _ (marked k) y; made-ring = g })
+      (dispatch _ (bus pending k))
 
   -- what a poll comes to, by the state before it
-  connected-made : (x : State) {c : Core} (r : Ring) (t : Bool) (pending : ℕ) (bytes : List ℕ) (count : ℕ) → (SlotCoversPause p → FirstAttempt x) → c .online ≡ true → Came p n now c₀ x c → RingGood p r → RingMade p n now c₀ (Follows p x) (pollOnline p (connectedOn x c) r now t pending bytes n count)
-  unfolding connectedOn dispatchOn
+  connected-made : (x : State) {c : Core} (r : Ring) (t : Bool) (pending : ℕ) (bytes : List ℕ) (count : ℕ) → (SlotCoversPause p → FirstAttempt x) → c .online ≡ true → Came p n now x₀ c₀ x c → RingGood p r → RingMade p n now x₀ c₀ (Follows p x) (pollOnline p (connectedOf x) c r now t pending bytes n count)
+  unfolding connectedOf dispatchOf
   connected-made Offline r t pending bytes count f o k g =
       poll-online-made r t pending bytes count (goes refl tt)
       (λ d m. listen-token-made r bytes count (λ b. goes refl tt) (record { ends-offline = goes refl tt; ends-listen = λ q i. goes refl tt }) m g)
@@ -135,14 +126,14 @@ module _ {p : Parameters} {n : ℕ} {now : Micros} {c₀ : Core} where
       (λ d m. active-idle-made r bytes count (λ b. goes refl tt)
       (record { ends-idle = λ q m i. goes refl tt; ends-accepted = λ held. goes refl tt; ends-left = goes refl tt }) m g)
       k g
-  connected-made (UseToken d i) r t pending bytes count f o k g =
+  connected-made (UseToken i d) r t pending bytes count f o k g =
       poll-online-made r t pending bytes count (goes refl tt)
-      (λ d m. record { made-step = use-token-made i bytes (record { ends-use = λ held cycled. goes refl tt; ends-await = λ a held. goes refl tt; ends-pass = goes refl refl }) m; made-ring = g }) k g
+      (λ d m. record { made-step = use-token-made i bytes (record { ends-use = λ cycled held. goes refl tt; ends-await = λ a held. goes refl tt; ends-pass = goes refl refl }) m; made-ring = g }) k g
   connected-made (ClaimToken b) r t pending bytes count f o k g =
       poll-online-made r t pending bytes count (goes refl tt) (λ d m. claim-token-made r (λ b. goes refl tt) (λ e held. goes refl tt) m g) k g
   connected-made (AwaitDataResponse a d) r t pending bytes count f o k g =
       poll-online-made r t pending bytes count (goes refl tt)
-      (λ d m. record { made-step = await-data-made bytes count (record { ends-use = λ held cycled. goes refl tt; ends-await = λ a held. goes refl tt; ends-pass = goes refl refl }) (goes refl tt) m; made-ring = g })
+      (λ d m. record { made-step = await-data-made bytes count (record { ends-use = λ cycled held. goes refl tt; ends-await = λ a held. goes refl tt; ends-pass = goes refl refl }) (goes refl tt) m; made-ring = g })
       k g
   connected-made (PassToken gap a) r t pending bytes count f o k g =
       poll-online-made r t pending bytes count (record { in-table = λ s. refl; at-first = f })
@@ -168,36 +159,35 @@ stays-in-table : (x : State) → lists (reached x) (stateNumber x) ≡ true
 stays-in-table Offline = refl
 stays-in-table (ListenToken q i) = refl
 stays-in-table (ActiveIdle q m i) = refl
-stays-in-table (UseToken d i) = refl
+stays-in-table (UseToken i d) = refl
 stays-in-table (ClaimToken f) = refl
 stays-in-table (AwaitDataResponse a d) = refl
 stays-in-table (PassToken x a) = refl
 stays-in-table (CheckTokenPass a) = refl
 stays-in-table (AwaitStatusResponse a) = refl
 
--- where a poll of a sound core begins
-begins : {p : Parameters} {n : ℕ} {now : Micros} {c : Core} → Clock now → SoundCore p n c → Came p n now c (c .state) c
-begins l w = record { clock = l; start = w; by = none; is = refl }
+-- where a poll of a sound state and core begins
+begins : {p : Parameters} {n : ℕ} {now : Micros} {x : State} {c : Core} → Clock now → SoundCore p n x c → Came p n now x c x c
+begins l w = record { clock = l; start = w; by = none }
 
--- the core that the state's step is given: past connectedOf and check_for_bus_activity
-pub dispatched : (p : Parameters) (n : ℕ) (now : Micros) (c : Core) (pending : ℕ) → Clock now → c .online ≡ true → SoundCore p n c → SoundCore p n (busActivityOf (connectedOf c) now pending)
-unfolding connectedOf
-dispatched p n now c pending l o w = sound-at (bus pending (connected-came (c .state) o (begins l w)))
+-- the state and core that the state's step is given: past connectedOf and check_for_bus_activity
+pub dispatched : (p : Parameters) (n : ℕ) (now : Micros) (x : State) (c : Core) (pending : ℕ) → Clock now → c .online ≡ true → SoundCore p n x c → SoundCore p n (connectedOf x) (busActivityOf c now pending)
+dispatched p n now x c pending l o w = sound-at (bus pending (connected-came x o (begins l w)))
 
-poll-inner-made : (p : Parameters) (n : ℕ) (now : Micros) (c : Core) (r : Ring) (t : Bool) (pending : ℕ) (bytes : List ℕ) (count : ℕ) → Clock now → SoundCore p n c → (SlotCoversPause p → FirstAttempt (c .state)) → RingGood p r → RingMade p n now c (Follows p (c .state)) (pollInner p c r now t pending bytes n count)
-unfolding pollInner connectedOf
-poll-inner-made p n now c r t pending bytes count l w f g = go (c .online) refl
+poll-inner-made : (p : Parameters) (n : ℕ) (now : Micros) (x : State) (c : Core) (r : Ring) (t : Bool) (pending : ℕ) (bytes : List ℕ) (count : ℕ) → Clock now → SoundCore p n x c → (SlotCoversPause p → FirstAttempt x) → RingGood p r → RingMade p n now x c (Follows p x) (pollInner p x c r now t pending bytes n count)
+unfolding pollInner
+poll-inner-made p n now x c r t pending bytes count l w f g = go (c .online) refl
   where
-    go : (b : Bool) → c .online ≡ b → RingMade p n now c (Follows p (c .state)) (cond b (pollOnline p (connectedOn (c .state) c) r now t pending bytes n count) (record { step = doneOf c outcome.Offline; ring = r }))
-    go true o = connected-made (c .state) r t pending bytes count f o (begins l w) g
-    go false o = record { made-step = done-made _ (begins l w) (record { in-table = λ s. stays-in-table (c .state); at-first = f }); made-ring = g }
+    go : (b : Bool) → c .online ≡ b → RingMade p n now x c (Follows p x) (cond b (pollOnline p (connectedOf x) c r now t pending bytes n count) (ringStepOf (doneOf x c outcome.Offline) r))
+    go true o = connected-made x r t pending bytes count f o (begins l w) g
+    go false o = record { made-step = done-made _ (begins l w) (record { in-table = λ s. stays-in-table x; at-first = f }); made-ring = g }
 
 -- A call's moves: the station after it has come there from a sound one by moves, and its ring is sound. The settings and the number of
 -- applications stay.
 pub record CallMade (s : Station) (now : Micros) (t : Station) : Type 0 where
-  pub moves : Moves (s .p) (s .applications) now (s .core) (t .core)
+  pub moves : Moves (s .p) (s .applications) now (s .state) (s .core) (t .state) (t .core)
   pub ring : RingGood (s .p) (t .«token_ring»)
-  pub first : SlotCoversPause (s .p) → FirstAttempt (t .core .state)
+  pub first : SlotCoversPause (s .p) → FirstAttempt (t .state)
   pub settings-stay : t .p ≡ s .p
   pub applications-stay : t .applications ≡ s .applications
 
@@ -208,7 +198,7 @@ part-ring s w = record { sound = w .ring-sound; own = w .own-is }
 stays-made : (s : Station) (now : Micros) → SoundStation s → CallMade s now s
 stays-made s now w = record { moves = none; ring = part-ring s w; first = w .first-attempt; settings-stay = refl; applications-stay = refl }
 
-polled-made : (s : Station) (now : Micros) (x : RingStep) → RingMade (s .p) (s .applications) now (s .core) (λ (y : State). SlotCoversPause (s .p) → FirstAttempt y) x → CallMade s now (polledOf (s .p) (s .applications) x .station)
+polled-made : (s : Station) (now : Micros) (x : RingStep) → RingMade (s .p) (s .applications) now (s .state) (s .core) (λ (y : State). SlotCoversPause (s .p) → FirstAttempt y) x → CallMade s now (polledOf (s .p) (s .applications) x .station)
 unfolding polledOf
 polled-made s now x g = record { moves = g .made-step .moves; ring = g .made-ring; first = g .made-step .ends; settings-stay = refl; applications-stay = refl }
 
@@ -217,9 +207,9 @@ unfolding refusedPoll
 refused-made s now k w = stays-made s now w
 
 -- the step of a poll whose record is not refused
-pub inner-made : (s : Station) (bytes : List ℕ) (t : Bool) (pending count : ℕ) → SoundStation s → RingMade (s .p) (s .applications) (clockOf (poll bytes)) (s .core) (Follows (s .p) (s .core .state)) (pollInner (s .p) (s .core) (s .«token_ring») (clockOf (poll bytes)) t pending bytes (s .applications) count)
+pub inner-made : (s : Station) (bytes : List ℕ) (t : Bool) (pending count : ℕ) → SoundStation s → RingMade (s .p) (s .applications) (clockOf (poll bytes)) (s .state) (s .core) (Follows (s .p) (s .state)) (pollInner (s .p) (s .state) (s .core) (s .«token_ring») (clockOf (poll bytes)) t pending bytes (s .applications) count)
 inner-made s bytes t pending count w =
-    poll-inner-made (s .p) (s .applications) _ (s .core) (s .«token_ring») t pending bytes count (clock-fits bytes) (w .core-sound) (w .first-attempt) (part-ring s w)
+    poll-inner-made (s .p) (s .applications) _ (s .state) (s .core) (s .«token_ring») t pending bytes count (clock-fits bytes) (w .core-sound) (w .first-attempt) (part-ring s w)
 
 accepted-made : (s : Station) (bytes : List ℕ) → SoundStation s → CallMade s (clockOf (poll bytes)) (acceptedPoll s bytes .station)
 unfolding acceptedPoll acceptedAfter
@@ -233,12 +223,12 @@ poll-made s bytes w =
     either (λ (x : Polled). CallMade s (clockOf (poll bytes)) (x .station)) (eqb (recordRefusal bytes (s .applications)) 0) _ _ (accepted-made s bytes w) (refused-made s _ _ w)
 
 online-made : (s : Station) (now : Micros) → SoundStation s → CallMade s now (onlineOf s .station)
-unfolding onlineOf withOnline doneOf
+unfolding onlineOf doneOf
 online-made s now w =
     polled-made s now _ (record { made-step = record { moves = then none goes-online; ends = w .first-attempt }; made-ring = part-ring s w })
 
 offline-made : (s : Station) (now : Micros) → SoundStation s → CallMade s now (offlineOf s .station)
-unfolding offlineOf freshCore doneOf
+unfolding offlineOf doneOf
 offline-made s now w = polled-made s now _ (record { made-step = record { moves = then none goes-offline; ends = λ z. tt }; made-ring = again-good (s .p) (s .«token_ring») (part-ring s w) })
 
 -- Every call of a sound station is made of moves: transitions, each from a state that its `debug_assert_state!` names, and writes to the
@@ -266,14 +256,14 @@ made-sound s t now l w m =
       some = rw (m .applications-stay) (w .some);
       eight = rw (m .applications-stay) (w .eight);
       first-attempt = rw (m .settings-stay) (m .first);
-      core-sound = rw (m .settings-stay, m .applications-stay) (moves-keep l _ _ (m .moves) (w .core-sound));
+      core-sound = rw (m .settings-stay, m .applications-stay) (moves-keep l (m .moves) (w .core-sound));
     }
 
 pub call-sound : (s : Station) (c : Call) → SoundStation s → SoundStation (after s c)
 call-sound s c w = made-sound s _ _ (clock-of-fits c) w (call-made s c w)
 
--- a fresh core is sound: it asks its first application next, holds no address, and has had no token
-pub fresh-core-sound : (p : Parameters) (n : ℕ) → 0 < n → SoundCore p n freshCore
+-- a fresh core is sound, in Offline: it asks its first application next, holds no address, and has had no token
+pub fresh-core-sound : (p : Parameters) (n : ℕ) → 0 < n → SoundCore p n Offline freshCore
 unfolding freshCore
 fresh-core-sound p n l =
     record {
@@ -288,39 +278,35 @@ fresh-core-sound p n l =
       token-held = tt;
       last-token = tt;
       token-time = lit< tt;
-      hold-made = inl (record { no-last = refl; no-from = refl; no-span = refl; no-less = refl });
+      hold-made = inl (record { no-last = refl; no-end = refl });
     }
 
 fresh-sound : (p : Parameters) (n : ℕ) → p .address < 126 → 1 ≤ n → n ≤ 8 → SoundStation (freshStation p n)
-unfolding freshStation freshCore
+unfolding freshStation
 fresh-sound p n l one eight =
     let g = fresh-good p l in
     record { ring-sound = g .sound; own-is = g .own; some = one; eight = eight; first-attempt = λ z. tt; core-sound = fresh-core-sound p n (omega arith) }
 
--- `new`: with an address up to 125 it gives a sound station or none
-pub new-sound : (p : Parameters) (n : ℕ) → p .address < 126 → SoundStarted (newStation p n)
-unfolding newStation applicationsRefusal
-new-sound p n l = go (eqb (applicationsRefusal n) 0) refl
-  where
-    go : (a : Bool) → eqb (applicationsRefusal n) 0 ≡ a → SoundStarted (cond a (started.Accepted (freshStation p n)) (started.Refused (applicationsRefusal n)))
-    go true e =
-        let range = outside-in 1 n 8 11 (omega arith) (eqb-true _ _ e) in
-        fresh-sound p n l (range .0) (range .1)
-    go false e = tt
+-- `new`: with an address up to 125 and a number of applications that is not refused it gives a sound station
+pub new-sound : (p : Parameters) (n : ℕ) → p .address < 126 → applicationsRefusal n ≡ 0 → SoundStation (freshStation p n)
+unfolding applicationsRefusal
+new-sound p n l e =
+    let range = outside-in 1 n 8 11 (omega arith) e in
+    fresh-sound p n l (range .0) (range .1)
 
 -- A poll leaves a sound station in a state that the table has.
-accepted-follows : (s : Station) (bytes : List ℕ) → SoundStation s → Follows (s .p) (s .core .state) (acceptedPoll s bytes .station .core .state)
+accepted-follows : (s : Station) (bytes : List ℕ) → SoundStation s → Follows (s .p) (s .state) (acceptedPoll s bytes .station .state)
 unfolding acceptedPoll acceptedAfter polledOf
 accepted-follows s bytes w = inner-made s bytes _ _ _ w .made-step .ends
 
-refused-follows : (s : Station) (k : ℕ) → SoundStation s → Follows (s .p) (s .core .state) (refusedPoll s k .station .core .state)
+refused-follows : (s : Station) (k : ℕ) → SoundStation s → Follows (s .p) (s .state) (refusedPoll s k .station .state)
 unfolding refusedPoll
-refused-follows s k w = record { in-table = λ z. stays-in-table (s .core .state); at-first = w .first-attempt }
+refused-follows s k w = record { in-table = λ z. stays-in-table (s .state); at-first = w .first-attempt }
 
-pub poll-follows : (s : Station) (bytes : List ℕ) → SoundStation s → Follows (s .p) (s .core .state) (pollOf s bytes .station .core .state)
+pub poll-follows : (s : Station) (bytes : List ℕ) → SoundStation s → Follows (s .p) (s .state) (pollOf s bytes .station .state)
 unfolding pollOf
 poll-follows s bytes w =
-    either (λ (x : Polled). Follows (s .p) (s .core .state) (x .station .core .state)) (eqb (recordRefusal bytes (s .applications)) 0) _ _ (accepted-follows s bytes w) (refused-follows s _ w)
+    either (λ (x : Polled). Follows (s .p) (s .state) (x .station .state)) (eqb (recordRefusal bytes (s .applications)) 0) _ _ (accepted-follows s bytes w) (refused-follows s _ w)
 
 -- The theorem: any list of calls leaves a sound station sound, so every station that calls make of a new one is.
 pub sound : (cs : List Call) (s : Station) → SoundStation s → SoundStation (run s cs)
@@ -328,14 +314,5 @@ unfolding run
 sound [] s w = w
 sound (c ∷ cs) s w = sound cs (after s c) (call-sound s c w)
 
--- what any list of calls makes of what `new` gives: a sound station, or there is none
-abbrev pub SoundRun : Started → List Call → Type 0
-SoundRun (started.Accepted s) cs = SoundStation (run s cs)
-SoundRun (started.Refused k) cs = Unit {0}
-
-pub every-station-sound : (p : Parameters) (n : ℕ) (cs : List Call) → p .address < 126 → SoundRun (newStation p n) cs
-every-station-sound p n cs l = go (newStation p n) (new-sound p n l)
-  where
-    go : (x : Started) → SoundStarted x → SoundRun x cs
-    go (started.Accepted s) w = sound cs s w
-    go (started.Refused k) w = tt
+pub every-station-sound : (p : Parameters) (n : ℕ) (cs : List Call) → p .address < 126 → applicationsRefusal n ≡ 0 → SoundStation (run (freshStation p n) cs)
+every-station-sound p n cs l e = sound cs (freshStation p n) (new-sound p n l e)

@@ -17,6 +17,7 @@ use Rattle.bit_times.specs.declared.Micros.{Micros}
 use Rattle.bit_times.specs.Times.{pauseBits, timeOf}
 use Rattle.settings.specs.declared.Parameters.{Parameters}
 use Rattle.settings.specs.Settings.{slotTimeOf}
+use Rattle.settings.specs.Rules.{applicationsRefusal}
 use Rattle.codec_answers.specs.declared.Sent.{Sent}
 use Rattle.codec_answers.specs.declared.Sent.the-variants as sent
 use Rattle.codec_answers.specs.declared.Notice.{Notice}
@@ -24,9 +25,7 @@ use Rattle.codec_answers.specs.declared.Notice.the-variants as notice
 use Rattle.station.specs.declared.Activity.{Activity}
 use Rattle.station.specs.declared.Activity.the-variants as activity
 use Rattle.station.specs.declared.Station.{Station}
-use Rattle.station.specs.declared.Started.{Started}
-use Rattle.station.specs.declared.Started.the-variants as started
-use Rattle.station.specs.Parts.{stateNumber, newStation}
+use Rattle.station.specs.Parts.{stateNumber, freshStation}
 use Rattle.theorem_sound.specs.Moves.{lists}
 use Rattle.theorem_sound.specs.Sound.{Call, after, clockOf}
 use Rattle.theorem_sound.specs.Fits.{answerTo}
@@ -65,21 +64,17 @@ pub record SlotWaited (s : Station) (c : Call) : Type 0 where
   pub tells-late : TellsTimeout (answerTo s c .notice) → Since (s .core .«last_bus_activity») (clockOf c) (slotTimeOf (s .p))
 
 abbrev pub SlotKept : Station → Call → Type 0
-SlotKept s c = lists waiting (stateNumber (s .core .state)) ≡ true → SlotWaited s c
+SlotKept s c = lists waiting (stateNumber (s .state)) ≡ true → SlotWaited s c
 
 -- of each call of a run: a fact of the station before it and the call
 abbrev pub Throughout : (Station → Call → Type 0) → Station → List Call → Type 0
 Throughout P s [] = Unit {0}
 Throughout P s (c ∷ cs) = P s c × Throughout P (after s c) cs
 
--- the same of a run from what `new` gives
-abbrev pub ThroughoutNew : (Station → Call → Type 0) → Started → List Call → Type 0
-ThroughoutNew P (started.Accepted s) cs = Throughout P s cs
-ThroughoutNew P (started.Refused k) cs = Unit {0}
-
--- The theorems: any list of calls of any new station, whose settings have an address, keeps both.
+-- The theorems: any list of calls of any new station, whose settings have an address and whose number of applications is not refused,
+-- keeps both.
 abbrev pub NoSendBeforePause : Type 0
-NoSendBeforePause = (p : Parameters) (n : ℕ) (cs : List Call) → p .address < 126 → ThroughoutNew PauseKept (newStation p n) cs
+NoSendBeforePause = (p : Parameters) (n : ℕ) (cs : List Call) → p .address < 126 → applicationsRefusal n ≡ 0 → Throughout PauseKept (freshStation p n) cs
 
 abbrev pub NoRetryBeforeSlot : Type 0
-NoRetryBeforeSlot = (p : Parameters) (n : ℕ) (cs : List Call) → p .address < 126 → ThroughoutNew SlotKept (newStation p n) cs
+NoRetryBeforeSlot = (p : Parameters) (n : ℕ) (cs : List Call) → p .address < 126 → applicationsRefusal n ≡ 0 → Throughout SlotKept (freshStation p n) cs

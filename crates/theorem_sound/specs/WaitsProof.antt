@@ -1,7 +1,7 @@
 -- The two theorems of Waits.antt: from the steps (Guarded) to the calls.
 use Prim.Native.Nat.{ℕ, _+_, _<_, _≤_}
 use mathlib.Core.Bool.{Bool, true, false, cond}
-use mathlib.Core.Path.{_≡_, refl, sym, subst, _∙_}
+use mathlib.Core.Path.{_≡_, refl, sym, subst}
 use mathlib.Core.Logic.{_⊎_, inl, inr}
 use mathlib.Core.List.{List, [], _∷_}
 use native.Mathlib.Omega.{arith}
@@ -10,6 +10,7 @@ use lib.Dec.{ltb, eqb, lit≤}
 use Rattle.bit_times.specs.declared.Micros.{Micros}
 use Rattle.settings.specs.declared.Parameters.{Parameters}
 use Rattle.settings.specs.Settings.{slotTimeOf}
+use Rattle.settings.specs.Rules.{applicationsRefusal}
 use Rattle.ring.specs.declared.Ring.{Ring}
 use Rattle.codec_records.specs.Records.{recordRefusal}
 use Rattle.codec_answers.specs.Answers.{refusedAnswer}
@@ -22,23 +23,20 @@ use Rattle.station.specs.declared.State.{State}
 use Rattle.station.specs.declared.State.the-variants.{Offline, ListenToken, ActiveIdle, UseToken, ClaimToken, AwaitDataResponse, PassToken, CheckTokenPass, AwaitStatusResponse}
 use Rattle.station.specs.declared.Core.{Core}
 use Rattle.station.specs.declared.Station.{Station}
-use Rattle.station.specs.declared.Started.{Started}
-use Rattle.station.specs.declared.Started.the-variants as started
 use Rattle.station.specs.declared.Step.{Step}
 use Rattle.station.specs.declared.RingStep.{RingStep}
-use Rattle.station.specs.Parts.{withState, withActivity, withPending, stateNumber, newStation}
-use Rattle.station.specs.Steps.{toListenToken, knownAt, elapsedOf, markedAt, busyOf, ongoingOf, pauseOf, slotExpiredOf, busActivityOf, doneOf}
+use Rattle.station.specs.Parts.{withActivity, withPending, stateNumber, freshStation}
+use Rattle.station.specs.Steps.{knownAt, elapsedOf, markedAt, busyOf, ongoingOf, waitedOf, pauseOf, slotExpiredOf, busActivityOf, doneOf, ringStepOf}
 use Rattle.station_answer.specs.declared.Polled.{Polled}
 use Rattle.station_answer.specs.Answer.{stepAnswer, polledOf, refusedPoll}
-use Rattle.station_poll.specs.Poll.{connectedOn, connectedOf, dispatchOn, dispatchOf, pollOnline, pollInner, acceptedAfter, acceptedPoll, pollOf}
+use Rattle.station_poll.specs.Poll.{connectedOf, dispatchOf, pollOnline, pollInner, acceptedAfter, acceptedPoll, pollOf}
 use Rattle.theorem_sound.specs.Moves.{lists, Known}
 use Rattle.theorem_sound.specs.Kept.{not-true, known-from}
-use Rattle.theorem_sound.specs.Walk.{bus-state}
 use Rattle.theorem_sound.specs.Keeps.{either, time-some}
-use Rattle.theorem_sound.specs.Sound.{SoundStation, SoundStarted, Call, poll, online, offline, passive, after, clockOf, new-sound, call-sound}
+use Rattle.theorem_sound.specs.Sound.{SoundStation, Call, poll, online, offline, passive, after, clockOf, new-sound, call-sound}
 use Rattle.station_command.specs.Command.{onlineOf, offlineOf, passiveOf}
 use Rattle.theorem_sound.specs.Fits.{answerTo}
-use Rattle.theorem_sound.specs.Waits.{Sends, TellsTimeout, Since, syncPause, PauseKept, waiting, SlotWaited, SlotKept, Throughout, ThroughoutNew, NoSendBeforePause, NoRetryBeforeSlot}
+use Rattle.theorem_sound.specs.Waits.{Sends, TellsTimeout, Since, syncPause, PauseKept, waiting, SlotWaited, SlotKept, Throughout, NoSendBeforePause, NoRetryBeforeSlot}
 use Rattle.theorem_sound.specs.Guarded.{Guarded, Told, weaken, retold, done-guarded, done-told, dispatch-guarded, slot-guarded, slot-told}
 
 -- an activity that a poll does not find going on lies before its clock
@@ -82,31 +80,18 @@ module _ (now time : Micros) where
       go true e = since-marked (c .«last_bus_activity») t o k e
       go false e = since-same (c .«last_bus_activity») k e
 
--- connecting leaves a station that waits for another as it is
-connected-same : (x : State) (c : Core) → lists waiting (stateNumber x) ≡ true → connectedOn x c ≡ c
-unfolding connectedOn
-connected-same Offline c i = not-true i
-connected-same (ListenToken q k) c i = refl
-connected-same (ActiveIdle q m k) c i = refl
-connected-same (UseToken d k) c i = refl
-connected-same (ClaimToken f) c i = refl
-connected-same (AwaitDataResponse a d) c i = refl
-connected-same (PassToken g k) c i = refl
-connected-same (CheckTokenPass k) c i = refl
-connected-same (AwaitStatusResponse a) c i = refl
-
--- connecting leaves the activity
-connected-activity : (x : State) (c : Core) → connectedOn x c .«last_bus_activity» ≡ c .«last_bus_activity»
-unfolding connectedOn toListenToken withState
-connected-activity Offline c = refl
-connected-activity (ListenToken q k) c = refl
-connected-activity (ActiveIdle q m k) c = refl
-connected-activity (UseToken d k) c = refl
-connected-activity (ClaimToken f) c = refl
-connected-activity (AwaitDataResponse a d) c = refl
-connected-activity (PassToken g k) c = refl
-connected-activity (CheckTokenPass k) c = refl
-connected-activity (AwaitStatusResponse a) c = refl
+-- connecting leaves a state that waits for another as it is
+connected-same : (x : State) → lists waiting (stateNumber x) ≡ true → connectedOf x ≡ x
+unfolding connectedOf
+connected-same Offline i = not-true i
+connected-same (ListenToken q k) i = refl
+connected-same (ActiveIdle q m k) i = refl
+connected-same (UseToken k d) i = refl
+connected-same (ClaimToken f) i = refl
+connected-same (AwaitDataResponse a d) i = refl
+connected-same (PassToken g k) i = refl
+connected-same (CheckTokenPass k) i = refl
+connected-same (AwaitStatusResponse a) i = refl
 
 -- a step that sends, and tells a timeout, only where Q holds
 record Late (Q : Type 0) (s : Step) : Type 0 where
@@ -118,23 +103,19 @@ record SlotLate (s : Station) (bytes : List ℕ) (x : Polled) : Type 0 where
   pub late-send : Sends (x .answer .sent) → Since (s .core .«last_bus_activity») (clockOf (poll bytes)) (slotTimeOf (s .p))
   pub late-tell : TellsTimeout (x .answer .notice) → Since (s .core .«last_bus_activity») (clockOf (poll bytes)) (slotTimeOf (s .p))
 
--- the same time since the same activity
-since-at : {a b : Activity} {now time : Micros} → a ≡ b → Since a now time → Since b now time
-since-at e w = record { last = w .last; known = sym e ∙ w .known; passed = w .passed }
-
 -- poll_inner: no send before the pause
 module _ (p : Parameters) (now : Micros) (r : Ring) (t : Bool) (pending : ℕ) (bytes : List ℕ) (n count : ℕ) where
-  pause-since : (c : Core) → ongoingOf (c .«last_bus_activity») now t ≡ false → pauseOf p (busActivityOf c now pending .«last_bus_activity») now .over ≡ true → Since (c .«last_bus_activity») now (syncPause p)
-  unfolding pauseOf
+  pause-since : (c : Core) → ongoingOf (c .«last_bus_activity») now t ≡ false → pauseOf p (busActivityOf c now pending) now .over ≡ true → Since (c .«last_bus_activity») now (syncPause p)
+  unfolding pauseOf waitedOf
   pause-since c o e = since-bus now (syncPause p) c pending t o (inr (time-some _ (p .baudrate) (lit≤ tt))) e
 
-  slot-since : (c : Core) → Known (c .«last_bus_activity») → ongoingOf (c .«last_bus_activity») now t ≡ false → slotExpiredOf p (busActivityOf c now pending .«last_bus_activity») now .over ≡ true → Since (c .«last_bus_activity») now (slotTimeOf p)
-  unfolding slotExpiredOf
+  slot-since : (c : Core) → Known (c .«last_bus_activity») → ongoingOf (c .«last_bus_activity») now t ≡ false → slotExpiredOf p (busActivityOf c now pending) now .over ≡ true → Since (c .«last_bus_activity») now (slotTimeOf p)
+  unfolding slotExpiredOf waitedOf
   slot-since c k o e = since-bus now (slotTimeOf p) c pending t o (inl k) e
 
-  online-paused : (c : Core) → Guarded (Since (c .«last_bus_activity») now (syncPause p)) (pollOnline p c r now t pending bytes n count .step)
-  unfolding pollOnline dispatchOf
-  online-paused c = go (ongoingOf (c .«last_bus_activity») now t) refl
+  online-paused : (x : State) (c : Core) → Guarded (Since (c .«last_bus_activity») now (syncPause p)) (pollOnline p x c r now t pending bytes n count .step)
+  unfolding pollOnline
+  online-paused x c = go (ongoingOf (c .«last_bus_activity») now t) refl
     where
       d : Core
       d = busActivityOf c now pending
@@ -142,17 +123,14 @@ module _ (p : Parameters) (now : Micros) (r : Ring) (t : Bool) (pending : ℕ) (
       Q : Type 0
       Q = Since (c .«last_bus_activity») now (syncPause p)
 
-      after-pause : ongoingOf (c .«last_bus_activity») now t ≡ false → pauseOf p (d .«last_bus_activity») now .over ≡ true → Q
-      after-pause o e = pause-since c o e
-
-      go : (b : Bool) → ongoingOf (c .«last_bus_activity») now t ≡ b → Guarded Q (cond b (record { step = doneOf (withActivity c (markedAt (c .«last_bus_activity») now)) outcome.Transmission; ring = r }) (dispatchOn (d .state) p d r now bytes n count) .step)
-      go true o = done-guarded _ _ _
-      go false o = weaken (after-pause o) (dispatch-guarded p now (d .state) d r bytes n count)
+      go : (b : Bool) → ongoingOf (c .«last_bus_activity») now t ≡ b → Guarded Q (cond b (ringStepOf (doneOf x (withActivity c (markedAt (c .«last_bus_activity») now)) outcome.Transmission) r) (dispatchOf p x d r now bytes n count) .step)
+      go true o = done-guarded _ _ _ _
+      go false o = weaken (pause-since c o) (dispatch-guarded p now x d r bytes n count)
 
   -- no retry before the slot
-  waiting-late : (c : Core) → Known (c .«last_bus_activity») → lists waiting (stateNumber (c .state)) ≡ true → Late (Since (c .«last_bus_activity») now (slotTimeOf p)) (pollOnline p c r now t pending bytes n count .step)
-  unfolding pollOnline dispatchOf
-  waiting-late c k i = go (ongoingOf (c .«last_bus_activity») now t) refl
+  waiting-late : (x : State) (c : Core) → Known (c .«last_bus_activity») → lists waiting (stateNumber x) ≡ true → Late (Since (c .«last_bus_activity») now (slotTimeOf p)) (pollOnline p x c r now t pending bytes n count .step)
+  unfolding pollOnline
+  waiting-late x c k i = go (ongoingOf (c .«last_bus_activity») now t) refl
     where
       d : Core
       d = busActivityOf c now pending
@@ -160,29 +138,25 @@ module _ (p : Parameters) (now : Micros) (r : Ring) (t : Bool) (pending : ℕ) (
       Q : Type 0
       Q = Since (c .«last_bus_activity») now (slotTimeOf p)
 
-      j : lists waiting (stateNumber (d .state)) ≡ true
-      j = rw (bus-state c now pending) i
-
-      go : (b : Bool) → ongoingOf (c .«last_bus_activity») now t ≡ b → Late Q (cond b (record { step = doneOf (withActivity c (markedAt (c .«last_bus_activity») now)) outcome.Transmission; ring = r }) (dispatchOn (d .state) p d r now bytes n count) .step)
-      go true o = record { late-sent = done-guarded _ _ _; late-told = done-told _ _ _ }
+      go : (b : Bool) → ongoingOf (c .«last_bus_activity») now t ≡ b → Late Q (cond b (ringStepOf (doneOf x (withActivity c (markedAt (c .«last_bus_activity») now)) outcome.Transmission) r) (dispatchOf p x d r now bytes n count) .step)
+      go true o = record { late-sent = done-guarded _ _ _ _; late-told = done-told _ _ _ _ }
       go false o =
           record {
-            late-sent = weaken (slot-since c k o) (slot-guarded p now (d .state) d r bytes n count j);
-            late-told = retold (slot-since c k o) (slot-told p now (d .state) d r bytes n count j);
+            late-sent = weaken (slot-since c k o) (slot-guarded p now x d r bytes n count i);
+            late-told = retold (slot-since c k o) (slot-told p now x d r bytes n count i);
           }
 
-  inner-paused : (c : Core) → Guarded (Since (c .«last_bus_activity») now (syncPause p)) (pollInner p c r now t pending bytes n count .step)
-  unfolding pollInner connectedOf
-  inner-paused c =
-      either (λ (x : RingStep). Guarded (Since (c .«last_bus_activity») now (syncPause p)) (x .step)) (c .online) _ _
-      (weaken (λ w. since-at (connected-activity (c .state) c) w) (online-paused (connectedOn (c .state) c))) (done-guarded _ _ _)
+  inner-paused : (x : State) (c : Core) → Guarded (Since (c .«last_bus_activity») now (syncPause p)) (pollInner p x c r now t pending bytes n count .step)
+  unfolding pollInner
+  inner-paused x c =
+      either (λ (y : RingStep). Guarded (Since (c .«last_bus_activity») now (syncPause p)) (y .step)) (c .online) _ _ (online-paused (connectedOf x) c) (done-guarded _ _ _ _)
 
-  inner-late : (c : Core) → Known (c .«last_bus_activity») → lists waiting (stateNumber (c .state)) ≡ true → Late (Since (c .«last_bus_activity») now (slotTimeOf p)) (pollInner p c r now t pending bytes n count .step)
-  unfolding pollInner connectedOf
-  inner-late c k i =
-      let L : RingStep → Type 0 = λ (x : RingStep). Late (Since (c .«last_bus_activity») now (slotTimeOf p)) (x .step) in
-      either L (c .online) _ _ (subst (λ (d : Core). L (pollOnline p d r now t pending bytes n count)) (sym (connected-same (c .state) c i)) (waiting-late c k i))
-      (record { late-sent = done-guarded _ _ _; late-told = done-told _ _ _ })
+  inner-late : (x : State) (c : Core) → Known (c .«last_bus_activity») → lists waiting (stateNumber x) ≡ true → Late (Since (c .«last_bus_activity») now (slotTimeOf p)) (pollInner p x c r now t pending bytes n count .step)
+  unfolding pollInner
+  inner-late x c k i =
+      let L : RingStep → Type 0 = λ (y : RingStep). Late (Since (c .«last_bus_activity») now (slotTimeOf p)) (y .step) in
+      either L (c .online) _ _ (subst (λ (y : State). L (pollOnline p y c r now t pending bytes n count)) (sym (connected-same x i)) (waiting-late x c k i))
+      (record { late-sent = done-guarded _ _ _ _; late-told = done-told _ _ _ _ })
 
 -- poll: a refused record sends and tells nothing
 refused-sent : (Q : Type 0) (s : Station) (k : ℕ) → Sends (refusedPoll s k .answer .sent) → Q
@@ -195,7 +169,7 @@ refused-told Q s k x = absurd x
 
 accepted-paused : (s : Station) (bytes : List ℕ) → Sends (acceptedPoll s bytes .answer .sent) → Since (s .core .«last_bus_activity») (clockOf (poll bytes)) (syncPause (s .p))
 unfolding acceptedPoll acceptedAfter polledOf stepAnswer
-accepted-paused s bytes x = inner-paused (s .p) (clockOf (poll bytes)) (s .«token_ring») _ _ bytes (s .applications) _ (s .core) .guard x
+accepted-paused s bytes x = inner-paused (s .p) (clockOf (poll bytes)) (s .«token_ring») _ _ bytes (s .applications) _ (s .state) (s .core) .guard x
 
 -- every poll keeps the pause, of a sound station or any other
 pub poll-paused : (s : Station) (bytes : List ℕ) → Sends (pollOf s bytes .answer .sent) → Since (s .core .«last_bus_activity») (clockOf (poll bytes)) (syncPause (s .p))
@@ -224,16 +198,16 @@ pause-kept s offline x = absurd (x (offline-silent s .0))
 pause-kept s passive x = absurd (x (passive-silent s .0))
 
 -- every poll of a sound station that waits for another keeps the slot
-known-waiting : (s : Station) → SoundStation s → lists waiting (stateNumber (s .core .state)) ≡ true → Known (s .core .«last_bus_activity»)
-known-waiting s w i = known-from waiting (s .core .state) _ refl refl i (w .core-sound .activity-known)
+known-waiting : (s : Station) → SoundStation s → lists waiting (stateNumber (s .state)) ≡ true → Known (s .core .«last_bus_activity»)
+known-waiting s w i = known-from waiting (s .state) _ refl refl i (w .core-sound .activity-known)
 
-accepted-late : (s : Station) (bytes : List ℕ) → SoundStation s → lists waiting (stateNumber (s .core .state)) ≡ true → SlotLate s bytes (acceptedPoll s bytes)
+accepted-late : (s : Station) (bytes : List ℕ) → SoundStation s → lists waiting (stateNumber (s .state)) ≡ true → SlotLate s bytes (acceptedPoll s bytes)
 unfolding acceptedPoll acceptedAfter polledOf stepAnswer
 accepted-late s bytes w i =
-    let l = inner-late (s .p) (clockOf (poll bytes)) (s .«token_ring») _ _ bytes (s .applications) _ (s .core) (known-waiting s w i) i in
+    let l = inner-late (s .p) (clockOf (poll bytes)) (s .«token_ring») _ _ bytes (s .applications) _ (s .state) (s .core) (known-waiting s w i) i in
     record { late-send = l .late-sent .guard; late-tell = l .late-told .told }
 
-poll-late : (s : Station) (bytes : List ℕ) → SoundStation s → lists waiting (stateNumber (s .core .state)) ≡ true → SlotLate s bytes (pollOf s bytes)
+poll-late : (s : Station) (bytes : List ℕ) → SoundStation s → lists waiting (stateNumber (s .state)) ≡ true → SlotLate s bytes (pollOf s bytes)
 unfolding pollOf
 poll-late s bytes w i =
     either (SlotLate s bytes) (eqb (recordRefusal bytes (s .applications)) 0) _ _ (accepted-late s bytes w i)
@@ -256,12 +230,9 @@ pub throughout : (P : Station → Call → Type 0) → ((s : Station) (c : Call)
 throughout P k [] s w = tt
 throughout P k (c ∷ cs) s w = (k s c w, throughout P k cs (after s c) (call-sound s c w))
 
-pub throughout-new : (P : Station → Call → Type 0) → ((s : Station) (c : Call) → SoundStation s → P s c) → (p : Parameters) (n : ℕ) (cs : List Call) → p .address < 126 → ThroughoutNew P (newStation p n) cs
-throughout-new P k p n cs l = go (newStation p n) (new-sound p n l)
-  where
-    go : (x : Started) → SoundStarted x → ThroughoutNew P x cs
-    go (started.Accepted s) w = throughout P k cs s w
-    go (started.Refused k) w = tt
+-- of each call of a run from a new station
+pub throughout-new : (P : Station → Call → Type 0) → ((s : Station) (c : Call) → SoundStation s → P s c) → (p : Parameters) (n : ℕ) (cs : List Call) → p .address < 126 → applicationsRefusal n ≡ 0 → Throughout P (freshStation p n) cs
+throughout-new P k p n cs l e = throughout P k cs (freshStation p n) (new-sound p n l e)
 
 -- The theorems.
 pub no-send-before-pause : NoSendBeforePause

@@ -17,12 +17,16 @@ use Rattle.codec_fields.specs.Fields.{bytesOf, storedOf}
 use Rattle.codec_fields.specs.Stores.{stored-room}
 use Rattle.codec_answers.specs.declared.Answer.{Answer}
 use Rattle.codec_answers.specs.Answers.{answerWord}
+use Rattle.settings.specs.declared.Parameters.{Parameters}
+use Rattle.settings.specs.declared.Created.{Created}
+use Rattle.settings.specs.declared.Created.the-variants as created
 use Rattle.station.specs.declared.Station.{Station}
 use Rattle.station.specs.declared.Started.{Started}
-use Rattle.station.specs.declared.Started.the-variants as started
+use Rattle.station.specs.Parts.{freshStation, newStation}
 use Rattle.station_answer.specs.declared.Polled.{Polled}
-use Rattle.trace.specs.Trace.{startOf, startedOf, Run, ended, answered, runFrom, runOf, came, ranOf, replayOn, replayOf, numberOf, written, bufferOf}
+use Rattle.trace.specs.Trace.{settingsOf, settingsAt, TraceStart, Accepted, Refused, startedWith, startOf, Run, ended, answered, runFrom, runOf, came, ranOf, replayOn, replayOf, numberOf, written, bufferOf}
 use Rattle.trace.specs.Entries.{recordLength, entryOf}
+use Rattle.trace_headers.specs.declared.Header.{Header}
 use Rattle.trace_headers.specs.Headers.{headerOf}
 
 -- answers given before, and then those of a run
@@ -56,22 +60,45 @@ module _ (most : ℕ) (s : Station) (kind : ℕ) (rest : List ℕ) (room : ℕ) 
   unfolding runFrom
   run-more h f = rw (le-ltb _ _ h, le-ltb _ _ f)
 
--- whether a station was started
-abbrev isStarted : Started → Bool
-isStarted (started.Accepted s) = true
-isStarted (started.Refused n) = false
+-- whether settings were accepted
+abbrev isAccepted : Created → Bool
+isAccepted (created.Accepted p) = true
+isAccepted (created.Refused n) = false
 
--- a test that refuses did hold where a station was started
-test-passed : (test : Bool) (x : Started) (s : Station) → cond test x (started.Refused 17) ≡ started.Accepted s → test ≡ true
-test-passed true x s e = refl
-test-passed false x s e = absurd (subst T (ap isStarted (sym e)) tt)
+-- a test that refuses did hold where settings were accepted
+test-passed : (test : Bool) (x : Created) (p : Parameters) → cond test x (created.Refused 17) ≡ created.Accepted p → test ≡ true
+test-passed true x p e = refl
+test-passed false x p e = absurd (subst T (ap isAccepted (sym e)) tt)
+
+-- settings come only of a trace that has its header and no more than 2^32 bytes
+pub settings-long : (trace : List ℕ) (p : Parameters) → settingsAt trace ≡ created.Accepted p → (16 ≤ length trace) × (length trace ≤ 2 ^ 32)
+unfolding settingsAt
+settings-long trace p e =
+    let h = and-true _ _ (test-passed _ (settingsOf (headerOf trace)) p e) in
+    (leb-true _ _ (h .0), leb-true _ _ (h .1))
+
+-- the station that the settings of a trace start
+pub start-settings : (trace : List ℕ) (p : Parameters) → settingsAt trace ≡ created.Accepted p → startOf trace ≡ Accepted (freshStation p (headerOf trace .applications))
+unfolding startOf startedWith
+start-settings trace p e = rw e refl
+
+-- and the refusal, where there are none
+pub start-refused : (trace : List ℕ) (n : ℕ) → settingsAt trace ≡ created.Refused n → startOf trace ≡ Refused n
+unfolding startOf startedWith
+start-refused trace n e = rw e refl
+
+-- whether a station was started
+abbrev isStarted : TraceStart → Bool
+isStarted (Accepted s) = true
+isStarted (Refused n) = false
 
 -- a station starts only from a trace that has its header and no more than 2^32 bytes
-pub start-long : (trace : List ℕ) (s : Station) → startOf trace ≡ started.Accepted s → (16 ≤ length trace) × (length trace ≤ 2 ^ 32)
-unfolding startOf
-start-long trace s e =
-    let h = and-true _ _ (test-passed _ (startedOf (headerOf trace)) s e) in
-    (leb-true _ _ (h .0), leb-true _ _ (h .1))
+pub start-long : (trace : List ℕ) (s : Station) → startOf trace ≡ Accepted s → (16 ≤ length trace) × (length trace ≤ 2 ^ 32)
+start-long trace s e = go (settingsAt trace) refl
+  where
+    go : (x : Created) → settingsAt trace ≡ x → (16 ≤ length trace) × (length trace ≤ 2 ^ 32)
+    go (created.Accepted p) f = settings-long trace p f
+    go (created.Refused n) f = absurd (subst T (ap isStarted (sym e ∙ start-refused trace n f)) tt)
 
 -- answers after answers are written after them
 pub written-append : (given more : List Answer) → written (given ++ more) ≡ written given ++ written more
@@ -223,15 +250,25 @@ module _ {fresh : Station} {trace before answers : List ℕ} {station : Station}
       let last = over station 0 (rw (drop-of-length-le trace h) (run-none _ station _)) in
       (sym (add-zero (entries * 256)) ∙ last .0, last .1)
 
+-- the replay of a trace with settings is the run of a fresh station with these and the header's applications
+pub replay-settings :
+    (trace : List ℕ) (room : ℕ) (p : Parameters) (h : Header) (t : Started)
+    → settingsAt trace ≡ created.Accepted p
+    → h ≡ headerOf trace
+    → t ≡ newStation p (h .applications)
+    → replayOf trace room ≡ ranOf (t .station) trace room
+unfolding replayOf replayOn newStation
+replay-settings trace room p h t e g f = rw (start-settings trace p e, f, g) refl
+
 -- the replay of a trace that starts a station is the run over its entries
-pub replay-started : (trace : List ℕ) (room : ℕ) (s : Station) → startOf trace ≡ started.Accepted s → replayOf trace room ≡ ranOf s trace room
+pub replay-started : (trace : List ℕ) (room : ℕ) (s : Station) → startOf trace ≡ Accepted s → replayOf trace room ≡ ranOf s trace room
 unfolding replayOf replayOn
 replay-started trace room s e = rw e
 
 -- that of a refused header is its number, and the buffer stays
 pub replay-refused :
     (trace before : List ℕ) (n : ℕ)
-    → startOf trace ≡ started.Refused n
+    → startOf trace ≡ Refused n
     → (n ≡ numberOf (replayOf trace (length before))) × (before ≡ bufferOf (replayOf trace (length before)) before)
 unfolding replayOf replayOn numberOf bufferOf written
 replay-refused trace before n e = rw e (sym (zero-add n), refl)

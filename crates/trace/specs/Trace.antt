@@ -12,21 +12,14 @@ use Rattle.settings_build.specs.Build.{buildOf}
 use Rattle.codec_answers.specs.declared.Answer.{Answer}
 use Rattle.codec_answers.specs.Answers.{answerWord}
 use Rattle.station.specs.declared.Station.{Station}
-use Rattle.station.specs.declared.Started.{Started}
-use Rattle.station.specs.declared.Started.the-variants as started
-use Rattle.station.specs.Parts.{newStation}
+use Rattle.station.specs.Parts.{freshStation}
 use Rattle.trace_headers.specs.declared.Header.{Header}
 use Rattle.trace_headers.specs.Headers.{headerOf, headerRefusal}
 use Rattle.trace.specs.Entries.{recordLength, entryOf}
 
--- a station of settings that were built
-unfoldable pub startedAfter : Created → ℕ → Started
-startedAfter (created.Accepted p) n = newStation p n
-startedAfter (created.Refused refusal) n = started.Refused refusal
-
--- the station that a header starts, each field as given; or its first refusal
-unfoldable pub startedOf : Header → Started
-startedOf h = cond (eqb (headerRefusal h) 0) (startedAfter (buildOf (h .settings)) (h .applications)) (started.Refused (headerRefusal h))
+-- the settings that a header gives, each field as given; or its first refusal
+unfoldable pub settingsOf : Header → Created
+settingsOf h = cond (eqb (headerRefusal h) 0) (buildOf (h .settings)) (created.Refused (headerRefusal h))
 
 -- document 01, "Trace": the bytes of a header, of an answer, and the most bytes of a trace
 abbrev pub headerLength : ℕ
@@ -38,9 +31,23 @@ answerLength = 8
 abbrev pub longestTrace : ℕ
 longestTrace = 2 ^ 32
 
--- the station that a trace starts: 17 where it ends inside its header or has more than 2^32 bytes, before all else
-unfoldable pub startOf : List ℕ → Started
-startOf trace = cond (leb headerLength (length trace) && leb (length trace) longestTrace) (startedOf (headerOf trace)) (started.Refused 17)
+-- the settings of a trace: 17 where it ends inside its header or has more than 2^32 bytes, before all else
+unfoldable pub settingsAt : List ℕ → Created
+settingsAt trace = cond (leb headerLength (length trace) && leb (length trace) longestTrace) (settingsOf (headerOf trace)) (created.Refused 17)
+
+-- the station that is started, or the refusal's number and no station
+pub data TraceStart : Type 0 where
+  Accepted : Station → TraceStart
+  Refused : ℕ → TraceStart
+
+-- a fresh station with these settings and applications, where there are settings
+unfoldable pub startedWith : Created → ℕ → TraceStart
+startedWith (created.Accepted p) n = Accepted (freshStation p n)
+startedWith (created.Refused refusal) n = Refused refusal
+
+-- the station that a trace starts
+unfoldable pub startOf : List ℕ → TraceStart
+startOf trace = startedWith (settingsAt trace) (headerOf trace .applications)
 
 -- a run over entries: the answers given, the station after them, and the number that it ended with
 pub record Run : Type 0 where
@@ -86,9 +93,9 @@ unfoldable pub ranOf : Station → List ℕ → ℕ → Replay
 ranOf s trace room = came (runOf s (drop headerLength trace) room)
 
 -- a refused header gives no answer; else the run over what follows it
-unfoldable pub replayOn : Started → List ℕ → ℕ → Replay
-replayOn (started.Accepted s) trace room = ranOf s trace room
-replayOn (started.Refused n) trace room = record { answers = []; ending = n }
+unfoldable pub replayOn : TraceStart → List ℕ → ℕ → Replay
+replayOn (Accepted s) trace room = ranOf s trace room
+replayOn (Refused n) trace room = record { answers = []; ending = n }
 
 -- the replay of a trace with room bytes for answers
 unfoldable pub replayOf : List ℕ → ℕ → Replay

@@ -5,47 +5,36 @@ ghost use mathlib.Core.Path.{_≡_};
 ghost use Prim.Native.Nat.{_+_, _*_, _≤_, _^_};
 ghost use lib.ListN.{length};
 ghost use Rattle.trace.specs.Entries.{recordLength, entryOf};
-ghost use Rattle.trace.specs.Trace.{startedAfter, startedOf, startOf, ranOf, replayOf, numberOf, bufferOf};
+ghost use Rattle.trace.specs.Trace.{settingsOf, settingsAt, ranOf, replayOf, numberOf, bufferOf};
 use codec_fields::store;
 use settings::Created;
-use station::Started;
 use station::Station;
 use station_answer::Polled;
 use trace_headers::Header;
 
-// A station of settings that were built.
-fn started_after(created: Created, applications: u8) -> Started
-    ensures { λ r. ⌜ r ≡ startedAfter created applications ⌝ }
-{
-    match created {
-        Created::Accepted(p) => Station::new(p, applications),
-        Created::Refused(refusal) => Started::Refused(refusal),
-    }
-}
-
-// The station that a header starts, or its first refusal.
-fn started(header: Header) -> Started
-    ensures { λ r. ⌜ r ≡ startedOf header ⌝ }
+// The settings that a header gives, or its first refusal.
+fn header_settings(header: Header) -> Created
+    ensures { λ r. ⌜ r ≡ settingsOf header ⌝ }
 {
     let refusal = trace_headers::header_refusal(header);
     if refusal == 0 {
         let fields = header.settings;
-        return started_after(fields.build(), header.applications);
+        return fields.build();
     }
-    Started::Refused(refusal)
+    Created::Refused(refusal)
 }
 
-// The station that a trace starts. Refusal 17 where it has fewer than 16 bytes or more than 2 to the 32.
-fn start(trace: &[u8]) -> Started
-    ensures { λ r. ⌜ r ≡ startOf (now (trace .entry)) ⌝ }
+// The settings of a trace. Refusal 17 where it has fewer than 16 bytes or more than 2 to the 32.
+fn trace_settings(trace: &[u8]) -> Created
+    ensures { λ r. ⌜ r ≡ settingsAt (now (trace .entry)) ⌝ }
 {
     if trace.len() < 16 {
-        return Started::Refused(17);
+        return Created::Refused(17);
     }
     if 4294967296 < trace.len() {
-        return Started::Refused(17);
+        return Created::Refused(17);
     }
-    started(trace_headers::read_header(trace))
+    header_settings(trace_headers::read_header(trace))
 }
 
 // How many bytes of record follow an entry's first byte.
@@ -117,9 +106,13 @@ pub fn replay_trace(trace: &[u8], answers: &mut [u8]) -> u64
     ensures { λ r. ⌜ r ≡ numberOf (replayOf (now (trace .entry)) (length (now (answers .entry)))) ⌝ }
     ensures { λ _. ⌜ now (answers .exit) ≡ bufferOf (replayOf (now (trace .entry)) (length (now (answers .entry)))) (now (answers .entry)) ⌝ }
 {
-    let begun = start(trace);
-    match begun {
-        Started::Accepted(fresh) => run(fresh, trace, answers),
-        Started::Refused(refusal) => refusal as u64,
+    let created = trace_settings(trace);
+    match created {
+        Created::Accepted(p) => {
+            let header = trace_headers::read_header(trace);
+            let started = Station::new(p, header.applications);
+            run(started.station, trace, answers)
+        }
+        Created::Refused(refusal) => refusal as u64,
     }
 }

@@ -1,11 +1,11 @@
-use borrow.Author.Tests.{le-leb, le-ltb, lt-ltb}
+use borrow.Author.Tests.{le-ltb, lt-ltb}
 use borrow.Author.Needs.{needs}
-use Rattle.station_await_status.specs.AwaitStatus.{awaitStatusOf, awaitStatusAfter}
+use Rattle.station_await_status.specs.AwaitStatus.{awaitStatusOf}
 use Rattle.station_await_status.proofs.do_await_status_response.Statement.{statement}
 use Rattle.station_await_status.proofs.do_await_status_response.Tie as tie
 
 pub do-await-status-response-spec : {M : Type 1} → statement M
-unfolding awaitStatusOf awaitStatusAfter
+unfolding awaitStatusOf
 do-await-status-response-spec =
     tie.close
     (tie.spec
@@ -15,7 +15,6 @@ do-await-status-response-spec =
     (λ c. simp (lt-ltb _ _ (c .before .before .before .if1 .taken), ← c .before .before .telegram .ensures, ← c .before .mark-rx .ensures, ← c .do-await-status-response-received .ensures))
     (λ c κs. search needs)
     (λ c κs. search needs)
+    (λ c. simp (le-ltb _ _ (c .before .before .before .before .if1 .left), ← c .before .before .before .check-slot-expired .ensures, c .before .if2 .taken, ← c .do-pass-token .ensures))
     (λ c κs. search needs)
-    (λ c. simp (le-leb _ _ (c .before .before .before .before .before .if1 .left), le-ltb _ _ (c .before .before .before .before .before .if1 .left), ← c .before .before .before .before .check-slot-expired .ensures, ← c .before .before .with-activity .ensures, c .before .if2 .taken, ← c .do-await-status-response-timeout .ensures))
-    (λ c κs. search needs)
-    (λ c. simp (le-leb _ _ (c .before .before .before .before .before .if1 .left), le-ltb _ _ (c .before .before .before .before .before .if1 .left), ← c .before .before .before .before .check-slot-expired .ensures, ← c .before .before .with-activity .ensures, c .before .if2 .left, ← c .done .ensures)))
+    (λ c. simp (le-ltb _ _ (c .before .before .before .before .if1 .left), ← c .before .before .before .check-slot-expired .ensures, c .before .if2 .left, ← c .done .ensures)))

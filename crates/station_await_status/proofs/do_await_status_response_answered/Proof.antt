@@ -1,4 +1,4 @@
-use borrow.Author.Needs.{needs}
+use mathlib.Core.Path.{refl}
 use Rattle.station_await_status.specs.AwaitStatus.{statusAnswered}
 use Rattle.station_await_status.proofs.do_await_status_response_answered.Statement.{statement}
 use Rattle.station_await_status.proofs.do_await_status_response_answered.Tie as tie
@@ -8,5 +8,4 @@ unfolding statusAnswered
 do-await-status-response-answered-spec =
     tie.close
     (tie.spec
-    (λ c κs. search needs)
-    (λ c. simp (← c .transition-pass-token .ensures)))
+    (λ c. refl))

@@ -8,8 +8,6 @@ unfolding claimNext
 claim-next-spec =
     tie.close
     (tie.spec
+    (λ c. simp (c .if1 .taken))
     (λ c κs. search needs)
-    (λ c. simp (c .before .if1 .taken, ← c .with-state .ensures))
-    (λ c κs. search needs)
-    (λ c κs. search needs)
-    (λ c. simp (c .before .before .if1 .left, ← c .before .with-token-time .ensures, ← c .transition-use-token .ensures)))
+    (λ c. simp (c .before .if1 .left, ← c .transition-use-token .ensures)))

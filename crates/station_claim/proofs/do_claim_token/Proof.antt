@@ -1,10 +1,10 @@
 use borrow.Author.Needs.{needs}
-use Rattle.station_claim.specs.Claim.{claimTokenOf, claimAfter}
+use Rattle.station_claim.specs.Claim.{claimTokenOf}
 use Rattle.station_claim.proofs.do_claim_token.Statement.{statement}
 use Rattle.station_claim.proofs.do_claim_token.Tie as tie
 
 pub do-claim-token-spec : {M : Type 1} → statement M
-unfolding claimTokenOf claimAfter
+unfolding claimTokenOf
 do-claim-token-spec =
     tie.close
     (tie.spec
@@ -12,7 +12,6 @@ do-claim-token-spec =
     (λ c κs. search needs)
     (λ c κs. search needs)
     (λ c κs. search needs)
+    (λ c. simp (← c .before .before .before .before .before .wait-synchronization-pause .ensures, c .before .before .before .if1 .taken, ← c .before .before .claim-next .ensures, ← c .before .transmit .ensures, ← c .claim-token .ensures))
     (λ c κs. search needs)
-    (λ c. simp (← c .before .before .before .before .before .before .wait-synchronization-pause .ensures, ← c .before .before .before .before .with-activity .ensures, c .before .before .before .if1 .taken, ← c .before .before .claim-next .ensures, ← c .before .transmit .ensures, ← c .claim-token .ensures))
-    (λ c κs. search needs)
-    (λ c. simp (← c .before .before .before .before .wait-synchronization-pause .ensures, ← c .before .before .with-activity .ensures, c .before .if1 .left, ← c .done .ensures)))
+    (λ c. simp (← c .before .before .before .wait-synchronization-pause .ensures, c .before .if1 .left, ← c .done .ensures)))

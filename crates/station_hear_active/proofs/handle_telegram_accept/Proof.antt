@@ -10,5 +10,4 @@ handle-telegram-accept-spec =
     (tie.spec
     (λ c κs. search needs)
     (λ c κs. search needs)
-    (λ c κs. search needs)
-    (λ c. simp (← c .before .before .with-token-time .ensures, ← c .before .transition-use-token .ensures, ← c .hearing .ensures)))
+    (λ c. simp (← c .before .transition-use-token .ensures, ← c .hearing .ensures)))

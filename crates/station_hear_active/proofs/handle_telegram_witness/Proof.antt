@@ -10,5 +10,4 @@ handle-telegram-witness-spec =
     (tie.spec
     (λ c κs. search needs)
     (λ c κs. search needs)
-    (λ c κs. search needs)
-    (λ c. simp (← c .before .before .with-state .ensures, ← c .before .witness-token-pass .ensures, ← c .hearing .ensures)))
+    (λ c. simp (← c .before .witness-token-pass .ensures, ← c .hearing .ensures)))

@@ -10,8 +10,7 @@ do-listen-token-collision-spec =
     tie.close
     (tie.spec
     (λ c κs. search needs)
-    (λ c κs. search needs)
-    (λ c. simp (eq-eqb _ _ (c .before .before .if1 .taken), ← c .before .with-state .ensures, ← c .hearing .ensures))
+    (λ c. simp (eq-eqb _ _ (c .before .if1 .taken), ← c .hearing .ensures))
     (λ c κs. search needs)
     (λ c κs. search needs)
     (λ c κs. search needs)

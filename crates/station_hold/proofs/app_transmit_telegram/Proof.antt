@@ -14,7 +14,6 @@ app-transmit-telegram-spec =
     (λ c κs. search needs)
     (λ c. search needs)
     (λ c κs. search needs)
-    (λ c κs. search needs)
     (λ c. simp (c .before .enum-told .given .1, ← c .do-use-token-pass .ensures))
     (λ c. simp (c .before .before .decision .given .1, ← c .transmit .ensures))
-    (λ c. simp (c .before .before .before .decision2 .given .1, ← c .before .transition-await-data-response .ensures, ← c .transmit2 .ensures)))
+    (λ c. simp (c .before .before .decision2 .given .1, ← c .transmit2 .ensures)))

@@ -10,7 +10,6 @@ do-await-data-response-received-spec =
     (tie.spec
     (λ c κs. search needs)
     (λ c κs. search needs)
-    (λ c κs. search needs)
-    (λ c. simp (← c .before .before .before .mark-rx .ensures, ← c .before .before .is-valid-response .ensures, c .before .if1 .taken, ← c .with-state .ensures))
+    (λ c. simp (← c .before .before .mark-rx .ensures, ← c .before .is-valid-response .ensures, c .if1 .taken))
     (λ c κs. search needs)
     (λ c. simp (← c .before .before .before .mark-rx .ensures, ← c .before .before .is-valid-response .ensures, c .before .if1 .left, ← c .transition-active-idle .ensures)))

@@ -10,5 +10,4 @@ do-await-data-response-timeout-spec =
     (tie.spec
     (λ c κs. search needs)
     (λ c κs. search needs)
-    (λ c κs. search needs)
-    (λ c. simp (← c .before .before .with-state .ensures, ← c .before .do-use-token .ensures, ← c .with-notice .ensures)))
+    (λ c. simp (← c .before .do-use-token .ensures, ← c .with-notice .ensures)))

@@ -9,5 +9,4 @@ do-use-token-pass-spec =
     tie.close
     (tie.spec
     (λ c κs. search needs)
-    (λ c κs. search needs)
-    (λ c. simp (← c .before .transition-pass-token .ensures, ← c .done .ensures)))
+    (λ c. simp (← c .done .ensures)))

@@ -1,17 +1,15 @@
 use borrow.Author.Needs.{needs}
-use Rattle.station_listen.specs.Listen.{activeResponse, activeResponseAfter}
+use Rattle.station_listen.specs.Listen.{activeResponse}
 use Rattle.station_listen.proofs.do_active_idle_respond.Statement.{statement}
 use Rattle.station_listen.proofs.do_active_idle_respond.Tie as tie
 
 pub do-active-idle-respond-spec : {M : Type 1} → statement M
-unfolding activeResponse activeResponseAfter
+unfolding activeResponse
 do-active-idle-respond-spec =
     tie.close
     (tie.spec
     (λ c κs. search needs)
     (λ c κs. search needs)
+    (λ c. simp (← c .before .before .before .wait-synchronization-pause .ensures, c .before .if1 .taken, ← c .transmit .ensures))
     (λ c κs. search needs)
-    (λ c κs. search needs)
-    (λ c. simp (← c .before .before .before .before .before .wait-synchronization-pause .ensures, ← c .before .before .before .with-activity .ensures, c .before .before .if1 .taken, ← c .before .with-state .ensures, ← c .transmit .ensures))
-    (λ c κs. search needs)
-    (λ c. simp (← c .before .before .before .before .wait-synchronization-pause .ensures, ← c .before .before .with-activity .ensures, c .before .if1 .left, ← c .done .ensures)))
+    (λ c. simp (← c .before .before .before .wait-synchronization-pause .ensures, c .before .if1 .left, ← c .done .ensures)))

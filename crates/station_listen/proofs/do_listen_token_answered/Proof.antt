@@ -11,5 +11,4 @@ do-listen-token-answered-spec =
     (λ c κs. search needs)
     (λ c κs. search needs)
     (λ c. simp (← c .before .before .ready-for-ring .ensures, c .before .if1 .taken, ← c .transition-active-idle .ensures))
-    (λ c κs. search needs)
-    (λ c. simp (← c .before .before .ready-for-ring .ensures, c .before .if1 .left, ← c .with-state .ensures)))
+    (λ c. simp (← c .before .ready-for-ring .ensures, c .if1 .left)))

@@ -1,10 +1,10 @@
 use borrow.Author.Needs.{needs}
-use Rattle.station_listen.specs.Listen.{listenResponse, listenResponseAfter}
+use Rattle.station_listen.specs.Listen.{listenResponse}
 use Rattle.station_listen.proofs.do_listen_token_respond.Statement.{statement}
 use Rattle.station_listen.proofs.do_listen_token_respond.Tie as tie
 
 pub do-listen-token-respond-spec : {M : Type 1} → statement M
-unfolding listenResponse listenResponseAfter
+unfolding listenResponse
 do-listen-token-respond-spec =
     tie.close
     (tie.spec
@@ -12,7 +12,6 @@ do-listen-token-respond-spec =
     (λ c κs. search needs)
     (λ c κs. search needs)
     (λ c κs. search needs)
+    (λ c. simp (← c .before .before .before .before .before .wait-synchronization-pause .ensures, c .before .before .before .if1 .taken, ← c .before .before .do-listen-token-state .ensures, ← c .before .do-listen-token-answered .ensures, ← c .transmit .ensures))
     (λ c κs. search needs)
-    (λ c. simp (← c .before .before .before .before .before .before .wait-synchronization-pause .ensures, ← c .before .before .before .before .with-activity .ensures, c .before .before .before .if1 .taken, ← c .before .before .do-listen-token-state .ensures, ← c .before .do-listen-token-answered .ensures, ← c .transmit .ensures))
-    (λ c κs. search needs)
-    (λ c. simp (← c .before .before .before .before .wait-synchronization-pause .ensures, ← c .before .before .with-activity .ensures, c .before .if1 .left, ← c .done .ensures)))
+    (λ c. simp (← c .before .before .before .wait-synchronization-pause .ensures, c .before .if1 .left, ← c .done .ensures)))

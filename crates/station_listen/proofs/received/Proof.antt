@@ -15,5 +15,4 @@ received-spec =
     (λ c κs. search needs)
     returns
     (λ c κs. search needs)
-    (λ c κs. search needs)
-    (λ c. simp (← c .before .receive-all-telegrams .ensures, ← c .consumed-all .ensures)))
+    (λ c. simp (← c .received-some .ensures)))

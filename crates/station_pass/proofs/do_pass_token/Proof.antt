@@ -1,10 +1,10 @@
 use borrow.Author.Needs.{needs}
-use Rattle.station_pass.specs.Pass.{passTokenOf, passAfter}
+use Rattle.station_pass.specs.Pass.{passTokenOf}
 use Rattle.station_pass.proofs.do_pass_token.Statement.{statement}
 use Rattle.station_pass.proofs.do_pass_token.Tie as tie
 
 pub do-pass-token-spec : {M : Type 1} → statement M
-unfolding passTokenOf passAfter
+unfolding passTokenOf
 do-pass-token-spec =
     tie.close
     (tie.spec
@@ -12,9 +12,8 @@ do-pass-token-spec =
     (λ c κs. search needs)
     (λ c κs. search needs)
     (λ c κs. search needs)
+    (λ c. simp (← c .before .before .before .before .before .before .wait-synchronization-pause .ensures, c .before .before .before .before .if1 .taken, c .before .before .before .if2 .taken, ← c .before .before .do-pass-token-gap .ensures, ← c .before .with-gap .ensures, ← c .do-pass-token-poll .ensures))
     (λ c κs. search needs)
-    (λ c. simp (← c .before .before .before .before .before .before .before .wait-synchronization-pause .ensures, ← c .before .before .before .before .before .with-activity .ensures, c .before .before .before .before .if1 .taken, c .before .before .before .if2 .taken, ← c .before .before .do-pass-token-gap .ensures, ← c .before .with-gap .ensures, ← c .do-pass-token-poll .ensures))
+    (λ c. simp (← c .before .before .before .before .wait-synchronization-pause .ensures, c .before .before .if1 .taken, c .before .if2 .left, ← c .do-pass-token-send .ensures))
     (λ c κs. search needs)
-    (λ c. simp (← c .before .before .before .before .before .wait-synchronization-pause .ensures, ← c .before .before .before .with-activity .ensures, c .before .before .if1 .taken, c .before .if2 .left, ← c .do-pass-token-send .ensures))
-    (λ c κs. search needs)
-    (λ c. simp (← c .before .before .before .before .wait-synchronization-pause .ensures, ← c .before .before .with-activity .ensures, c .before .if1 .left, ← c .done .ensures)))
+    (λ c. simp (← c .before .before .before .wait-synchronization-pause .ensures, c .before .if1 .left, ← c .done .ensures)))

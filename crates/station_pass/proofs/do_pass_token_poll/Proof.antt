@@ -12,6 +12,5 @@ do-pass-token-poll-spec =
     (λ c κs. search needs)
     (λ c. search needs)
     (λ c κs. search needs)
-    (λ c κs. search needs)
     (λ c. simp (c .before .enum-told .given .1, ← c .do-pass-token-send .ensures))
-    (λ c. simp (c .before .before .before .gap .given .1, ← c .before .transition-await-status-response .ensures, ← c .transmit .ensures)))
+    (λ c. simp (c .before .before .gap .given .1, ← c .transmit .ensures)))

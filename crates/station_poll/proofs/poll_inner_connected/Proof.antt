@@ -1,10 +1,10 @@
 use borrow.Author.Needs.{needs}
-use Rattle.station_poll.specs.Poll.{connectedOf, connectedOn}
+use Rattle.station_poll.specs.Poll.{connectedOf}
 use Rattle.station_poll.proofs.poll_inner_connected.Statement.{statement}
 use Rattle.station_poll.proofs.poll_inner_connected.Tie as tie
 
 pub poll-inner-connected-spec : {M : Type 1} → statement M
-unfolding connectedOf connectedOn
+unfolding connectedOf
 poll-inner-connected-spec =
     tie.close
     (tie.spec
