@@ -1,0 +1,2 @@
+-- What the setters on the caller's record promise.
+pub mod InPlace
