@@ -116,11 +116,11 @@ module _ (w : Width) where
     abbrev by-value-says : (Parameters → ℕ → Changed) → Clauses 𝓤 by-value
     by-value-says setOf κs a = record { ghost = Unit {0}; requires = λ g. emp 𝓤; ensures = λ g r e. fact 𝓤 (r ≡ setOf (a .0) (a .1 .0)) }
 
-    -- the setter on the record says Q of the record and the value before, the number returned and the record after
-    abbrev in-place-says : (Parameters → ℕ → ℕ → Parameters → Type 0) → Clauses 𝓤 in-place
-    in-place-says Q κs a = record { ghost = Unit {0}; requires = λ g. emp 𝓤; ensures = λ g r e. fact 𝓤 (Q (now (a .0)) (a .1 .0) r (now (e .0))) }
+    -- the setter on the caller's record does `InPlace` of that answer
+    abbrev in-place-says : (Parameters → ℕ → Changed) → Clauses 𝓤 in-place
+    in-place-says setOf κs a = record { ghost = Unit {0}; requires = λ g. emp 𝓤; ensures = λ g r e. fact 𝓤 (InPlace (now (a .0)) (setOf (now (a .0)) (a .1 .0)) r (now (e .0))) }
 
-module _ (w : Width) (setOf : Parameters → ℕ → Changed) (Q : Parameters → ℕ → ℕ → Parameters → Type 0) (does : (p : Parameters) (v : ℕ) → Q p v (changedNumber (setOf p v)) (leftBy (setOf p v) p)) {M : Type 1} (𝓤 : URA M) (H : Heap 𝓤) (A : Atoms 𝓤) where
+module _ (w : Width) (setOf : Parameters → ℕ → Changed) {M : Type 1} (𝓤 : URA M) (H : Heap 𝓤) (A : Atoms 𝓤) where
   -- the contract of the setter by value, which the walk cites, and of its `ensured` the clause alone
   abbrev Setter : Contract 𝓤
   Setter = tripleOf 𝓤 H A (by-value w .signature) (closing 𝓤 H A (by-value w) (by-value-says w 𝓤 setOf))
@@ -136,7 +136,7 @@ module _ (w : Width) (setOf : Parameters → ℕ → Changed) (Q : Parameters �
     at = (vptr b o ∷ [], (vint w n ∷ [], tt))
 
     abbrev Post : Val → SProp 𝓤
-    Post = walkOf 𝓤 H A (in-place w) (stayed w) (in-place-says w 𝓤 Q) .post (((κ, tt), (q, tt), tt, x, at), tt)
+    Post = walkOf 𝓤 H A (in-place w) (stayed w) (in-place-says w 𝓤 setOf) .post (((κ, tt), (q, tt), tt, x, at), tt)
 
     -- a record that is well made has the record's MIR type
     typed : (p : Parameters) → Is P.the-row p (valsP p) → Holds (hasTy P′.mir (valP p)) × WT (valP p)
@@ -146,10 +146,10 @@ module _ (w : Width) (setOf : Parameters → ℕ → Changed) (Q : Parameters �
     typed-answer r is = EL.lawful E.the-type E′.the-laws 𝓤 H A W tt .typed r (valE r ∷ []) is .0
 
     -- the exit: the borrow is closed at the record left, and the number is returned
-    exits : (r : ℕ) (left : Parameters) → r < 2 ^ 8 → Q h n r left → ent 𝓤 (sep 𝓤 (A .obs γ (P.the-row .coded .code left)) (sep 𝓤 (A .bor κ (SemTy.Body (mem P.the-row) b o γ)) (A .lft κ q))) (Post (vint w8 r))
-    exits r left small done-it =
+    exits : (r : ℕ) (left : Parameters) → r < 2 ^ 8 → InPlace h (setOf h n) r left → ent 𝓤 (sep 𝓤 (A .obs γ (P.the-row .coded .code left)) (sep 𝓤 (A .bor κ (SemTy.Body (mem P.the-row) b o γ)) (A .lft κ q))) (Post (vint w8 r))
+    exits r left small does =
         qed W (‵ (fobs γ (P.the-row .coded .code left)) ∷ ‵ (fbor κ (SemTy.Body (mem P.the-row) b o γ)) ∷ ‵ (flft κ q) ∷ []) ∵
-        suffices ! _ (ends-at 𝓤 H A (in-place w) (stayed w) (in-place-says w 𝓤 Q) W (((κ, tt), (q, tt), tt, x, at), tt) (vint w8 r) r (left, (tt, tt)) (tt, (tt, tt))) $ says ! done-it $ nothing ! $ move ! (3 ∷ 0 ∷ []) $ join ! $
+        suffices ! _ (ends-at 𝓤 H A (in-place w) (stayed w) (in-place-says w 𝓤 setOf) W (((κ, tt), (q, tt), tt, x, at), tt) (vint w8 r) r (left, (tt, tt)) (tt, (tt, tt))) $ says ! does $ nothing ! $ move ! (3 ∷ 0 ∷ []) $ join ! $
         frame ! $ feqI ! (List Val) (vptr b o ∷ []) (vptr b o ∷ []) refl $ fjoin3 ! $ nothing ! $ owned ! (UInt w) (Is (UInt w)) (uint-makes 𝓤 H A W w) n _ (refl, fits) $ fjoin ! $ move ! (1 ∷ 0 ∷ []) $ fjoin ! $
         owned ! u8 (Is u8) (uint-makes 𝓤 H A W w8) r _ (refl, small) $ move ! (1 ∷ 0 ∷ []) $ done !
 
@@ -168,53 +168,55 @@ module _ (w : Width) (setOf : Parameters → ℕ → Changed) (Q : Parameters �
       abbrev Then : Kit.Post 𝓤 H
       Then = anyQ (afterSeq 𝓤 H (Wp 𝓤 H C Λ Locals gives (atReturn 𝓤 H Locals Post)) (atReturn 𝓤 H Locals Post))
 
-      -- the borrow while it is open, over a record that lies in memory
-      abbrev Open : Parameters → List (Item 𝓤) → List (Item 𝓤)
-      Open p Γ = ‵ (cellAt fullShare (P.the-row .mir) (valsP p) b o) ∷ ‵ (fobor κ q (SemTy.Body (mem P.the-row) b o γ)) ∷ ‵ (fobs γ (P.the-row .coded .code h)) ∷ ‵ (fauth γ (P.the-row .coded .code h)) ∷ Γ
+      -- the borrow while it is open, before anything is stored
+      abbrev Open : List (Item 𝓤) → List (Item 𝓤)
+      Open Γ = ‵ (cellAt fullShare (P.the-row .mir) (valsP h) b o) ∷ ‵ (fobor κ q (SemTy.Body (mem P.the-row) b o γ)) ∷ ‵ (fobs γ (P.the-row .coded .code h)) ∷ ‵ (fauth γ (P.the-row .coded .code h)) ∷ Γ
 
-      -- the parameters and the copy of the record, with the room for the result
-      abbrev Rest : List (Item 𝓤)
-      Rest = ‵ (fat fullShare (tyInt w) l₂ 0 (vint w n)) ∷ ‵ (fdies (tyInt w) l₂) ∷ ‵ (fat fullShare ref l₁ 0 (vptr b o)) ∷ ‵ (fdies ref l₁) ∷ ‵ (froom (tyInt w8) l₀ 0) ∷ ‵ (fdies (tyInt w8) l₀) ∷ []
+      -- the locals, the last first, once the record is copied: with what stands in _7, the number, and in _3, the answer
+      abbrev Stand : Item 𝓤 → Item 𝓤 → List (Item 𝓤)
+      Stand number answer =
+          number ∷ ‵ (fdies (tyInt w8) l₇) ∷ ‵ (fat fullShare P′.mir l₆ 0 (valP h)) ∷ ‵ (fdies P′.mir l₆) ∷ ‵ (froom (tyInt w8) l₅ 0) ∷ ‵ (fdies (tyInt w8) l₅) ∷ ‵ (froom P′.mir l₄ 0) ∷ ‵ (fdies P′.mir l₄) ∷ answer ∷ ‵ (fdies E′.mir l₃) ∷
+          ‵ (fat fullShare (tyInt w) l₂ 0 (vint w n)) ∷ ‵ (fdies (tyInt w) l₂) ∷ ‵ (fat fullShare ref l₁ 0 (vptr b o)) ∷ ‵ (fdies ref l₁) ∷ ‵ (froom (tyInt w8) l₀ 0) ∷ ‵ (fdies (tyInt w8) l₀) ∷ []
 
-      -- before the match: the answer stands in _3
+      -- before the match
       abbrev Before : Changed → List (Item 𝓤)
-      Before r = Open h (‵ (froom (tyInt w8) l₇ 0) ∷ ‵ (fdies (tyInt w8) l₇) ∷ ‵ (fat fullShare P′.mir l₆ 0 (valP h)) ∷ ‵ (fdies P′.mir l₆) ∷ ‵ (froom (tyInt w8) l₅ 0) ∷ ‵ (fdies (tyInt w8) l₅) ∷ ‵ (froom P′.mir l₄ 0) ∷ ‵ (fdies P′.mir l₄) ∷ ‵ (fat fullShare E′.mir l₃ 0 (valE r)) ∷ ‵ (fdies E′.mir l₃) ∷ Rest)
+      Before r = Open (Stand (‵ (froom (tyInt w8) l₇ 0)) (‵ (fat fullShare E′.mir l₃ 0 (valE r))))
 
-      -- after it: the number stands in _7, and the borrow is closed at the record left
+      -- after it: the borrow is closed at the record left
       abbrev After : Changed → List (Item 𝓤)
-      After r = ‵ (fobs γ (P.the-row .coded .code (leftBy r h))) ∷ ‵ (fbor κ (SemTy.Body (mem P.the-row) b o γ)) ∷ ‵ (flft κ q) ∷ ‵ (fat fullShare (tyInt w8) l₇ 0 (vint w8 (changedNumber r))) ∷ ‵ (fdies (tyInt w8) l₇) ∷ ‵ (fat fullShare P′.mir l₆ 0 (valP h)) ∷ ‵ (fdies P′.mir l₆) ∷ ‵ (froom (tyInt w8) l₅ 0) ∷ ‵ (fdies (tyInt w8) l₅) ∷ ‵ (froom P′.mir l₄ 0) ∷ ‵ (fdies P′.mir l₄) ∷ ‵ (fat fullShare E′.mir l₃ 0 (valE r)) ∷ ‵ (fdies E′.mir l₃) ∷ Rest
+      After r = ‵ (fobs γ (P.the-row .coded .code (leftBy r h))) ∷ ‵ (fbor κ (SemTy.Body (mem P.the-row) b o γ)) ∷ ‵ (flft κ q) ∷ Stand (‵ (fat fullShare (tyInt w8) l₇ 0 (vint w8 (changedNumber r)))) (‵ (fat fullShare E′.mir l₃ 0 (valE r)))
 
       -- what follows the match: the number is returned, and the locals are freed
-      leaves : (r : Changed) → changedNumber r < 2 ^ 8 → Q h n (changedNumber r) (leftBy r h) → Sq W (After r) (runs C Λ Locals gives (atRet Locals Post))
-      leaves r small done-it =
+      leaves : (r : Changed) → changedNumber r < 2 ^ 8 → r ≡ setOf h n → Sq W (After r) (runs C Λ Locals gives (atRet Locals Post))
+      leaves r small e =
           assigns ! (of-opd ! (load ! (from ! (stop !)) (look ! 3 refl))) (from ! (stop !)) (init ! 17 refl (tt, record { fits = small })) $
           returns ! (look ! 17 refl) $ forget ! 3 refl $ forget ! 5 refl $ forget ! 11 refl $ forget ! 13 refl $ forget ! 15 refl $ forget ! 17 refl $
           move ! (17 ∷ 18 ∷ []) $ free1 ! $ move ! (15 ∷ 16 ∷ []) $ free1 ! $ move ! (13 ∷ 14 ∷ []) $ free1 ! $ move ! (11 ∷ 12 ∷ []) $ free1 ! $ move ! (9 ∷ 10 ∷ []) $ free1 ! $ move ! (7 ∷ 8 ∷ []) $ free1 ! $ move ! (5 ∷ 6 ∷ []) $ free1 ! $ move ! (3 ∷ 4 ∷ []) $ free1 ! $ free0 ! $
-          by ! (exits (changedNumber r) (leftBy r h) small done-it)
+          by ! (exits (changedNumber r) (leftBy r h) small (ap changedNumber e, ap (λ (s : Changed). leftBy s h) e))
 
       -- the match, by cases on the answer: the tag is then a numeral, and only the arm that runs is walked. An accepted answer's record is stored before the borrow is closed
-      matched : (r : Changed) → Is E.the-row r (valE r ∷ []) → Q h n (changedNumber r) (leftBy r h) → Is P.the-row h (valsP h) → Sq W (Before r) (runs C Λ Locals matches Then)
-      matched (Accepted set) is done-it was =
+      matched : (r : Changed) → Is E.the-row r (valE r ∷ []) → r ≡ setOf h n → Is P.the-row h (valsP h) → Sq W (Before r) (runs C Λ Locals matches Then)
+      matched (Accepted set) is e was =
           switches-on ! (load ! (from ! (vrt ! refl (fld ! refl (stop !)))) (look-tag ! 12 (whole !))) $ exec ! C Λ Locals accepts Then $
           assigns ! (of-opd ! (load ! (from ! (vrt ! refl (fld ! refl (stop !)))) (look-in ! 12 (in-variant ! 0 0 refl refl (whole !))))) (from ! (stop !)) (init ! 10 refl (typed set (accepted-is set is))) $
           assigns ! (of-opd ! (load ! (from ! (stop !)) (look ! 10 refl))) (from ! (hop ! (look ! 16 refl) (stop !))) (store-raw ! 0 refl (typed set (accepted-is set is))) $
           assigns-last ! (of-opd ! (lit ! tt)) (from ! (stop !)) (init ! 4 refl (tt, record { fits = lit< tt })) $ exec ! C Λ Locals gives (atRet Locals Post) $
           forget ! 10 refl $ owned ! P.the-row (Is P.the-row) (SL.makes P.the-type P′.the-plain 𝓤 H A) set (valsP set) (accepted-is set is) $ move ! (1 ∷ 0 ∷ []) $ closes ! tt P.the-row set (valsP set) b o $
-          leaves (Accepted set) (lit< tt) done-it
-      matched (Refused k kept) is done-it was =
+          leaves (Accepted set) (lit< tt) e
+      matched (Refused k kept) is e was =
           switches-on ! (load ! (from ! (vrt ! refl (fld ! refl (stop !)))) (look-tag ! 12 (whole !))) $ exec ! C Λ Locals refuses Then $
           assigns ! (of-opd ! (load ! (from ! (vrt ! refl (fld ! refl (stop !)))) (look-in ! 12 (in-variant ! 1 0 refl refl (whole !))))) (from ! (stop !)) (init ! 8 refl (tt, record { fits = refused-fits k kept is })) $
           assigns-last ! (of-opd ! (load ! (from ! (stop !)) (look ! 8 refl))) (from ! (stop !)) (init ! 4 refl (tt, record { fits = refused-fits k kept is })) $ exec ! C Λ Locals gives (atRet Locals Post) $
           forget ! 8 refl $ owned ! P.the-row (Is P.the-row) (SL.makes P.the-type P′.the-plain 𝓤 H A) h (valsP h) was $ move ! (1 ∷ 0 ∷ []) $ closes ! tt P.the-row h (valsP h) b o $
-          leaves (Refused k kept) (refused-fits k kept is) done-it
+          leaves (Refused k kept) (refused-fits k kept is) e
 
       -- once the setter by value has returned the machine value v, and the answer r is known of it: v is r's
-      answered : (r : Changed) (v : Val) → v ≡ valE r → Is E.the-row r (valE r ∷ []) → Q h n (changedNumber r) (leftBy r h) → Is P.the-row h (valsP h) →
-          Sq W (Open h (‵ (froom (tyInt w8) l₇ 0) ∷ ‵ (fdies (tyInt w8) l₇) ∷ ‵ (fat fullShare P′.mir l₆ 0 (valP h)) ∷ ‵ (fdies P′.mir l₆) ∷ ‵ (froom (tyInt w8) l₅ 0) ∷ ‵ (fdies (tyInt w8) l₅) ∷ ‵ (froom P′.mir l₄ 0) ∷ ‵ (fdies P′.mir l₄) ∷ ‵ (froom E′.mir l₃ 0) ∷ ‵ (fdies E′.mir l₃) ∷ Rest))
+      answered : (r : Changed) (v : Val) → v ≡ valE r → Is E.the-row r (valE r ∷ []) → r ≡ setOf h n → Is P.the-row h (valsP h) →
+          Sq W (Open (Stand (‵ (froom (tyInt w8) l₇ 0)) (‵ (froom E′.mir l₃ 0))))
           (lands C Λ Locals (place 3 []) v (seq matches gives) (atRet Locals Post))
-      answered r v e is done-it was =
-          subst (λ (u : Val). Sq W (Open h (‵ (froom (tyInt w8) l₇ 0) ∷ ‵ (fdies (tyInt w8) l₇) ∷ ‵ (fat fullShare P′.mir l₆ 0 (valP h)) ∷ ‵ (fdies P′.mir l₆) ∷ ‵ (froom (tyInt w8) l₅ 0) ∷ ‵ (fdies (tyInt w8) l₅) ∷ ‵ (froom P′.mir l₄ 0) ∷ ‵ (fdies P′.mir l₄) ∷ ‵ (froom E′.mir l₃ 0) ∷ ‵ (fdies E′.mir l₃) ∷ Rest)) (lands C Λ Locals (place 3 []) u (seq matches gives) (atRet Locals Post))) (sym e)
-          (land ! (from ! (stop !)) (init ! 12 refl (typed-answer r is)) $ first ! $ matched r is done-it was)
+      answered r v same is e was =
+          subst (λ (u : Val). Sq W (Open (Stand (‵ (froom (tyInt w8) l₇ 0)) (‵ (froom E′.mir l₃ 0)))) (lands C Λ Locals (place 3 []) u (seq matches gives) (atRet Locals Post))) (sym same)
+          (land ! (from ! (stop !)) (init ! 12 refl (typed-answer r is)) $ first ! $ matched r is e was)
 
     module _ (f : Name) (C : Calls 𝓤 H) (Λ : Loops 𝓤 H) (fm : FmC 𝓤 H (W .laws) C) (known : Triple 𝓤 (C f) Setter) where
       walk : ent 𝓤 (onEntry 𝓤 H A (in-place w .signature) (κ, tt) (q, tt) x at) (WpFn 𝓤 H C Λ (thin w f) (vptr b o ∷ vint w n ∷ []) Post)
@@ -233,25 +235,21 @@ module _ (w : Width) (setOf : Parameters → ℕ → Changed) (Q : Parameters �
           split ! $ move ! (1 ∷ []) $ use1 W (raw (fact 𝓤 (r ≡ setOf h n))) (answer-of h n r) $ heard ! (r ≡ setOf h n) (λ e. split ! $ drop ! $
           peeks ! E.the-row (Is E.the-row) (shows 𝓤 H A E.the-row) r (v ∷ []) (λ is. drop ! $
           keep ! (0 ∷ 1 ∷ 2 ∷ 3 ∷ 4 ∷ 5 ∷ 6 ∷ 7 ∷ 8 ∷ 9 ∷ 10 ∷ 11 ∷ 12 ∷ 13 ∷ 14 ∷ 15 ∷ 16 ∷ 17 ∷ 18 ∷ 19 ∷ []) $
-          answered C Λ l₀ l₁ l₂ l₃ l₄ l₅ l₆ l₇ r v (told r v is) (subst (λ (us : List Val). Is E.the-row r us) (EL.tells E.the-type E′.the-laws r (v ∷ []) is) is) (did r e) was))))))))))))))
+          answered C Λ l₀ l₁ l₂ l₃ l₄ l₅ l₆ l₇ r v (told r v is) (subst (λ (us : List Val). Is E.the-row r us) (EL.tells E.the-type E′.the-laws r (v ∷ []) is) is) e was))))))))))))))
         where
           -- the machine value that an answer's relation tells
           told : (r : Changed) (v : Val) → Is E.the-row r (v ∷ []) → v ≡ valE r
           told r v is = ap only (EL.tells E.the-type E′.the-laws r (v ∷ []) is)
 
-          -- what the answer is said to be, the setter on the record does
-          did : (r : Changed) → r ≡ setOf h n → Q h n (changedNumber r) (leftBy r h)
-          did r e = subst (λ (s : Changed). Q h n (changedNumber s) (leftBy s h)) (sym e) (does h n)
-
   module _ (W : Given 𝓤 H A) (f : Name) where
-    walks : (C : Calls 𝓤 H) (Λ : Loops 𝓤 H) → FmC 𝓤 H (W .laws) C → Triple 𝓤 (C f) Setter → Walks 𝓤 H A (in-place w) (stayed w) (WpFn 𝓤 H C Λ (thin w f)) (in-place-says w 𝓤 Q)
+    walks : (C : Calls 𝓤 H) (Λ : Loops 𝓤 H) → FmC 𝓤 H (W .laws) C → Triple 𝓤 (C f) Setter → Walks 𝓤 H A (in-place w) (stayed w) (WpFn 𝓤 H C Λ (thin w f)) (in-place-says w 𝓤 setOf)
     walks C Λ fm known =
-        walked 𝓤 H A (in-place w) (stayed w) (in-place-says w 𝓤 Q) (WpFn 𝓤 H C Λ (thin w f)) (λ κs. (ptr-vals, (uint-vals w, tt))) (λ κs. (mut-tells (named 0) (κs .0) P.the-row, (uint-tells w, tt)))
+        walked 𝓤 H A (in-place w) (stayed w) (in-place-says w 𝓤 setOf) (WpFn 𝓤 H C Λ (thin w f)) (λ κs. (ptr-vals, (uint-vals w, tt))) (λ κs. (mut-tells (named 0) (κs .0) P.the-row, (uint-tells w, tt)))
         (λ κs qs bounds a g are. via 𝓤 _ (fst∗ 𝓤 _ (emp 𝓤)) (walk W (κs .0) (qs .0) (a .0 .ptr .0) (a .0 .ptr .1) (a .0 .name) (a .0 .now) (a .1 .0) (are .1 .0 .1) f C Λ fm known))
 
     goes : AllGo 𝓤 H A W 1 (in-place w .signature .params) (in-place w .kept) (stayed w)
     goes = (goes-ref 𝓤 H A W 1 0 tt (plain (λ _. P.the-row)), (goes-none 𝓤 H A W 1 (λ _. UInt w) yes (λ κs x f. refl), tt))
 
-    -- the law: where the setter f by value answers what `setOf` says, the code over f meets every contract Q that `InPlace` shows
-    pub thin-meets : (𝓣 : Tables 𝓤 H) → Triple 𝓤 (𝓣 .C f) Setter → Meets 𝓤 H A (in-place w .signature) (WpFn 𝓤 H (𝓣 .C) (𝓣 .Λ) (thin w f)) (closing 𝓤 H A (in-place w) (in-place-says w 𝓤 Q))
-    thin-meets 𝓣 known = walk-meets 𝓤 H A (in-place w) (stayed w) W goes (in-place-says w 𝓤 Q) (WpFn 𝓤 H (𝓣 .C) (𝓣 .Λ) (thin w f)) (WpFn-mono 𝓤 H (W .laws) 𝓣 (thin w f)) (walks (𝓣 .C) (𝓣 .Λ) (fmOf 𝓤 H (W .laws) 𝓣) known)
+    -- the law: where the setter f by value answers what `setOf` says, the code over f does `InPlace` of that answer
+    pub thin-meets : (𝓣 : Tables 𝓤 H) → Triple 𝓤 (𝓣 .C f) Setter → Meets 𝓤 H A (in-place w .signature) (WpFn 𝓤 H (𝓣 .C) (𝓣 .Λ) (thin w f)) (closing 𝓤 H A (in-place w) (in-place-says w 𝓤 setOf))
+    thin-meets 𝓣 known = walk-meets 𝓤 H A (in-place w) (stayed w) W goes (in-place-says w 𝓤 setOf) (WpFn 𝓤 H (𝓣 .C) (𝓣 .Λ) (thin w f)) (WpFn-mono 𝓤 H (W .laws) 𝓣 (thin w f)) (walks (𝓣 .C) (𝓣 .Λ) (fmOf 𝓤 H (W .laws) 𝓣) known)
