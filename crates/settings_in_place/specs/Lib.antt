@@ -1,2 +1,3 @@
--- What the setters on the caller's record promise.
+-- Definitions first: what the setters on the caller's record promise. Then its laws.
 pub mod InPlace
+pub mod Laws

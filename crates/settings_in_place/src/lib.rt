@@ -13,8 +13,8 @@ pub fn set_slot_bits(p: &mut Parameters, slot_bits: u16) -> u8
 {
     let changed = Parameters::slot_bits(*p, slot_bits);
     match changed {
-        Changed::Accepted(set) => {
-            *p = set;
+        Changed::Accepted(with_slot) => {
+            *p = with_slot;
             0
         }
         Changed::Refused(number, _) => number,
@@ -28,8 +28,8 @@ pub fn set_highest_station_address(p: &mut Parameters, hsa: u8) -> u8
 {
     let changed = Parameters::highest_station_address(*p, hsa);
     match changed {
-        Changed::Accepted(set) => {
-            *p = set;
+        Changed::Accepted(with_hsa) => {
+            *p = with_hsa;
             0
         }
         Changed::Refused(number, _) => number,
@@ -42,8 +42,8 @@ pub fn set_token_rotation_bits(p: &mut Parameters, ttr: u32) -> u8
 {
     let changed = Parameters::token_rotation_bits(*p, ttr);
     match changed {
-        Changed::Accepted(set) => {
-            *p = set;
+        Changed::Accepted(with_rotation) => {
+            *p = with_rotation;
             0
         }
         Changed::Refused(number, _) => number,
