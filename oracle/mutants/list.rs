@@ -230,8 +230,6 @@ pub const PLANTED: &[Planted] = &[
     // The settings as no trace makes them.
     settings("assert!(address <= 125);", "assert!(address <= 126);"),
     settings("assert!(slot_bits >= min_slot_bits(self.0.baudrate));", "assert!(slot_bits + 1 >= min_slot_bits(self.0.baudrate));"),
-    // shown by the setters that are called one after another on one record alone
-    settings("self.0.slot_bits = slot_bits;", "self.0.slot_bits = slot_bits;\n        self.0.token_rotation_bits = 32436;"),
     settings("hsa <= 126);\n        self", "hsa <= 127);\n        self"),
     settings("u32::from(hsa) * 5000", "u32::from(hsa) * 4999"),
     settings("ttr <= 16_777_960", "ttr <= 16_777_961"),
@@ -447,4 +445,6 @@ pub const PLANTED: &[Planted] = &[
         "        self.micros = (self.micros - time.micros as i64).max(0);",
         "a clock is never below zero, so a hold that ended below zero and one that ended at zero are both over"),
     planted("time", "micros: self.micros + time.micros as i64", "micros: self.micros + time.micros as i64 + 1"),
+    // shown by the setters that are called one after another on one record alone
+    settings("self.0.slot_bits = slot_bits;", "self.0.slot_bits = slot_bits;\n        self.0.token_rotation_bits = 32436;"),
 ];
