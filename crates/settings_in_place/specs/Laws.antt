@@ -9,7 +9,7 @@ use Rattle.settings.specs.declared.Changed.{Changed}
 use Rattle.settings.specs.declared.Changed.the-variants as changed
 use Rattle.settings.specs.Settings.{changedSettings, unless, slotBitsOf, hsaOf, rotationOf}
 use Rattle.settings.specs.Made.{MadeSettings, by-slot-bits, by-hsa, by-rotation}
-use Rattle.settings_in_place.specs.InPlace.{leftBy, InPlace}
+use Rattle.settings_in_place.specs.InPlace.{leftBy}
 
 -- a setter that refuses with n, or that sets the settings: the record left is the one that its answer carries
 carried : (n : ℕ) (p set : Parameters) → leftBy (unless n p (changed.Accepted set)) p ≡ changedSettings (unless n p (changed.Accepted set))
