@@ -34,8 +34,10 @@ def calls_of(crate):
 
 
 def is_claim(item, contract):
-    """Does this item of a specs file claim that a contract allows one result: by the word Determined, or by an equation between
-    two that it allows?"""
+    """Does this item of a specs file claim that a contract allows one result: by the word Determined, by the word DeterminedLeft
+    of a contract that the program logic alone reads, or by an equation between two that it allows?"""
+    if re.fullmatch(rf"pub \S+ : DeterminedLeft {re.escape(contract)}\.ended \(λ M\. {re.escape(contract)}\.clauses\)", item):
+        return True
     word = re.escape(contract) + r"\.Post"
     spoken = re.findall(rf"(?<!\S){word}(?!\S)", item)
     return bool(re.fullmatch(rf"pub \S+ : Determined {word}", item)) or item.startswith("pub ") and len(spoken) == 2 and "≡" in item
@@ -52,7 +54,7 @@ def claims():
         text = "\n".join(line for line in read(path) if line and not line.lstrip().startswith("--"))
         items = re.split(r"\n(?=\S)", text)
         for item in items:
-            use = re.fullmatch(r"use Rattle·(\w+)\.proofs\.([\w.]+)\.Reads as (\S+)", item)
+            use = re.fullmatch(r"use Rattle·(\w+)\.proofs\.([\w.]+?)(?:\.Reads)? as (\S+)", item)
             if use:
                 call = f"{use[1]}.{use[2]}"
                 if call in named:

@@ -445,4 +445,6 @@ pub const PLANTED: &[Planted] = &[
         "        self.micros = (self.micros - time.micros as i64).max(0);",
         "a clock is never below zero, so a hold that ended below zero and one that ended at zero are both over"),
     planted("time", "micros: self.micros + time.micros as i64", "micros: self.micros + time.micros as i64 + 1"),
+    // shown by the setters that are called one after another on one record alone
+    settings("self.0.slot_bits = slot_bits;", "self.0.slot_bits = slot_bits;\n        self.0.token_rotation_bits = 32436;"),
 ];

@@ -110,6 +110,40 @@ fn setter_lines() -> Vec<String> {
     lines
 }
 
+/// The setters on the caller's record at the same boundaries. The published setters all work on the builder's own record, so
+/// that what they answer is what the setters by value are held to.
+fn in_place_lines() -> Vec<String> {
+    let in_place = ["slot_bits ", "highest_station_address ", "token_rotation_bits "];
+    let lines = setter_lines().into_iter().filter(|line| in_place.iter().any(|name| line.starts_with(name)));
+    lines.map(|line| format!("set_{}", line)).collect()
+}
+
+/// One builder that is set again and again. A call that panics on a new builder is refused, and is not made on this one: the
+/// published `slot_bits` would leave the refused value there.
+fn one_record_lines(mut b: ParametersBuilder) -> Vec<String> {
+    let [slot, hsa, rotation, ..] = SETTERS;
+    let calls: [(Setter, u64); 8] = [
+        (slot, 300),
+        (hsa, 20),
+        (rotation, 255),
+        (rotation, 50_000),
+        (slot, 199),
+        (hsa, 5),
+        (hsa, 126),
+        (slot, 65_535),
+    ];
+    let line = |((name, number, set), value): (Setter, u64)| {
+        let words = if tried(|| set(&mut builder(5, 6), value).build()).is_some() {
+            set(&mut b, value);
+            "accepted".to_string()
+        } else {
+            format!("refused {}", number)
+        };
+        format!("set_{} {}: {}{}", name, value, words, record(&b.build()))
+    };
+    calls.map(line).into()
+}
+
 fn slot_check_line(max_tsdr: u16) -> String {
     let b = builder(5, 6);
     let master = dp::DpMaster(vec![dp::Peripheral(dp::Options { max_tsdr })]);
@@ -194,5 +228,7 @@ pub fn table() -> String {
     b.watchdog_timeout(Duration::from_millis(10000));
     lines.push(times_line(&b.build()));
     lines.extend(whole_lines(b.build()));
+    lines.extend(in_place_lines());
+    lines.extend(one_record_lines(b));
     lines.join("\n") + "\n"
 }

@@ -1,7 +1,12 @@
-// Prints, from the proved calls of bit_times, settings_watchdog, settings and settings_build: document 01's watchdog lines, 33 bits
-// at each baud code, and each boundary of new and of each setter, the last value accepted and the first refused, with the
-// settings after it. A line ends with the ten numbers of the settings: address, baud code, slot bits, rotation bits, gap
-// wait, highest station address, retry limit, min Tsdr and the two watchdog factors. It leans on these four and on io.
+// Prints, from the proved calls of bit_times, settings_watchdog, settings, settings_in_place and settings_build: document 01's
+// watchdog lines, 33 bits at each baud code, and each boundary of new and of each setter, the last value accepted and the
+// first refused, with the settings after it; last, the setters on the caller's record at the same boundaries, and some of
+// them one after another on one record. A line ends with the ten numbers of the settings: address, baud code, slot bits,
+// rotation bits, gap wait, highest station address, retry limit, min Tsdr and the two watchdog factors. It leans on these
+// five and on io.
+ghost use mathlib.Core.Path.{_≡_};
+ghost use Rattle.settings.specs.Settings.{slotBitsOf, hsaOf, rotationOf};
+ghost use Rattle.settings_in_place.specs.InPlace.{InPlace};
 use bit_times::Bits;
 use bit_times::Coded;
 use libc::STDOUT_FILENO;
@@ -351,6 +356,136 @@ fn whole_lines(f: PlainSettings) {
     whole(g);
 }
 
+// What a setter on the caller's record came to: its number, and the settings that it left.
+struct Left {
+    number: u8,
+    settings: Parameters,
+}
+
+// The slot setter on a record that is lent to it.
+fn slot_lent(mut p: Parameters, slot_bits: u16) -> Left
+    ensures { λ r. ⌜ InPlace p (slotBitsOf p «slot_bits») (r .number) (r .settings) ⌝ }
+{
+    let number = settings_in_place::set_slot_bits(&mut p, slot_bits);
+    Left {
+        number,
+        settings: p,
+    }
+}
+
+// The HSA setter on a record that is lent to it.
+fn hsa_lent(mut p: Parameters, hsa: u8) -> Left
+    ensures { λ r. ⌜ InPlace p (hsaOf p hsa) (r .number) (r .settings) ⌝ }
+{
+    let number = settings_in_place::set_highest_station_address(&mut p, hsa);
+    Left {
+        number,
+        settings: p,
+    }
+}
+
+// The rotation setter on a record that is lent to it.
+fn rotation_lent(mut p: Parameters, ttr: u32) -> Left
+    ensures { λ r. ⌜ InPlace p (rotationOf p ttr) (r .number) (r .settings) ⌝ }
+{
+    let number = settings_in_place::set_token_rotation_bits(&mut p, ttr);
+    Left {
+        number,
+        settings: p,
+    }
+}
+
+// What a setter on the caller's record came to; the settings that it left are given back.
+fn after(answer: Left) -> Parameters {
+    if answer.number == 0 {
+        text(b"accepted");
+    } else {
+        refused(answer.number);
+    }
+    let p = answer.settings;
+    record(p);
+    p
+}
+
+fn set_slot(p: Parameters, bits: u16) -> Parameters {
+    text(b"set_slot_bits ");
+    number(bits as u64);
+    text(b": ");
+    after(slot_lent(p, bits))
+}
+
+fn set_hsa(p: Parameters, hsa: u8) -> Parameters {
+    text(b"set_highest_station_address ");
+    number(hsa as u64);
+    text(b": ");
+    after(hsa_lent(p, hsa))
+}
+
+fn set_rotation(p: Parameters, bits: u32) -> Parameters {
+    text(b"set_token_rotation_bits ");
+    number(bits as u64);
+    text(b": ");
+    after(rotation_lent(p, bits))
+}
+
+// The slot bits at a baud code, on the caller's record.
+fn slot_in_place(code: u8, refused: u16, accepted: u16) {
+    let Created::Accepted(p) = Parameters::new(5, code) else {
+        return;
+    };
+    set_slot(p, refused);
+    set_slot(p, accepted);
+}
+
+// The highest station address of a station with this address, on the caller's record.
+fn hsa_in_place(address: u8, hsa: u8) {
+    let Created::Accepted(p) = Parameters::new(address, 6) else {
+        return;
+    };
+    set_hsa(p, hsa);
+}
+
+// The setters on the caller's record, at the boundaries of the setters by value.
+fn in_place_lines(p: Parameters) {
+    slot_in_place(0, 99, 100);
+    slot_in_place(1, 99, 100);
+    slot_in_place(2, 99, 100);
+    slot_in_place(3, 99, 100);
+    slot_in_place(4, 99, 100);
+    slot_in_place(5, 99, 100);
+    slot_in_place(6, 199, 200);
+    slot_in_place(7, 299, 300);
+    slot_in_place(8, 399, 400);
+    slot_in_place(9, 599, 600);
+    slot_in_place(10, 999, 1000);
+    slot_in_place(10, 0, 65535);
+    hsa_in_place(5, 5);
+    hsa_in_place(5, 6);
+    hsa_in_place(5, 126);
+    hsa_in_place(5, 127);
+    hsa_in_place(0, 0);
+    hsa_in_place(0, 1);
+    hsa_in_place(125, 125);
+    hsa_in_place(125, 126);
+    hsa_in_place(125, 255);
+    set_rotation(p, 255);
+    set_rotation(p, 256);
+    set_rotation(p, 16777960);
+    set_rotation(p, 16777961);
+}
+
+// One record that is set in place again and again: a refused call leaves what was set before.
+fn one_record_lines(p: Parameters) {
+    let mut q = set_slot(p, 300);
+    q = set_hsa(q, 20);
+    q = set_rotation(q, 255);
+    q = set_rotation(q, 50000);
+    q = set_slot(q, 199);
+    q = set_hsa(q, 5);
+    q = set_hsa(q, 126);
+    set_slot(q, 65535);
+}
+
 // The settings of document 01's example: address 5, code 6; then the same with a watchdog of ten seconds.
 fn main() {
     watchdog_lines();
@@ -370,4 +505,6 @@ fn main() {
     };
     times(q);
     whole_lines(PlainSettings::of_parameters(q));
+    in_place_lines(p);
+    one_record_lines(q);
 }

@@ -3,6 +3,7 @@ pub mod Claim
 pub mod BitTimes
 pub mod SettingsWatchdog
 pub mod Settings
+pub mod SettingsInPlace
 pub mod SettingsBuild
 pub mod RingAddresses
 pub mod Ring
