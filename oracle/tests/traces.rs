@@ -1,6 +1,7 @@
-//! Document 01's examples 9 to 12 through the oracle, the published calls that the replay does not make, the programs, and
-//! that the comparison can fail.
+//! Document 01's examples 9 to 12 through the oracle, document 02's times, the published calls that the replay does not
+//! make, the programs, and that the comparison can fail.
 
+use oracle::baud::{Baudrate, BAUDRATES};
 use oracle::comparison::compare::compare_traces;
 use oracle::comparison::{hex, run::Replay};
 use oracle::fdl::{FdlActiveStation, FdlApplication};
@@ -36,6 +37,18 @@ fn until_sent(runner: &mut Runner, clock: &mut u64) -> (Sent, u8) {
         if answer.sent != Sent::Nothing {
             return (answer.sent, answer.state);
         }
+    }
+}
+
+/// Document 02, P3: 33 bits at each code; at 12 Mbaud, whole microseconds, one bit more, and the most bits that can be asked.
+#[test]
+fn times_of_bits_are_rounded_up() {
+    let pauses = [3438, 1719, 1056, 727, 352, 176, 66, 22, 11, 6, 3];
+    for ((baudrate, _), pause) in BAUDRATES.iter().zip(pauses) {
+        assert_eq!(baudrate.bits_to_time(33).total_micros(), pause, "{:?}", baudrate);
+    }
+    for (bits, time) in [(0, 0), (1, 1), (12, 1), (13, 2), (24, 2), (25, 3), (u32::MAX, 357_913_942)] {
+        assert_eq!(Baudrate::B12000000.bits_to_time(bits).total_micros(), time, "{} bits", bits);
     }
 }
 

@@ -64,7 +64,7 @@ leftBy trace = leftOn (startOf (traceBytes trace)) (trace .entries)
 pub data Row : Type 0 where
   -- (1..6) a watchdog time in milliseconds, and its factors or refusal
   factors : ℕ → Factored → Row
-  -- (7) bits at a baud code, and their microseconds
+  -- (7, as document 02, P3, has it) bits at a baud code, and their microseconds
   time : ℕ → ℕ → ℕ → Row
   -- (the sentence before the list) the slot time and the time after which the token counts as lost, in microseconds
   slot : ℕ → Row
@@ -242,7 +242,8 @@ abbrev pub AllHold : List Row → Type 0
 AllHold [] = Unit {0}
 AllHold (row ∷ rows) = Holds row × AllHold rows
 
--- the table: the times of the sentence before the list (1 bit is 2 µs, slot 400, pause 66, lost 6,400), then examples 1 to 12
+-- the table: the times of the sentence before the list (1 bit is 2 µs, slot 400, pause 66, lost 6,400), then examples 1 to 12,
+-- 7 as document 02, P3, has it
 abbrev pub table : List Row
 table =
     time 1 6 2
@@ -255,7 +256,7 @@ table =
     ∷ factors 10000 (factored.Factors 4 250)
     ∷ factors 650250 (factored.Factors 255 255)
     ∷ factors 650260 (factored.Refused 9)
-    ∷ time 33 10 2
+    ∷ time 33 10 3
     ∷ walk 5 (Waiting 11) (DoPoll 6) (sent.StatusRequest 6)
     ∷ walk 125 (DoPoll 125) (DoPoll 0) (sent.StatusRequest 0)
     ∷ walk 4 (DoPoll 4) (Waiting 0) (sent.Token 5)

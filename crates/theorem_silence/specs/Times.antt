@@ -6,7 +6,7 @@ use native.Mathlib.Omega.{arith}
 use borrow.Author.Tests.{le-leb, lt-leb, leb-true}
 use Rattle.bit_times.specs.declared.Micros.{Micros}
 use Rattle.bit_times.specs.Times.{pauseBits, leastSlotBits, timeOf}
-use Rattle.bit_times.specs.Laws.{listed, time-grows}
+use Rattle.bit_times.specs.Laws.{listed, time-some, time-grows}
 use Rattle.settings.specs.declared.Parameters.{Parameters}
 use Rattle.ring_addresses.specs.SetLaws.{true≢false}
 use Rattle.station.specs.declared.Activity.{Activity}
@@ -14,7 +14,6 @@ use Rattle.station.specs.declared.Activity.the-variants as activity
 use Rattle.station.specs.declared.Core.{Core}
 use Rattle.station.specs.Parts.{withActivity}
 use Rattle.station.specs.Steps.{knownAt, elapsedOf, busyOf, waitedOf, pauseOf, slotExpiredOf}
-use Rattle.theorem_sound.specs.Keeps.{time-some}
 use Rattle.theorem_silence.specs.Silence.{slotAfter}
 use Rattle.settings.specs.Rules.{slotBitsRefusal}
 use Rattle.settings.specs.RuleLaws.{below-in}

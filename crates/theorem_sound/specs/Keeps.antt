@@ -1,18 +1,14 @@
--- What a step leans on beside the moves: a sound ring with the station's own address, which the ring's calls keep, what the fields of a
--- record are below, and how long bits take.
+-- What a step leans on beside the moves: a sound ring with the station's own address, which the ring's calls keep, and what the fields of a
+-- record are below.
 use Prim.Native.Nat.{ℕ, _+_, _*_, _<_, _≤_}
 use mathlib.Core.Bool.{Bool, true, false, cond}
 use mathlib.Core.List.{List}
 use mathlib.Core.Path.{_≡_, refl, _∙_}
 use native.Mathlib.Omega.{arith}
-use native.Mathlib.Nat.{le-div-iff-mul-le}
 use lib.ListN.{length}
 use lib.Dec.{ltb}
 use Rattle.codec_fields.specs.Fields.{fieldOf, bitAt}
 use Rattle.codec_fields.specs.Widths.{field-below}
-use Rattle.bit_times.specs.declared.Baud.{Baud}
-use Rattle.bit_times.specs.Times.{rateOf, rounded, timeOf}
-use Rattle.bit_times.specs.Laws.{listed}
 use Rattle.settings.specs.declared.Parameters.{Parameters}
 use Rattle.ring.specs.declared.Ring.{Ring}
 use Rattle.ring.specs.declared.GapState.{GapState}
@@ -41,14 +37,6 @@ either P false x y px py = py
 pub decided : {A : Type 0} (P : A → Type 0) (b : Bool) (x y : A) → (b ≡ true → P x) → (b ≡ false → P y) → P (cond b x y)
 decided P true x y px py = px refl
 decided P false x y px py = py refl
-
--- twelve bits take some time at every rate
-pub time-some : (a : ℕ) (baud : Baud) → 12 ≤ a → 1 ≤ timeOf (record { 0 = a }) baud .0
-unfolding timeOf rounded
-time-some a baud l =
-    let some : 0 < rateOf baud = omega (arith, listed baud .slowest) in
-    let whole : 1 * rateOf baud ≤ a * 1000000 = omega (arith, listed baud .fastest) in
-    le-div-iff-mul-le some .1 whole
 
 -- a telegram of a record has low addresses
 pub telegram-low : (bytes : List ℕ) (n j : ℕ) → TelegramFits (telegramAt bytes n j)

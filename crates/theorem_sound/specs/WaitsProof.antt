@@ -1,13 +1,17 @@
--- The two theorems of Waits.antt: from the steps (Guarded) to the calls.
-use Prim.Native.Nat.{ℕ, _+_, _<_, _≤_}
+-- The theorems of Waits.antt: from the steps (Guarded) to the calls.
+use Prim.Native.Nat.{ℕ, _+_, _*_, _<_, _≤_}
 use mathlib.Core.Bool.{Bool, true, false, cond}
 use mathlib.Core.Path.{_≡_, refl, sym, subst}
 use mathlib.Core.Logic.{_⊎_, inl, inr}
 use mathlib.Core.List.{List, [], _∷_}
 use native.Mathlib.Omega.{arith}
+use native.Mathlib.Nat.{add-mul, mul-le-mul-right}
 use borrow.Author.Tests.{leb-true, leb-false}
 use lib.Dec.{ltb, eqb, lit≤}
 use Rattle.bit_times.specs.declared.Micros.{Micros}
+use Rattle.bit_times.specs.declared.Baud.{Baud}
+use Rattle.bit_times.specs.Times.{rateOf, timeOf}
+use Rattle.bit_times.specs.Laws.{time-lasts, time-some}
 use Rattle.settings.specs.declared.Parameters.{Parameters}
 use Rattle.settings.specs.Settings.{slotTimeOf}
 use Rattle.settings.specs.Rules.{applicationsRefusal}
@@ -32,11 +36,11 @@ use Rattle.station_answer.specs.Answer.{stepAnswer, polledOf, refusedPoll}
 use Rattle.station_poll.specs.Poll.{connectedOf, dispatchOf, pollOnline, pollInner, acceptedAfter, acceptedPoll, pollOf}
 use Rattle.theorem_sound.specs.Moves.{lists, Known}
 use Rattle.theorem_sound.specs.Kept.{not-true, known-from}
-use Rattle.theorem_sound.specs.Keeps.{either, time-some}
+use Rattle.theorem_sound.specs.Keeps.{either}
 use Rattle.theorem_sound.specs.Sound.{SoundStation, Call, poll, online, offline, passive, after, clockOf, new-sound, call-sound}
 use Rattle.station_command.specs.Command.{onlineOf, offlineOf, passiveOf}
 use Rattle.theorem_sound.specs.Fits.{answerTo}
-use Rattle.theorem_sound.specs.Waits.{Sends, TellsTimeout, Since, syncPause, PauseKept, waiting, SlotWaited, SlotKept, Throughout, NoSendBeforePause, NoRetryBeforeSlot}
+use Rattle.theorem_sound.specs.Waits.{Sends, TellsTimeout, Since, syncPause, PauseKept, BitsSince, BitsKept, waiting, SlotWaited, SlotKept, Throughout, NoSendBeforePause, NoSendBefore33Bits, NoRetryBeforeSlot}
 use Rattle.theorem_sound.specs.Guarded.{Guarded, Told, weaken, retold, done-guarded, done-told, dispatch-guarded, slot-guarded, slot-told}
 
 -- an activity that a poll does not find going on lies before its clock
@@ -197,6 +201,14 @@ pause-kept s online x = absurd (x (online-silent s .0))
 pause-kept s offline x = absurd (x (offline-silent s .0))
 pause-kept s passive x = absurd (x (passive-silent s .0))
 
+-- a time of bits that is over: the bits have gone by to the full, since their time is never shorter than they last
+bits-since : (a : Activity) (now : Micros) (baud : Baud) (bits : ℕ) → Since a now (timeOf (record { 0 = bits }) baud) → BitsSince a now baud bits
+bits-since a now baud bits w =
+    record { last = w .last; known = w .known; lasted = omega (arith, time-lasts (record { 0 = bits }) baud .not-shorter, add-mul (w .last .0) (timeOf (record { 0 = bits }) baud .0) (rateOf baud), mul-le-mul-right (rateOf baud) (w .passed)) }
+
+bits-kept : (s : Station) (c : Call) → BitsKept s c
+bits-kept s c x = bits-since _ _ (s .p .baudrate) 33 (pause-kept s c x)
+
 -- every poll of a sound station that waits for another keeps the slot
 known-waiting : (s : Station) → SoundStation s → lists waiting (stateNumber (s .state)) ≡ true → Known (s .core .«last_bus_activity»)
 known-waiting s w i = known-from waiting (s .state) _ refl refl i (w .core-sound .activity-known)
@@ -237,6 +249,9 @@ throughout-new P k p n cs l e = throughout P k cs (freshStation p n) (new-sound 
 -- The theorems.
 pub no-send-before-pause : NoSendBeforePause
 no-send-before-pause = throughout-new PauseKept (λ s c w. pause-kept s c)
+
+pub no-send-before-33-bits : NoSendBefore33Bits
+no-send-before-33-bits = throughout-new BitsKept (λ s c w. bits-kept s c)
 
 pub no-retry-before-slot : NoRetryBeforeSlot
 no-retry-before-slot = throughout-new SlotKept slot-kept

@@ -1,4 +1,4 @@
-//! Document 01, "Time": the baud table and the one conversion.
+//! Document 01, "Time": the baud table and the one conversion, which document 02, P3, rounds up.
 
 use crate::time::Duration;
 
@@ -43,9 +43,12 @@ impl Baudrate {
         self as usize
     }
 
-    /// "Time of b bits = b × 1,000,000 / baud, rounded down."
+    /// "Time of b bits = b × 1,000,000 / baud", and of document 02, P3: "Times worked out from bits are to be rounded up".
+    /// So a microsecond that has begun counts as a whole one.
     pub fn bits_to_time(self, bits: u32) -> Duration {
-        Duration::from_micros(u64::from(bits) * 1_000_000 / BAUDRATES[self.code()].1)
+        let (product, rate) = (u64::from(bits) * 1_000_000, BAUDRATES[self.code()].1);
+        let begun = u64::from(product % rate != 0);
+        Duration::from_micros(product / rate + begun)
     }
 }
 

@@ -10,6 +10,7 @@ mod night;
 mod refusals;
 mod ring;
 mod story;
+mod twelve_mbaud;
 
 use std::path::{Path, PathBuf};
 use story::Story;
@@ -42,6 +43,7 @@ fn stories() -> Vec<Story> {
     all.extend(applications::stories());
     all.extend(bus::stories());
     all.push(fine_points::story());
+    all.push(twelve_mbaud::story());
     all.extend(refusals::stories());
     all
 }

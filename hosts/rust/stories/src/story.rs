@@ -1,4 +1,4 @@
-//! A trace with its story: each entry stands beside the answer that document 01 and the Rust ask for, and the reason.
+//! A trace with its story: each entry stands beside the answer that documents 01 and 02 and the Rust ask for, and the reason.
 //!
 //! The answers are statements of their own, written down field by field. Nothing here works out what a station does.
 
@@ -342,7 +342,7 @@ impl Story {
         text.push_str(&format!("{}.\n\n", settings(&self.header)));
         if !self.lines.is_empty() {
             text.push_str(
-                "Entry by entry: what happens, why, and the answer that document 01 and the Rust ask for. The first word\n\
+                "Entry by entry: what happens, why, and the answer that the documents and the Rust ask for. The first word\n\
                  of an answer is its outcome, the second the state after the entry; fields that are zero are left out.\n\n",
             );
         }
