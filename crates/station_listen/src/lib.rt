@@ -1,5 +1,5 @@
-// Listening: what a station without the token does. From profirust's active.rs, in its order: do_listen_token and
-// do_active_idle, each of which begins with handle_lost_token. It leans on station_hear_listen and station_hear_active for one telegram heard, on
+// Listening: what a station without the token does. From profirust's active.rs, in its order: do_listen_token and do_active_idle,
+// each of which begins with handle_lost_token. It leans on station_hear_listen and station_hear_active for one telegram heard, on
 // station_claim for a lost token, on codec_records for what was received, on station and ring.
 ghost use mathlib.Core.Path.{_≡_};
 ghost use Prim.Native.Nat.{_<_, _^_};
