@@ -1337,7 +1337,7 @@ fn bad_input_is_one_line() {
 /// The program draws what the library draws, under the name of the trace's file, with the notes beside it.
 #[test]
 fn the_program_names_the_picture_after_the_file() {
-    let folder = std::env::temp_dir().join(format!("amsulfezd-picture-{}", std::process::id()));
+    let folder = std::env::temp_dir().join(format!("amsulfezd-named-{}", std::process::id()));
     std::fs::create_dir_all(&folder).expect("a folder");
     let file = folder.join("a & b.trace");
     let mut replay = stored_replay("night");
