@@ -79,10 +79,6 @@ askedFrom (suc k) bytes n a first high =
 unfoldable pub askedOf : List ℕ → ℕ → ℕ → OptionApplication → Bool → Asked
 askedOf bytes n a first high = askedFrom n bytes n a first high
 
--- what a gap poll may take besides its slot, in bits
-abbrev pub gapAllowance : ℕ
-gapAllowance = 100
-
 -- do_use_token: the time of a gap poll, slot bits + 100, is taken off while the gap is polled
 unfoldable pub holdLess : Parameters → GapState → Micros
 holdLess p (Waiting count) = zeroTime
