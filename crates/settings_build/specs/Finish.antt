@@ -1,24 +1,28 @@
--- Settings finished: what `finish` answers of settings as calls make them, and that the order of setting does not matter.
+-- Settings finished: what `finish` answers of settings as calls make them, that the order of setting does not matter, and the site's case.
 use Prim.Native.Nat.{ℕ, _+_, _<_, _≤_}
 use mathlib.Core.Bool.{true, false}
 use mathlib.Core.Path.{_≡_, refl, sym, ap, _∙_}
 use mathlib.Core.Logic.{_↔_}
 use native.Mathlib.Omega.{arith}
-use borrow.Author.Tests.{eqb-true, eqb-false, le-leb, lt-leb, leb-true, leb-false}
+use borrow.Author.Tests.{eqb-true, le-leb, lt-leb, leb-true, leb-false}
 use borrow.Table.Steps.{cases}
 use lib.Dec.{leb, eqb}
-use Rattle.bit_times.specs.Times.{leastSlotBits}
 use Rattle.bit_times.specs.declared.Baud.the-variants as baud
+use Rattle.bit_times.specs.declared.Coded.{Coded}
+use Rattle.bit_times.specs.declared.Coded.the-variants.{Rate, Unknown}
+use Rattle.bit_times.specs.Times.{baudOf}
+use Rattle.bit_times.specs.Laws.{listed}
 use Rattle.settings_watchdog.specs.declared.WatchdogFactors.the-variants as wf
 use Rattle.settings.specs.declared.Parameters.{Parameters}
+use Rattle.settings.specs.declared.Created.the-variants as created
 use Rattle.settings.specs.declared.Changed.{Changed}
 use Rattle.settings.specs.declared.Changed.the-variants as changed
-use Rattle.settings.specs.Rules.{refuseBelow, slotBitsRefusal, hsaRefusal, rotationRefusal, roomRefusal}
-use Rattle.settings.specs.Settings.{changedNumber, changedSettings, unless, slotBitsOf, hsaOf, rotationOf}
-use Rattle.settings.specs.Made.{MadeSettings, made-sound}
+use Rattle.settings.specs.Rules.{refuseBelow, refuseOutside, addressRefusal, baudRefusal, slotBitsRefusal, hsaRefusal, rotationRefusal, roomRefusal, gapWaitRefusal, retryRefusal, minTsdrRefusal, factorsRefusal}
+use Rattle.settings.specs.Settings.{changedNumber, changedSettings, defaultOf, newAt, newOf, unless, slotBitsOf, hsaOf, rotationOf}
+use Rattle.settings.specs.Made.{MadeSettings, by-new, made-sound}
 use Rattle.settings.specs.Numbers.{unless-number}
 use Rattle.settings_build.specs.declared.PlainSettings.{PlainSettings}
-use Rattle.settings_build.specs.Build.{firstRefusal, plainOf, finishOf}
+use Rattle.settings_build.specs.Build.{earlyRefusal, firstRefusal, plainOf, finishOf}
 use Rattle.settings_build.specs.Built.{Built, built-passes}
 use Rattle.settings_build.specs.Made.{roomOf, sound-number}
 
@@ -91,6 +95,23 @@ made-finishes {p} m = cases (leb (p .«slot_bits» + 100) (p .«token_rotation_b
         let is : finishOf p ≡ changed.Refused 25 p = rw (without-room _ _ h) at (made-finish m) in
         record { accepted = (λ e. absurd (not-both 25 p p (sym e ∙ is)), λ l. absurd (omega arith)); refused = (λ e. h, λ l. is) }
 
+-- New settings are finished at every baud code: their rotation is 32,436, their slot bits at most 1000.
+default-finished : (address : ℕ) (coded : Coded) (p : Parameters) → newAt address coded ≡ created.Accepted p → p .«slot_bits» + 100 ≤ p .«token_rotation_bits»
+unfolding newAt
+default-finished address (Rate b) p e =
+    let is : defaultOf address b ≡ p = cc in
+    rw (← is) (omega (arith, listed b .slot-top))
+default-finished address Unknown p e = let z : _≡_ {A = ℕ} 0 1 = cc in absurd (omega arith)
+
+pub new-finished : (address code : ℕ) (p : Parameters) → newOf address code ≡ created.Accepted p → finishOf p ≡ changed.Accepted p
+unfolding newOf
+new-finished address code p e =
+    made-finishes (by-new address code e) .accepted .1
+    (cases (eqb (addressRefusal address) 0) (λ t. default-finished address (baudOf code) p (rw t at e)) (λ f. refused (rw f at e)))
+  where
+    refused : created.Refused (addressRefusal address) ≡ created.Accepted p → p .«slot_bits» + 100 ≤ p .«token_rotation_bits»
+    refused s = let z : _≡_ {A = ℕ} 0 1 = cc in absurd (omega arith)
+
 -- Order of setting: however two records were made, by whatever setters in whatever order, if they have the same slot bits and rotation
 -- they finish with the same number; the same record finishes alike.
 pub made-finish-alike :
@@ -111,17 +132,17 @@ made-finish-alike {p} {q} m n s r =
 abbrev settled : ℕ → Parameters → Parameters → Parameters
 settled n p q = changedSettings (unless n p (changed.Accepted q))
 
-set-taken : (n : ℕ) (p q : Parameters) → eqb n 0 ≡ true → settled n p q ≡ q
+set-taken : {n m : ℕ} (p q : Parameters) → n ≡ m → eqb m 0 ≡ true → settled n p q ≡ q
 unfolding unless
-set-taken n p q e = rw e refl
+set-taken p q s e = rw (s, e) refl
 
-set-refused : (n : ℕ) (p q : Parameters) → eqb n 0 ≡ false → settled n p q ≡ p
+set-refused : {n m : ℕ} (p q : Parameters) → n ≡ m → eqb m 0 ≡ false → settled n p q ≡ p
 unfolding unless
-set-refused n p q e = rw e refl
+set-refused p q s e = rw (s, e) refl
 
 -- what a setter leaves alone is the same after it
 kept-by : (n : ℕ) (p q : Parameters) (f : Parameters → ℕ) → f q ≡ f p → f (settled n p q) ≡ f p
-kept-by n p q f e = cases (eqb n 0) (λ t. ap f (set-taken n p q t) ∙ e) (λ t. ap f (set-refused n p q t))
+kept-by n p q f e = cases (eqb n 0) (λ t. ap f (set-taken p q refl t) ∙ e) (λ t. ap f (set-refused p q refl t))
 
 -- two setters, each one rule and what it sets: if neither sets what the other's rule asks, and both set the same in either order, their
 -- order does not matter
@@ -147,28 +168,25 @@ module _ (rule other : Parameters → ℕ) (set put : Parameters → Parameters)
       after-two : Parameters
       after-two = changedSettings (two p)
 
-      -- what is left of the settings q, which one of the two or none has set
-      by-one : (q : Parameters) → rule q ≡ rule p → eqb (rule p) 0 ≡ true → changedSettings (one q) ≡ set q
-      by-one q e t = set-taken (rule q) q (set q) (ap (λ (n : ℕ). eqb n 0) e ∙ t)
+      then-one : {q q' : Parameters} → q ≡ q' → changedSettings (one q) ≡ changedSettings (one q')
+      then-one e = ap (λ (q : Parameters). changedSettings (one q)) e
 
-      not-one : (q : Parameters) → rule q ≡ rule p → eqb (rule p) 0 ≡ false → changedSettings (one q) ≡ q
-      not-one q e t = set-refused (rule q) q (set q) (ap (λ (n : ℕ). eqb n 0) e ∙ t)
-
-      by-two : (q : Parameters) → other q ≡ other p → eqb (other p) 0 ≡ true → changedSettings (two q) ≡ put q
-      by-two q e t = set-taken (other q) q (put q) (ap (λ (n : ℕ). eqb n 0) e ∙ t)
-
-      not-two : (q : Parameters) → other q ≡ other p → eqb (other p) 0 ≡ false → changedSettings (two q) ≡ q
-      not-two q e t = set-refused (other q) q (put q) (ap (λ (n : ℕ). eqb n 0) e ∙ t)
+      then-two : {q q' : Parameters} → q ≡ q' → changedSettings (two q) ≡ changedSettings (two q')
+      then-two e = ap (λ (q : Parameters). changedSettings (two q)) e
 
       same : changedSettings (two after-one) ≡ changedSettings (one after-two)
       same =
           cases (eqb (rule p) 0)
-          (λ a. cases (eqb (other p) 0)
-          (λ b. ap (λ (q : Parameters). changedSettings (two q)) (by-one p refl a) ∙ by-two (set p) o b ∙ c ∙ sym (by-one (put p) r a) ∙ sym (ap (λ (q : Parameters). changedSettings (one q)) (by-two p refl b)))
-          (λ b. ap (λ (q : Parameters). changedSettings (two q)) (by-one p refl a) ∙ not-two (set p) o b ∙ sym (by-one p refl a) ∙ sym (ap (λ (q : Parameters). changedSettings (one q)) (not-two p refl b))))
-          (λ a. cases (eqb (other p) 0)
-          (λ b. ap (λ (q : Parameters). changedSettings (two q)) (not-one p refl a) ∙ by-two p refl b ∙ sym (not-one (put p) r a) ∙ sym (ap (λ (q : Parameters). changedSettings (one q)) (by-two p refl b)))
-          (λ b. ap (λ (q : Parameters). changedSettings (two q)) (not-one p refl a) ∙ not-two p refl b ∙ sym (not-one p refl a) ∙ sym (ap (λ (q : Parameters). changedSettings (one q)) (not-two p refl b))))
+          (λ a.
+          let first = set-taken p (set p) refl a in
+          cases (eqb (other p) 0)
+          (λ b. then-two first ∙ set-taken (set p) _ o b ∙ c ∙ sym (then-one (set-taken p (put p) refl b) ∙ set-taken (put p) _ r a))
+          (λ b. then-two first ∙ set-refused (set p) _ o b ∙ sym (then-one (set-refused p (put p) refl b) ∙ first)))
+          (λ a.
+          let first = set-refused p (set p) refl a in
+          cases (eqb (other p) 0)
+          (λ b. let second = set-taken p (put p) refl b in then-two first ∙ second ∙ sym (then-one second ∙ set-refused (put p) _ r a))
+          (λ b. let second = set-refused p (put p) refl b in then-two first ∙ second ∙ sym (then-one second ∙ first)))
 
 -- slot bits and rotation, set in either order on any settings: both are accepted alike and leave the same record
 pub slot-and-rotation : (slot rotation : ℕ) (p : Parameters) → EitherOrder (λ (q : Parameters). slotBitsOf q slot) (λ (q : Parameters). rotationOf q rotation) p
@@ -179,3 +197,27 @@ slot-and-rotation slot rotation p = either-order _ _ _ _ p refl refl refl
 pub slot-and-hsa : (slot hsa : ℕ) (p : Parameters) → EitherOrder (λ (q : Parameters). slotBitsOf q slot) (λ (q : Parameters). hsaOf q hsa) p
 unfolding slotBitsOf hsaOf
 slot-and-hsa slot hsa p = either-order _ _ _ _ p refl refl refl
+
+-- Document 02's site: rotation 256 with slot 200. Address 5 and baud code 6 are document 01's example; the rest are defaults.
+abbrev pub site : Parameters
+site =
+    record {
+      «token_rotation_bits» = 256;
+      «slot_bits» = 200;
+      address = 5;
+      baudrate = baud.B500000;
+      «gap_wait_rotations» = 10;
+      «highest_station_address» = 126;
+      «max_retry_limit» = 1;
+      «min_tsdr_bits» = 11;
+      «watchdog_factors» = wf.None;
+    }
+
+-- the setters accept it, slot bits first or rotation first; finishing refuses it with 25
+pub site-refused :
+    (slotBitsOf (defaultOf 5 baud.B500000) 200 ≡ changed.Accepted (defaultOf 5 baud.B500000))
+    × (rotationOf (defaultOf 5 baud.B500000) 256 ≡ changed.Accepted site)
+    × (slotBitsOf site 200 ≡ changed.Accepted site)
+    × (finishOf site ≡ changed.Refused 25 site)
+unfolding finishOf unless slotBitsOf rotationOf firstRefusal earlyRefusal plainOf refuseBelow refuseOutside addressRefusal baudRefusal slotBitsRefusal hsaRefusal rotationRefusal roomRefusal gapWaitRefusal retryRefusal minTsdrRefusal factorsRefusal baudOf
+site-refused = (refl, refl, refl, refl)
