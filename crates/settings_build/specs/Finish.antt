@@ -18,7 +18,7 @@ use Rattle.settings.specs.declared.Created.the-variants as created
 use Rattle.settings.specs.declared.Changed.{Changed}
 use Rattle.settings.specs.declared.Changed.the-variants as changed
 use Rattle.settings.specs.Rules.{refuseBelow, refuseOutside, addressRefusal, baudRefusal, slotBitsRefusal, hsaRefusal, rotationRefusal, roomRefusal, gapWaitRefusal, retryRefusal, minTsdrRefusal, factorsRefusal}
-use Rattle.settings.specs.Settings.{changedNumber, changedSettings, defaultOf, newAt, newOf, unless, slotBitsOf, hsaOf, rotationOf}
+use Rattle.settings.specs.Settings.{changedNumber, changedSettings, defaultOf, newAt, newOf, unless, slotBitsOf, hsaOf, rotationOf, gapWaitOf}
 use Rattle.settings.specs.Made.{MadeSettings, by-new, made-sound}
 use Rattle.settings.specs.Numbers.{unless-number}
 use Rattle.settings_build.specs.declared.PlainSettings.{PlainSettings}
@@ -198,7 +198,8 @@ pub slot-and-hsa : (slot hsa : ℕ) (p : Parameters) → EitherOrder (λ (q : Pa
 unfolding slotBitsOf hsaOf
 slot-and-hsa slot hsa p = either-order _ _ _ _ p refl refl refl
 
--- Document 02's site: rotation 256 with slot 200. Address 5 and baud code 6 are document 01's example; the rest are defaults.
+-- Document 02's site: rotation 256 with slot 200. Address 5 and baud code 6 are document 01's example; gap wait 1, so that a run comes
+-- soon to a gap poll; the rest are defaults.
 abbrev pub site : Parameters
 site =
     record {
@@ -206,18 +207,18 @@ site =
       «slot_bits» = 200;
       address = 5;
       baudrate = baud.B500000;
-      «gap_wait_rotations» = 10;
+      «gap_wait_rotations» = 1;
       «highest_station_address» = 126;
       «max_retry_limit» = 1;
       «min_tsdr_bits» = 11;
       «watchdog_factors» = wf.None;
     }
 
--- the setters accept it, slot bits first or rotation first; finishing refuses it with 25
+-- every setter accepts it; finishing refuses it with 25
 pub site-refused :
-    (slotBitsOf (defaultOf 5 baud.B500000) 200 ≡ changed.Accepted (defaultOf 5 baud.B500000))
-    × (rotationOf (defaultOf 5 baud.B500000) 256 ≡ changed.Accepted site)
-    × (slotBitsOf site 200 ≡ changed.Accepted site)
+    (slotBitsOf site 200 ≡ changed.Accepted site)
+    × (rotationOf site 256 ≡ changed.Accepted site)
+    × (gapWaitOf site 1 ≡ changed.Accepted site)
     × (finishOf site ≡ changed.Refused 25 site)
-unfolding finishOf unless slotBitsOf rotationOf firstRefusal earlyRefusal plainOf refuseBelow refuseOutside addressRefusal baudRefusal slotBitsRefusal hsaRefusal rotationRefusal roomRefusal gapWaitRefusal retryRefusal minTsdrRefusal factorsRefusal baudOf
+unfolding finishOf unless slotBitsOf rotationOf gapWaitOf firstRefusal earlyRefusal plainOf refuseBelow refuseOutside addressRefusal baudRefusal slotBitsRefusal hsaRefusal rotationRefusal roomRefusal gapWaitRefusal retryRefusal minTsdrRefusal factorsRefusal baudOf
 site-refused = (refl, refl, refl, refl)

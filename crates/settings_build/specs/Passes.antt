@@ -1,12 +1,14 @@
 -- What the check of a whole record says of each field: no rule refuses it.
+use Prim.Native.Nat.{ℕ, _+_, _<_, _≤_}
 use mathlib.Core.Path.{_≡_}
 use mathlib.Core.List.{List, [], _∷_}
-use Prim.Native.Nat.{ℕ}
+use native.Mathlib.Omega.{arith}
 use Rattle.bit_times.specs.Times.{baudOf}
 use Rattle.settings.specs.Rules.{addressRefusal, baudRefusal, leastOf, slotBitsRefusal, hsaRefusal, rotationRefusal, roomRefusal, gapWaitRefusal, retryRefusal, minTsdrRefusal, factorsRefusal}
-use Rattle.settings.specs.RuleLaws.{none-refuses}
+use Rattle.settings.specs.RuleLaws.{below-in, outside-in, none-refuses}
+use Rattle.settings.specs.declared.Parameters.{Parameters}
 use Rattle.settings_build.specs.declared.PlainSettings.{PlainSettings}
-use Rattle.settings_build.specs.Build.{earlyRefusal, firstRefusal}
+use Rattle.settings_build.specs.Build.{earlyRefusal, firstRefusal, plainOf}
 
 -- no rule refuses a field
 pub record Passes (f : PlainSettings) : Type 0 where
@@ -55,3 +57,16 @@ passes f e =
       min-tsdr = none-refuses (minTsdrRefusal (f .«min_tsdr_bits»)) [] (from-6 .1) .0;
       factors = none-refuses (factorsRefusal (f .«factor_1») (f .«factor_2»)) [] (whole .1) .0;
     }
+
+-- accepted settings, by the numbers: an address up to 125, a rotation up to 16,777,960, and room for a gap poll in it
+pub address-low : (p : Parameters) → firstRefusal (plainOf p) ≡ 0 → p .address < 126
+unfolding plainOf addressRefusal
+address-low p e = omega (arith, outside-in 0 (p .address) 125 1 (omega arith) (passes (plainOf p) e .address) .1)
+
+pub rotation-top : (p : Parameters) → firstRefusal (plainOf p) ≡ 0 → p .«token_rotation_bits» ≤ 16777960
+unfolding plainOf rotationRefusal
+rotation-top p e = outside-in 256 (p .«token_rotation_bits») 16777960 4 (omega arith) (passes (plainOf p) e .rotation) .1
+
+pub rotation-room : (p : Parameters) → firstRefusal (plainOf p) ≡ 0 → p .«slot_bits» + 100 ≤ p .«token_rotation_bits»
+unfolding plainOf roomRefusal
+rotation-room p e = below-in (p .«slot_bits» + 100) (p .«token_rotation_bits») 25 (omega arith) (passes (plainOf p) e .room)

@@ -25,9 +25,9 @@ finished-header p q n e a =
     let whole = none-refuses (earlyRefusal (plainOf p)) (late ∷ []) (finished-passes p q e .0) in
     rw (whole .0, a, none-refuses late [] (whole .1) .0) refl
 
--- the site's header: address 5, code 6, slot 200, rotation 256, the defaults, one application
+-- the site's header: address 5, code 6, slot 200, rotation 256, gap wait 1, the defaults, one application
 abbrev pub siteHeader : List ℕ
-siteHeader = 5 ∷ 6 ∷ 0 ∷ 200 ∷ 0 ∷ 0 ∷ 1 ∷ 0 ∷ 10 ∷ 126 ∷ 1 ∷ 11 ∷ 1 ∷ 0 ∷ 0 ∷ 0 ∷ []
+siteHeader = 5 ∷ 6 ∷ 0 ∷ 200 ∷ 0 ∷ 0 ∷ 1 ∷ 0 ∷ 1 ∷ 126 ∷ 1 ∷ 11 ∷ 1 ∷ 0 ∷ 0 ∷ 0 ∷ []
 
 -- it has the site's settings, and is refused with 25
 pub site-header-refused : (headerOf siteHeader ≡ headerWith site 1) × (headerRefusal (headerOf siteHeader) ≡ 25)
