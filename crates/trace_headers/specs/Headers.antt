@@ -44,8 +44,8 @@ headerAt high low =
 unfoldable pub headerOf : List ℕ → Header
 headerOf trace = headerAt (loadOf trace 0 8) (loadOf trace 8 8)
 
--- a header's first refusal, in document 01's order: 1, 10, 2, 3, 4, 5, 6, 7 (`earlyRefusal`), then 11, 8, 14; 17 comes
--- before (`startOf` of trace)
+-- a header's first refusal, in document 01's order with 25 directly after 4: 1, 10, 2, 3, 4, 25, 5, 6, 7 (`earlyRefusal`), then 11, 8,
+-- 14; 17 comes before (`startOf` of trace)
 unfoldable pub headerRefusal : Header → ℕ
 headerRefusal h =
     firstOf

@@ -50,6 +50,27 @@ const HEADER_EDGES: [&str; 37] = [
 const TWO_FAULTS: [(u8, u8); 10] =
     [(1, 10), (10, 3), (2, 3), (3, 4), (4, 5), (5, 6), (6, 7), (7, 11), (11, 8), (8, 14)];
 
+/// Document 02's 25 with one other fault and no third: it comes "directly after 4".
+const WITHOUT_ROOM: [(u8, u8); 11] =
+    [(1, 25), (10, 25), (2, 25), (3, 25), (4, 25), (25, 5), (25, 6), (25, 7), (25, 11), (25, 8), (25, 14)];
+
+/// Slots and rotations at the edge of the room for a gap poll; after the colon the number of the refusal. The least rotation
+/// of all has room for a slot of 156; from slot 65,436 on, slot bits + 100 do not fit into 16 bits.
+const ROOM_EDGES: [&str; 12] = [
+    "slot 156, rotation 256",
+    "slot 157, rotation 256: 25",
+    "slot 65435, rotation 65534: 25",
+    "slot 65435, rotation 65535",
+    "slot 65436, rotation 65535: 25",
+    "slot 65436, rotation 65536",
+    "slot 65535, rotation 65634: 25",
+    "slot 65535, rotation 65635",
+    "slot 65535, rotation 256: 25",
+    "any slot, rotation slot + 99: 25",
+    "any slot, rotation slot + 100",
+    "any slot, rotation slot + 101",
+];
+
 /// Rules that a decision breaks.
 const BAD_DECISIONS: [&str; 10] = [
     "14: a bit of the last seven",
@@ -73,11 +94,13 @@ const STRAY: [(&str, &[&str]); 4] = [
 ];
 
 pub fn name_points(points: &mut Points) {
-    points.group("refused header", [1, 10, 2, 3, 4, 5, 6, 7, 11, 8, 14, 17]);
+    points.group("refused header", [1, 10, 2, 3, 4, 25, 5, 6, 7, 11, 8, 14, 17]);
     let slots = (0..LEAST_SLOT_BITS.len())
         .flat_map(|code| [format!("least slot at code {}", code), format!("one slot bit too few at code {}: 2", code)]);
     points.group("header at an edge", HEADER_EDGES.iter().map(|edge| edge.to_string()).chain(slots));
-    points.group("header with two faults", TWO_FAULTS.map(|(first, second)| format!("{} before {}", first, second)));
+    let two_faults = TWO_FAULTS.iter().chain(&WITHOUT_ROOM);
+    points.group("header with two faults", two_faults.map(|(first, second)| format!("{} before {}", first, second)));
+    points.group("room for a gap poll", ROOM_EDGES);
     let in_decisions = (0..16).flat_map(|i| [(14, Place::Decision(i)), (15, Place::Decision(i))]);
     let in_telegrams = (0..8).map(|i| (14, Place::Telegram(i)));
     let others = [(12, Place::Head), (12, Place::Length), (13, Place::Count)];
@@ -130,11 +153,12 @@ pub fn see_header(points: &mut Points, h: &Header) {
     for (number, point) in values {
         if faults.is_empty() {
             points.hit_if_named("header at an edge", point);
-        } else if faults == [number] || (number == 1 && faults == [1, 3]) {
-            // no HSA is above an address of 126 or more
+        } else if faults == [number] || (number == 1 && faults == [1, 3]) || (number == 4 && faults == [4, 25]) {
+            // no HSA is above an address of 126 or more, and few slots leave a rotation below 256 its room
             points.hit_if_named("header at an edge", format_args!("{}: {}", point, number));
         }
     }
+    see_room(points, h, &faults);
     if let Some(number) = faults.first() {
         points.hit("refused header", number);
     }
@@ -143,6 +167,25 @@ pub fn see_header(points: &mut Points, h: &Header) {
             points.hit("header with two faults", format_args!("{} before {}", first, second));
         }
     }
+}
+
+/// The rotation's room for a gap poll: at its edges, and where there is too little and one fault more.
+fn see_room(points: &mut Points, h: &Header, faults: &[u8]) {
+    let refused = match faults {
+        [] => "",
+        [25] => ": 25",
+        _ => {
+            // no HSA is above an address of 126 or more
+            let pair = if faults == [1, 3, 25] { &[1, 25] } else { faults };
+            if let Some((first, second)) = WITHOUT_ROOM.iter().find(|(first, second)| pair == [*first, *second]) {
+                points.hit("header with two faults", format_args!("{} before {}", first, second));
+            }
+            return;
+        }
+    };
+    points.hit_if_named("room for a gap poll", format_args!("slot {}, rotation {}{}", h.slot, h.rotation, refused));
+    let more = i64::from(h.rotation) - i64::from(h.slot);
+    points.hit_if_named("room for a gap poll", format_args!("any slot, rotation slot + {}{}", more, refused));
 }
 
 /// A record that is refused.

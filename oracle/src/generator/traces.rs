@@ -27,23 +27,18 @@ pub fn trace(seed: u64, index: u64) -> Trace {
         0 => Kind::Cut,
         1 => Kind::Damaged,
         2 => Kind::Small,
-        3..=5 => Kind::Edge,
+        3..=6 => Kind::Edge,
         _ => Kind::Whole,
     };
     let mut header = good_header(&mut seed);
     if kind == Kind::Edge {
         edge_header(&mut seed, &mut header);
     }
-    let early = kind == Kind::Whole && seed.one_in(16);
-    if early {
-        header.slot = 65535;
-        header.gap = 1;
-    }
     let length = if kind == Kind::Whole { seed.pick(&[20, 60, 100, 150]) } else { seed.between(0, 30) };
     let fill = seed.pick(&[0x00, 0xff, 0xa5, 0x5a]);
     let mut made = Trace { header: header.write(), entries: Vec::new(), room: 0, fill };
     if header.refusal().is_none() {
-        let mut maker = Maker::new(seed, header, early);
+        let mut maker = Maker::new(seed, header);
         made.entries = (0..length).map(|_| maker.next_entry()).collect();
         seed = maker.seed;
     }

@@ -6,6 +6,7 @@ mod applications;
 mod bus;
 mod collisions;
 mod fine_points;
+mod gap_room;
 mod night;
 mod refusals;
 mod ring;
@@ -44,7 +45,9 @@ fn stories() -> Vec<Story> {
     all.extend(bus::stories());
     all.push(fine_points::story());
     all.push(twelve_mbaud::story());
+    all.push(gap_room::story());
     all.extend(refusals::stories());
+    all.extend(gap_room::headers());
     all
 }
 
