@@ -37,7 +37,7 @@ NOT_TAKEN = {
     "State::transition_claim_token": "the state itself, `ClaimToken true`: `handleLostToken` enters it by `claimTokenOf .. true`",
     "State::transition_await_data_response": "the state itself, `AwaitDataResponse address held`: `appTransmitOf` enters it",
     "State::transition_pass_token": "the state itself, `PassToken gap attempt`: `usePassOf`, `statusAnswered`; the resends begin in it",
-    "State::transition_check_token_pass": "the state itself, `CheckTokenPass attempt`: `passSent` enters it",
+    "State::transition_check_token_pass": "the state itself, `CheckTokenPass attempt`: `passSentOn` enters it",
     "State::transition_await_status_response": "the state itself, `AwaitStatusResponse current`: `passPollOn` enters it",
     "State::get_listen_token_status_request": SHAPE,
     "State::get_listen_token_collision_count": SHAPE,

@@ -116,7 +116,7 @@ replay_all() {
     done < <(find traces/ hosts/rust -name '*.trace' | sort)
     [ "$count" -gt 0 ] || fail "there are no traces"
     { head -c 16 traces/example12.trace && head -c "$long" /dev/zero; } >target/hosts/long.trace
-    awk -v n="$long" 'BEGIN { for (i = 0; i < n; i++) print "0000000000000014"; print n, 0 }' >target/hosts/long.answers
+    awk -v n="$long" 'BEGIN { for (i = 0; i < n; i++) print "00000000000001fc"; print n, 0 }' >target/hosts/long.answers
     "$@" target/hosts/long.trace | cmp - target/hosts/long.answers || fail "the $host host answers a long trace wrongly"
     echo "$host host: $count traces replayed from files, each answered as its story says, and one of $long entries"
 }

@@ -51,6 +51,9 @@ extern "C" {
 /* The longest entry, in bytes: a byte with the record's length, and the record. */
 #define AMSULFEZD_ENTRY_LENGTH 256
 
+/* The next station of a station that is alone in its ring: see amsulfezd_answer_next_station. */
+#define AMSULFEZD_NOBODY 127
+
 /* The most stack that a call uses, in bytes: see above. */
 #define AMSULFEZD_STACK_BYTES 4096
 
@@ -292,7 +295,11 @@ static inline unsigned amsulfezd_answer_next_application(uint64_t answer)
     return amsulfezd_field(answer, 9, 3);
 }
 
-/* The next station in the ring. */
+/*
+ * The next station in the ring, 0..125, or AMSULFEZD_NOBODY if the station is alone: answers to polls, commands and
+ * refused entries alike. A lone station passes the token to itself, and amsulfezd_answer_destination is then its own
+ * address.
+ */
 static inline unsigned amsulfezd_answer_next_station(uint64_t answer)
 {
     return amsulfezd_field(answer, 2, 7);

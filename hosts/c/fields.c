@@ -79,27 +79,32 @@ static void reads(const char *digits, unsigned base, const unsigned fields[FIELD
 
 static void test_readers(void)
 {
-    /* Example 12: after online, the first poll, the claim, the second token, and holding the token. */
-    static const unsigned online[FIELDS] = {0, 0, 0, 0, 0, 0, 0, 0, 0, 0, 0, 0, 0, 0, 5};
-    static const unsigned listens[FIELDS] = {0, 3, 1, 0, 0, 0, 0, 0, 0, 0, 0, 0, 0, 0, 5};
-    static const unsigned claims[FIELDS] = {0, 2, 4, 1, 5, 0, 0, 0, 3, 0, 0, 0, 0, 0, 5};
-    static const unsigned holds[FIELDS] = {0, 2, 3, 1, 5, 0, 0, 0, 3, 0, 0, 0, 0, 0, 5};
-    /* QUALIFICATION, part 5: application 0 asks 20, times out, and sends no bytes. */
-    static const unsigned asks[FIELDS] = {0, 2, 5, 4, 20, 0, 0, 0, 10, 0, 0, 0, 0, 0, 5};
-    static const unsigned times_out[FIELDS] = {0, 4, 6, 0, 0, 0, 0, 0, 0, 0, 2, 0, 20, 0, 5};
-    static const unsigned refused[FIELDS] = {15, 0, 3, 0, 0, 0, 0, 0, 0, 0, 0, 0, 0, 0, 5};
+    /* Example 12, alone: after online, the first poll, the claim, and the second token. */
+    static const unsigned online[FIELDS] = {0, 0, 0, 0, 0, 0, 0, 0, 0, 0, 0, 0, 0, 0, 127};
+    static const unsigned listens[FIELDS] = {0, 3, 1, 0, 0, 0, 0, 0, 0, 0, 0, 0, 0, 0, 127};
+    static const unsigned claims[FIELDS] = {0, 2, 4, 1, 5, 0, 0, 0, 3, 0, 0, 0, 0, 0, 127};
+    static const unsigned holds[FIELDS] = {0, 2, 3, 1, 5, 0, 0, 0, 3, 0, 0, 0, 0, 0, 127};
+    /* QUALIFICATION, part 5: application 0 asks 20, times out, and sends no bytes. Alone, and then with 9 as next. */
+    static const unsigned asks[FIELDS] = {0, 2, 5, 4, 20, 0, 0, 0, 10, 0, 0, 0, 0, 0, 127};
+    static const unsigned times_out[FIELDS] = {0, 4, 6, 0, 0, 0, 0, 0, 0, 0, 2, 0, 20, 0, 127};
+    static const unsigned refused[FIELDS] = {15, 0, 3, 0, 0, 0, 0, 0, 0, 0, 0, 0, 0, 0, 127};
+    static const unsigned two[FIELDS] = {15, 0, 3, 0, 0, 0, 0, 0, 0, 0, 0, 0, 0, 0, 9};
     /* Every second field full, then the others. */
     static const unsigned even[FIELDS] = {31, 0, 15, 0, 127, 0, 7, 0, 255, 0, 3, 0, 127, 0, 127};
     static const unsigned odd[FIELDS] = {0, 7, 0, 7, 0, 3, 0, 1, 0, 15, 0, 7, 0, 7, 0};
-    reads("0000000000000014", 16, online);
-    reads("0310000000000014", 16, listens);
-    reads("0242140030000014", 16, claims);
-    reads("0232140030000014", 16, holds);
-    reads("02585000a0000014", 16, asks);
-    reads("0460000000814014", 16, times_out);
-    reads("7830000000000014", 16, refused);
+    reads("00000000000001fc", 16, online);
+    reads("03100000000001fc", 16, listens);
+    reads("02421400300001fc", 16, claims);
+    reads("02321400300001fc", 16, holds);
+    reads("02585000a00001fc", 16, asks);
+    reads("04600000008141fc", 16, times_out);
+    reads("78300000000001fc", 16, refused);
+    reads("7830000000000024", 16, two);
     reads("11111 000 1111 000 1111111 00 111 0 11111111 0000 11 000 1111111 000 1111111 00", 2, even);
     reads("00000 111 0000 111 0000000 11 000 1 00000000 1111 00 111 0000000 111 0000000 11", 2, odd);
+    check(AMSULFEZD_NOBODY == 127, "not document 02's number", "AMSULFEZD_NOBODY");
+    check(amsulfezd_answer_next_station(UINT64_C(0x00000000000001fc)) == AMSULFEZD_NOBODY, "nobody", "alone");
+    check(amsulfezd_answer_next_station(UINT64_C(0x0000000000000014)) != AMSULFEZD_NOBODY, "a station", "5 is next");
     check(amsulfezd_entries(6 * 256 + 17) == 6, "entries", "6 * 256 + 17");
     check(amsulfezd_ending(6 * 256 + 17) == 17, "ending number", "6 * 256 + 17");
 }

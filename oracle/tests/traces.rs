@@ -99,18 +99,18 @@ fn example_11_second_collision_in_listen_token() {
     }
 }
 
-/// The trace of example 12, and what the program prints.
+/// The trace of example 12, and what the program prints: "each line then ends in 01fc in place of 0014" (document 02, P5).
 fn example_12() -> Vec<u8> {
     let polls = [1000, 7399, 7400, 7532, 7598].map(|clock| silent(clock).entry());
     [Header::EXAMPLE_12.write(), vec![0], polls.concat()].concat()
 }
 
-const EXAMPLE_12: &str = "0000000000000014
-0310000000000014
-0310000000000014
-0242140030000014
-0232140030000014
-0230000000000014
+const EXAMPLE_12: &str = "00000000000001fc
+03100000000001fc
+03100000000001fc
+02421400300001fc
+02321400300001fc
+02300000000001fc
 6 0
 ";
 
@@ -140,8 +140,8 @@ fn example_12_as_the_program_prints_it() {
     let mut long = trace[..16].to_vec();
     long.resize(5000, 0);
     for (input, end) in [
-        (&trace[..17], "0000000000000014\n1 0\n"),
-        (&trace[..18], "0000000000000014\n1 17\n"),
+        (&trace[..17], "00000000000001fc\n1 0\n"),
+        (&trace[..18], "00000000000001fc\n1 17\n"),
         (&[200; 16], "0 1\n"),
         (&[], "0 17\n"),
         (&long, "\n4080 0\n"),

@@ -12,6 +12,7 @@ use borrow.Table.Steps.{cases}
 use Rattle.ring_addresses.specs.Set.{up, down, walk, headOr, lastOr, nearest, betweenOf}
 use Rattle.ring_addresses.specs.SetLaws.{true≢false, All, first, nobody, distOf, between-is, between-on, between-end}
 use Rattle.ring.specs.declared.Ring.{Ring}
+use Rattle.ring.specs.declared.NextStation.the-variants.{Neighbour}
 use Rattle.ring.specs.Ring.{has, others, nextOf, prevOf}
 use Rattle.ring.specs.Laws.{SoundRing, Other, others-all, last-all, next-is, previous-last, previous-low, alone-has}
 
@@ -128,7 +129,7 @@ previous-gap r x s l b = go (down-from r) refl (between-on (prevOf r) x (r .own)
         closer (distOf (prevOf r) x) (distOf x (r .own)) (distOf (prevOf r) (r .own)) (w .dist) sum back (h .0) (w .none (distOf x (r .own))) refl
 
 -- next is the only one of the others with no member strictly between own and it
-pub next-only : (r : Ring) (x : ℕ) → SoundRing r → Other r x → ((y : ℕ) → y < 126 → betweenOf (r .own) y x ≡ true → has r y ≡ false) → x ≡ nextOf r
+pub next-only : (r : Ring) (x : ℕ) → SoundRing r → Other r x → ((y : ℕ) → y < 126 → betweenOf (r .own) y x ≡ true → has r y ≡ false) → nextOf r ≡ Neighbour x
 unfolding others
 next-only r x s o none = go (others r) refl
   where
@@ -140,11 +141,11 @@ next-only r x s o none = go (others r) refl
         let is = dist-up own e (s .own-low) (omega (arith, dist-low own x)) in
         none (up own e) (omega arith) (between-from own (up own e) x (s .own-low) (omega arith) (o .low) (subst (λ (n : ℕ). 0 < n) (sym is) h) (subst (λ (n : ℕ). n < distOf own x) (sym is) k))
 
-    go : (os : List ℕ) → others r ≡ os → x ≡ nextOf r
+    go : (os : List ℕ) → others r ≡ os → nextOf r ≡ Neighbour x
     go [] e = absurd (o .not-own (alone-has r x s (o .low) e (o .in-set)))
     go (y ∷ ys) e =
-        found (has r) (up own) y ys x (distOf own x) e (sym (up-back own x (s .own-low) (o .low))) (dist-some own x (s .own-low) (o .low) (λ z. o .not-own (sym z))) (dist-low own x) (o .in-set) near
-        ∙ sym (next-is r y ys s e)
+        next-is r y ys s e
+        ∙ ap Neighbour (sym (found (has r) (up own) y ys x (distOf own x) e (sym (up-back own x (s .own-low) (o .low))) (dist-some own x (s .own-low) (o .low) (λ z. o .not-own (sym z))) (dist-low own x) (o .in-set) near))
 
 -- previous is the only one of the others with no member strictly between it and own
 pub previous-only : (r : Ring) (x : ℕ) → SoundRing r → Other r x → ((y : ℕ) → y < 126 → betweenOf x y (r .own) ≡ true → has r y ≡ false) → x ≡ prevOf r

@@ -1,7 +1,7 @@
 -- What a call hands back (document 01, "Answer, 64 bits"): the station and the answer.
 use Prim.Native.Nat.{ℕ}
 use Rattle.settings.specs.declared.Parameters.{Parameters}
-use Rattle.ring.specs.Ring.{nextOf}
+use Rattle.ring.specs.Ring.{nextOf, nextNumber}
 use Rattle.codec_answers.specs.declared.Answer.{Answer}
 use Rattle.codec_answers.specs.Answers.{refusedAnswer}
 use Rattle.station.specs.declared.Station.{Station}
@@ -9,7 +9,7 @@ use Rattle.station.specs.declared.RingStep.{RingStep}
 use Rattle.station.specs.Parts.{stateNumber}
 use Rattle.station_answer.specs.declared.Polled.{Polled}
 
--- document 01: the answer of an entry that is not refused, with the state, next application and next station after it
+-- document 01: the answer of an entry that is not refused, with the state, next application and next station after it (document 02: nobody's number when we are alone)
 unfoldable pub stepAnswer : RingStep → Answer
 stepAnswer s =
     record {
@@ -20,7 +20,7 @@ stepAnswer s =
       consumed = s .step .consumed;
       notice = s .step .notice;
       «next_application» = s .step .core .«next_application»;
-      «next_station» = nextOf (s .ring);
+      «next_station» = nextNumber (nextOf (s .ring));
     }
 
 -- the station after a step, and the answer
@@ -31,4 +31,4 @@ polledOf p n s =
 -- a refused entry: the station is unchanged
 unfoldable pub refusedPoll : Station → ℕ → Polled
 refusedPoll s refusal =
-    record { station = s; answer = refusedAnswer refusal (stateNumber (s .state)) (s .core .«next_application») (nextOf (s .«token_ring»)) }
+    record { station = s; answer = refusedAnswer refusal (stateNumber (s .state)) (s .core .«next_application») (nextNumber (nextOf (s .«token_ring»))) }

@@ -32,7 +32,7 @@ fn answer_of(stepped: RingStep) -> Answer
         consumed: step.consumed,
         notice,
         next_application: core.next_application,
-        next_station: ring.next_station(),
+        next_station: ring::next_station_number(ring.next_station()),
     }
 }
 
@@ -67,7 +67,7 @@ pub fn refused(station: Station, refusal: u8) -> Polled
         refusal,
         station::state_number(state),
         core.next_application,
-        ring.next_station(),
+        ring::next_station_number(ring.next_station()),
     );
     Polled { station, answer }
 }

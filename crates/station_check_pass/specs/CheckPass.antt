@@ -15,13 +15,14 @@ use Rattle.station.specs.declared.Core.{Core}
 use Rattle.station.specs.declared.RingStep.{RingStep}
 use Rattle.station.specs.Steps.{toActiveIdle, slotExpiredOf, doneOf, ringStepOf}
 use Rattle.station_listen.specs.Listen.{receivedAll, consumedAll}
-use Rattle.station_pass.specs.Pass.{passTokenOf}
+use Rattle.station_pass.specs.Pass.{destinationOf, passTokenOf}
 
--- do_check_token_pass: sent again up to the third attempt, then the next station is taken out and the one behind it gets its first attempt
+-- do_check_token_pass: sent again up to the third attempt, then the station that it went to is taken out and the one behind it gets its
+-- first attempt (`removed-alone` of station_pass: alone nobody is taken out)
 unfoldable pub resendOf : Parameters → Core → Ring → Micros → PassTokenAttempt → RingStep
 resendOf p c ring now First = passTokenOf p c ring now false Second
 resendOf p c ring now Second = passTokenOf p c ring now false Third
-resendOf p c ring now Third = passTokenOf p c (removeOf ring (nextOf ring)) now false First
+resendOf p c ring now Third = passTokenOf p c (removeOf ring (destinationOf (p .address) (nextOf ring))) now false First
 
 -- do_check_token_pass: telegrams lead to ActiveIdle and are handled there
 unfoldable pub checkReceived : Parameters → Core → Ring → Micros → PassTokenAttempt → List ℕ → ℕ → ℕ → RingStep

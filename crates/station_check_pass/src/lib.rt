@@ -14,8 +14,8 @@ use station::PassTokenAttempt;
 use station::RingStep;
 use station::State;
 
-// do_check_token_pass: the token was not taken up. It is sent again at once; after the third attempt the next station is
-// taken out of the ring, and the one behind it is tried.
+// do_check_token_pass: the token was not taken up. It is sent again at once; after the third attempt the station that it
+// went to is taken out of the ring, and the one behind it is tried. Own is never taken out.
 fn do_check_token_pass_resend(
     p: Parameters,
     core: Core,
@@ -46,7 +46,7 @@ fn do_check_token_pass_resend(
         PassTokenAttempt::Third => station_pass::do_pass_token(
             p,
             core,
-            ring.remove_station(ring.next_station()),
+            ring.remove_station(station_pass::token_destination(p.address, ring.next_station())),
             now,
             false,
             PassTokenAttempt::First,

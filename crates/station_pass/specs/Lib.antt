@@ -1,2 +1,3 @@
--- The definitions; there are no laws.
+-- The definitions, and laws of whom the token is passed to.
 pub mod Pass
+pub mod Laws

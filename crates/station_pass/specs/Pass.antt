@@ -1,10 +1,12 @@
 -- do_pass_token, in the order of active.rs.
 use Prim.Native.Nat.{ℕ, _+_}
 use mathlib.Core.Bool.{Bool, cond}
-use lib.Dec.{ltb, eqb}
+use lib.Dec.{ltb}
 use Rattle.bit_times.specs.declared.Micros.{Micros}
 use Rattle.settings.specs.declared.Parameters.{Parameters}
 use Rattle.ring.specs.declared.Ring.{Ring}
+use Rattle.ring.specs.declared.NextStation.{NextStation}
+use Rattle.ring.specs.declared.NextStation.the-variants.{Nobody, Neighbour}
 use Rattle.ring.specs.declared.GapState.{GapState}
 use Rattle.ring.specs.declared.GapState.the-variants.{Waiting, DoPoll}
 use Rattle.ring.specs.Ring.{nextOf, witnessOf, gapOf}
@@ -24,18 +26,23 @@ gapAdvanced p ring (Waiting count) =
     cond (ltb (p .«gap_wait_rotations») count) (gapOf ring (p .address) (p .«highest_station_address»)) (Waiting (count + 1))
 gapAdvanced p ring (DoPoll current) = gapOf ring current (p .«highest_station_address»)
 
--- do_pass_token, once the ring has witnessed the pass to next: the token is ours again if the next station is ourselves, else
--- the pass is checked
-unfoldable pub passSent : Parameters → Core → Micros → PassTokenAttempt → ℕ → Ring → RingStep
-passSent p c now attempt next witnessed =
-    cond (eqb (nextOf witnessed) (p .address))
-    (ringStepOf (transmitOf p (toUseToken now) c now (sent.Token next)) witnessed)
-    (ringStepOf (transmitOf p (CheckTokenPass attempt) c now (sent.Token next)) witnessed)
+-- whom the token is passed to, by who is next: the next station, and ourselves when we are alone (document 02)
+abbrev pub destinationOf : ℕ → NextStation → ℕ
+destinationOf own Nobody = own
+destinationOf own (Neighbour a) = a
 
--- do_pass_token: the token is sent to the next station, which is asked for before the pass is witnessed and again after, as in the
--- Rust (for a sound ring both are the same)
+-- do_pass_token, on who is next once the ring has witnessed the pass: with nobody the token is ours again, else the pass is checked
+unfoldable pub passSentOn : NextStation → Parameters → Core → Micros → PassTokenAttempt → ℕ → Ring → RingStep
+passSentOn Nobody p c now attempt destination witnessed = ringStepOf (transmitOf p (toUseToken now) c now (sent.Token destination)) witnessed
+passSentOn (Neighbour a) p c now attempt destination witnessed = ringStepOf (transmitOf p (CheckTokenPass attempt) c now (sent.Token destination)) witnessed
+
+-- do_pass_token: the token is sent, and the ring witnesses the pass. Who is next is asked for before that and again after it, as in
+-- the Rust (`asked-again` of Laws: both answers are the same)
 unfoldable pub passSend : Parameters → Core → Ring → Micros → PassTokenAttempt → RingStep
-passSend p c ring now attempt = passSent p c now attempt (nextOf ring) (witnessOf ring (p .address) (nextOf ring))
+passSend p c ring now attempt =
+    let destination = destinationOf (p .address) (nextOf ring) in
+    let witnessed = witnessOf ring (p .address) destination in
+    passSentOn (nextOf witnessed) p c now attempt destination witnessed
 
 -- do_pass_token, on the gap state: a gap question or the token
 unfoldable pub passPollOn : GapState → Parameters → Core → Ring → Micros → PassTokenAttempt → RingStep

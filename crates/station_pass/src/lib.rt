@@ -2,11 +2,12 @@
 // station and ring.
 ghost use mathlib.Core.Path.{_≡_};
 ghost use Prim.Native.Nat.{_<_, _^_};
-ghost use Rattle.station_pass.specs.Pass.{gapAdvanced, passSend, passPoll, passTokenOf};
+ghost use Rattle.station_pass.specs.Pass.{gapAdvanced, destinationOf, passSend, passPoll, passTokenOf};
 use bit_times::Micros;
 use codec_answers::Outcome;
 use codec_answers::Sent;
 use ring::GapState;
+use ring::NextStation;
 use ring::Ring;
 use settings::Parameters;
 use station::Core;
@@ -34,7 +35,18 @@ fn do_pass_token_gap(p: Parameters, ring: Ring, gap: GapState) -> GapState
     }
 }
 
-// do_pass_token: the token is sent to the next station. If that is ourselves the token is used, else the pass is checked.
+// Whom the token is passed to, by who is next: the next station, and ourselves when we are alone.
+pub fn token_destination(own: u8, next: NextStation) -> u8
+    ensures { λ r. ⌜ r ≡ destinationOf own next ⌝ }
+{
+    match next {
+        NextStation::Nobody => own,
+        NextStation::Neighbour(address) => address,
+    }
+}
+
+// do_pass_token: the token is sent to the next station. If there is nobody it is ours again and is used, else the pass is
+// checked.
 fn do_pass_token_send(
     p: Parameters,
     core: Core,
@@ -46,29 +58,29 @@ fn do_pass_token_send(
     ensures { λ r. ⌜ r ≡ passSend p core ring now attempt ⌝ }
 {
     let own = p.address;
-    let next = ring.next_station();
-    let witnessed = ring.witness_token_pass(own, next);
-    if witnessed.next_station() == own {
-        return RingStep {
+    let destination = token_destination(own, ring.next_station());
+    let witnessed = ring.witness_token_pass(own, destination);
+    match witnessed.next_station() {
+        NextStation::Nobody => RingStep {
             step: station::transmit(
                 p,
                 station::transition_use_token(now),
                 core,
                 now,
-                Sent::Token { destination: next },
+                Sent::Token { destination },
             ),
             ring: witnessed,
-        };
-    }
-    RingStep {
-        step: station::transmit(
-            p,
-            State::CheckTokenPass { attempt },
-            core,
-            now,
-            Sent::Token { destination: next },
-        ),
-        ring: witnessed,
+        },
+        NextStation::Neighbour(..) => RingStep {
+            step: station::transmit(
+                p,
+                State::CheckTokenPass { attempt },
+                core,
+                now,
+                Sent::Token { destination },
+            ),
+            ring: witnessed,
+        },
     }
 }
 

@@ -1,6 +1,7 @@
 -- Determined, for the public calls of ring.
 use mathlib.Core.Path.{_∙_, sym}
 use Rattle.theorem_determined.specs.Claim.{Determined}
+use Rattle.ring.proofs.next_station_number.Reads as next-station-number-reads
 use Rattle.ring.proofs.Ring.fresh.Reads as fresh-reads
 use Rattle.ring.proofs.Ring.member.Reads as member-reads
 use Rattle.ring.proofs.Ring.next_station.Reads as next-station-reads
@@ -11,6 +12,9 @@ use Rattle.ring.proofs.Ring.set_next_station.Reads as set-next-station-reads
 use Rattle.ring.proofs.Ring.remove_station.Reads as remove-station-reads
 use Rattle.ring.proofs.Ring.ready_for_ring.Reads as ready-for-ring-reads
 use Rattle.ring.proofs.Ring.next_gap_poll.Reads as next-gap-poll-reads
+
+pub next-station-number : Determined next-station-number-reads.Post
+next-station-number κs a r₁ r₂ s₁ s₂ p q = p ∙ sym q
 
 pub fresh : Determined fresh-reads.Post
 fresh κs a r₁ r₂ s₁ s₂ p q = p ∙ sym q

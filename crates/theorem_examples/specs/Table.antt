@@ -79,7 +79,7 @@ pub data Row : Type 0 where
   silence : TraceParts → Station → List ℕ → List Sent → Row
   -- (11) a trace and the station that it leaves, then a poll; the whole station after it
   collision : TraceParts → Station → List ℕ → Station → Row
-  -- (12) a trace, and what the replay program prints: the answers, how many there are, and the ending number
+  -- (12, as document 02, P5, has it) a trace, and what the replay program prints: the answers, how many there are, and the ending number
   replay : TraceParts → List ℕ → ℕ → ℕ → Row
 
 -- the settings of document 01's examples: address 5, code 6, slot 200, with the header's other fields as in example 12
@@ -267,5 +267,5 @@ table =
     ∷ silence example10 neighbourStation (8000 ∷ 8466 ∷ 8932 ∷ 9398 ∷ []) (sent.Token 9 ∷ sent.Token 9 ∷ sent.Token 9 ∷ sent.Token 5 ∷ [])
     ∷ collision example11 collidedOnce (twoRecord 10300 (token 5 3 ∷ [])) (freshBut activity.Unknown)
     ∷ collision example11 collidedOnce (twoRecord 10300 (token 5 3 ∷ token 9 3 ∷ [])) (freshBut (activity.At (record { 0 = 10300 })))
-    ∷ replay example12 (0x0000000000000014 ∷ 0x0310000000000014 ∷ 0x0310000000000014 ∷ 0x0242140030000014 ∷ 0x0232140030000014 ∷ 0x0230000000000014 ∷ []) 6 0
+    ∷ replay example12 (0x00000000000001fc ∷ 0x03100000000001fc ∷ 0x03100000000001fc ∷ 0x02421400300001fc ∷ 0x02321400300001fc ∷ 0x02300000000001fc ∷ []) 6 0
     ∷ []

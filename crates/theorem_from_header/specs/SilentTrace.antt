@@ -16,8 +16,7 @@ use mathlib.Core.Path.{_≡_}
 use mathlib.Core.List.{List, [], _∷_, _++_}
 use lib.ListN.{length, drop}
 use lib.Dec.{eqb}
-use Rattle.ring_addresses.specs.Set.{headOr}
-use Rattle.ring.specs.Ring.{others, nextOf}
+use Rattle.ring.specs.Ring.{others, firstOf, nextOf, nextNumber}
 use Rattle.codec_answers.specs.declared.Sent.{Sent}
 use Rattle.codec_answers.specs.declared.Unpacked.{Unpacked}
 use Rattle.codec_answers.specs.declared.Unpacked.the-variants.{NoAnswer, Is}
@@ -58,7 +57,7 @@ abbrev pub heldByAnswers : List Unpacked → Bool
 heldByAnswers [] = false
 heldByAnswers (u ∷ later) = cond (saysHeld u) true (heldByAnswers later)
 
--- the next station that an answer names; `last` where there is no answer
+-- the next station that an answer names, by its number; `last` where there is no answer
 abbrev pub nextBy : ℕ → Unpacked → ℕ
 nextBy last (Is answer) = answer .«next_station»
 nextBy last NoAnswer = last
@@ -120,10 +119,10 @@ pub record SilenceRead {trace before : List ℕ} (t : SilentTrace trace before) 
   pub removes :
       others (until (passingStation t) (t .records) .«token_ring»)
       ≡ drop ((length (sentByAnswers (silentAnswers t left)) - 1) / 3) (others (passingStation t .«token_ring»))
-  -- the answers show it: the last of them names as next station the first that is not taken out, and the station itself where all are
+  -- the answers show it: the last of them names as next station the first that is not taken out, and nobody where all are
   pub names-next :
-      nextByAnswers (nextOf (passingStation t .«token_ring»)) (silentAnswers t left)
-      ≡ headOr (headerOf trace .settings .address) (drop ((length (sentByAnswers (silentAnswers t left)) - 1) / 3) (others (passingStation t .«token_ring»)))
+      nextByAnswers (nextNumber (nextOf (passingStation t .«token_ring»))) (silentAnswers t left)
+      ≡ nextNumber (firstOf (drop ((length (sentByAnswers (silentAnswers t left)) - 1) / 3) (others (passingStation t .«token_ring»))))
   -- with 3k + 1 counted polls the token is held
   pub bound : 3 * length (others (passingStation t .«token_ring»)) + 1 ≤ countedIn (passingStation t) (t .records) → heldByAnswers (silentAnswers t left) ≡ true
 

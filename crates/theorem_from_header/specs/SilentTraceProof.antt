@@ -10,7 +10,6 @@ use borrow.Table.Steps.{cases}
 use lib.ListN.{length, drop, length-append}
 use lib.Seq.{drop-at}
 use lib.Dec.{eqb}
-use Rattle.settings.specs.declared.Parameters.{Parameters}
 use Rattle.settings_build.specs.declared.PlainSettings.{PlainSettings}
 use Rattle.settings_build.specs.Build.{plainOf}
 use Rattle.codec_records.specs.Records.{recordRefusal}
@@ -21,9 +20,8 @@ use Rattle.codec_answers.specs.declared.Unpacked.{Unpacked}
 use Rattle.codec_answers.specs.declared.Unpacked.the-variants.{Is}
 use Rattle.codec_answers.specs.Answers.{refusedAnswer, unpackOf, Fits}
 use Rattle.codec_answers.specs.Laws.{answer-unpacks}
-use Rattle.ring_addresses.specs.Set.{headOr}
-use Rattle.ring.specs.Ring.{others, nextOf}
-use Rattle.ring.specs.Laws.{next-head}
+use Rattle.ring.specs.Ring.{others, firstOf, nextNumber}
+use Rattle.ring.specs.Laws.{next-first}
 use Rattle.station.specs.declared.Station.{Station}
 use Rattle.station.specs.declared.State.{State}
 use Rattle.station.specs.Parts.{stateNumber}
@@ -37,8 +35,8 @@ use Rattle.trace.specs.Laws.{replay-started}
 use Rattle.theorem_sound.specs.Keeps.{either}
 use Rattle.theorem_sound.specs.Sound.{SoundStation, poll, after, call-sound}
 use Rattle.theorem_sound.specs.Fits.{poll-fits}
+use Rattle.theorem_sound.specs.Names.{nextIn, poll-names}
 use Rattle.theorem_silence.specs.Silence.{Quiet, AllQuiet, holdsToken, until, told, sentUntil, tokens, Silence}
-use Rattle.theorem_sound.specs.Unchanged.{poll-settings}
 use Rattle.theorem_every_trace.specs.Statement.{Entry, Whole, laid, along}
 use Rattle.theorem_every_trace.specs.Theorem.{along-length}
 use Rattle.theorem_every_trace.specs.EveryTrace.{each-entry-is-answered, longer-trace-begins-alike}
@@ -207,42 +205,31 @@ said-held (bytes ∷ later) s e =
     (λ h. rw h (sym (ap holdsToken (held-until (pollOf s bytes .station) later h) ∙ h)))
     (λ h. rw h (said-held later (pollOf s bytes .station) h)))
 
--- a poll's answer names the next station after it
-poll-next : (s : Station) (bytes : List ℕ) → pollOf s bytes .answer .«next_station» ≡ nextOf (pollOf s bytes .station .«token_ring»)
-unfolding pollOf acceptedPoll acceptedAfter polledOf stepAnswer refusedPoll refusedAnswer
-poll-next s bytes = cases (eqb (recordRefusal bytes (s .applications)) 0) (λ e. rw e) (λ e. rw e)
-
 -- the next station that the last answer names is that of the station then
 said-next :
     (records : List (List ℕ)) (s : Station)
     → holdsToken s ≡ false
-    → nextByAnswers (nextOf (s .«token_ring»)) (map Is (answersTo s records)) ≡ nextOf (until s records .«token_ring»)
+    → nextByAnswers (nextIn s) (map Is (answersTo s records)) ≡ nextIn (until s records)
 unfolding until
 said-next [] s e = refl
 said-next (bytes ∷ later) s e =
     let after = pollOf s bytes .station in
     rw (on-until s bytes later e)
-    (ap (λ (n : ℕ). cond (eqb (pollOf s bytes .answer .state) 3) n (nextByAnswers n (map Is (answersTo after later)))) (poll-next s bytes)
-    ∙ ap (λ (b : Bool). cond b (nextOf (after .«token_ring»)) (nextByAnswers (nextOf (after .«token_ring»)) (map Is (answersTo after later)))) (says-held s bytes)
+    (ap (λ (n : ℕ). cond (eqb (pollOf s bytes .answer .state) 3) n (nextByAnswers n (map Is (answersTo after later)))) (poll-names s bytes)
+    ∙ ap (λ (b : Bool). cond b (nextIn after) (nextByAnswers (nextIn after) (map Is (answersTo after later)))) (says-held s bytes)
     ∙ cases (holdsToken after)
-    (λ h. rw h (ap (λ (x : Station). nextOf (x .«token_ring»)) (sym (held-until after later h))))
+    (λ h. rw h (ap nextIn (sym (held-until after later h))))
     (λ h. rw h (said-next later after h)))
 
--- what polls leave is sound, and has the settings that it had
+-- what polls leave is sound
 until-sound : (records : List (List ℕ)) (s : Station) → SoundStation s → SoundStation (until s records)
 unfolding until
 until-sound [] s w = w
 until-sound (bytes ∷ later) s w = either SoundStation (holdsToken s) _ _ w (until-sound later (pollOf s bytes .station) (poll-sound s bytes w))
 
-until-settings : (records : List (List ℕ)) (s : Station) → until s records .p ≡ s .p
-unfolding until
-until-settings [] s = refl
-until-settings (bytes ∷ later) s =
-    cases (holdsToken s) (λ e. rw e) (λ e. rw e (until-settings later (pollOf s bytes .station) ∙ poll-settings s bytes))
-
--- its next station is the first of the others, and its own address where there is none
-next-of-others : (s : Station) → SoundStation s → nextOf (s .«token_ring») ≡ headOr (s .p .address) (others (s .«token_ring»))
-next-of-others s w = next-head (s .«token_ring») (w .ring-sound) ∙ ap (λ (a : ℕ). headOr a (others (s .«token_ring»))) (w .own-is)
+-- its next station is the first of the others, nobody where there is none
+next-of-others : (s : Station) → SoundStation s → nextIn s ≡ nextNumber (firstOf (others (s .«token_ring»)))
+next-of-others s w = ap nextNumber (next-first (s .«token_ring») (w .ring-sound))
 
 -- The theorem.
 
@@ -314,13 +301,11 @@ module _ (trace before : List ℕ) (t : SilentTrace trace before) where
   unfolding plainOf
   own-is = ap (λ (f : PlainSettings). f .address) (header-of .same-numbers)
 
-  next-is : nextByAnswers (nextOf (station .«token_ring»)) (silentAnswers t left) ≡ headOr (headerOf trace .settings .address) (others (until station (t .records) .«token_ring»))
+  next-is : nextByAnswers (nextIn station) (silentAnswers t left) ≡ nextNumber (firstOf (others (until station (t .records) .«token_ring»)))
   next-is =
-      ap (nextByAnswers (nextOf (station .«token_ring»))) answers-are
+      ap (nextByAnswers (nextIn station)) answers-are
       ∙ said-next (t .records) station not-held
       ∙ next-of-others (until station (t .records)) (until-sound (t .records) station (header-of .is-sound))
-      ∙ ap (λ (q : Parameters). headOr (q .address) (others (until station (t .records) .«token_ring»))) (until-settings (t .records) station)
-      ∙ ap (λ (a : ℕ). headOr a (others (until station (t .records) .«token_ring»))) own-is
 
 -- demand 3 over a trace's bytes
 pub silence-in-trace : SilenceInTrace
@@ -337,6 +322,6 @@ silence-in-trace trace before t =
       all-sent = λ e. g .all-sent (sym held ∙ e);
       some-left = λ e. g .some-left (sym held ∙ e);
       removes = rw sent (g .removes);
-      names-next = rw sent (next-is trace before t ∙ ap (headOr (headerOf trace .settings .address)) (g .removes));
+      names-next = rw sent (next-is trace before t ∙ ap (λ (l : List ℕ). nextNumber (firstOf l)) (g .removes));
       bound = λ l. held ∙ g .bound l;
     }

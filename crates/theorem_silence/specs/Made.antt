@@ -16,7 +16,7 @@ use Rattle.ring_addresses.specs.Words.{bitOf, wordOf, hasIn}
 use Rattle.ring.specs.declared.Ring.{Ring}
 use Rattle.ring.specs.declared.GapState.{GapState}
 use Rattle.ring.specs.declared.GapState.the-variants.{Waiting, DoPoll}
-use Rattle.ring.specs.Ring.{has, make, freshOf, roundOf, lapsOf, passed, witnessOf, claimOf, addOf, nextOf, polls, candidateOf, gapOf}
+use Rattle.ring.specs.Ring.{has, make, freshOf, roundOf, lapsOf, passed, witnessOf, claimOf, addOf, others, nextOf, polls, candidateOf, gapOf}
 use Rattle.codec_telegrams.specs.declared.Telegram.the-variants as telegram
 use Rattle.codec_telegrams.specs.Words as words
 use Rattle.codec_decisions.specs.Decisions as decisions
@@ -118,7 +118,7 @@ pub record FirstRuns : Type 0 where
   pub heard-but-one : run begun-question (hears-all 4200 2 6) ≡ listens-question 4900 ring-but-one
 
 pub first-runs : FirstRuns
-unfolding walk nearest betweenOf keeps sameSet roundOf lapsOf bitOf wordOf hasIn has make freshOf passed witnessOf claimOf nextOf rounded timeOf slotTimeOf tokenLostOf rotationTimeOf withActivity withGap withPending withTokenTimes withNextApplication withOnline after run fieldOf beFrom loadOf zerosOr14 words.responseStateOf words.telegramRefusal words.telegramOf decisions.lengthRefusal decisions.decisionRefusal decisions.decisionOf records.headOf records.telegramAt records.decisionAt records.entryRefusal records.wordsRefusal records.recordRefusal steps.knownAt steps.elapsedOf steps.waitedOf steps.markedAt steps.busyOf steps.ongoingOf steps.busActivityOf steps.doneOf polling.connectedOf polling.dispatchOf polling.pollOnline polling.pollInner polling.acceptedAfter polling.acceptedPoll polling.pollOf answering.polledOf steps.rxOf steps.tokenLostWaitOf steps.heardOf hear.listenHeard hear.listenTelegram listening.heardTelegram listening.heardAll listening.receivedAll listening.consumedAll listening.listenTokenOn listening.handleLostToken listening.listenTokenOf steps.pauseOf steps.sentAt steps.transmitOf steps.withTokenTime claiming.claimNext claiming.claimTokenOf holding.declinesOn holding.declinesAt holding.usePassOf holding.appTransmitOf holding.firstOr holding.turnOf holding.askedFrom holding.askedOf holding.holdLess holding.capped holding.endOf holding.holdEndOf holding.holdsOf holding.useAppsAfter holding.useAppsOf holding.useTokenTimed holding.useTokenOf passing.gapAdvanced passing.passSent passing.passSend passing.passPollOn passing.passPoll passing.passTokenOf freshStation freshCore commands.onlineOf holding.validResponse holding.receivedOf holding.awaitDataOf listening.activeIdleOn listening.activeIdleOf active.activeCollided active.tokenHeard active.activeHeard active.handleTelegram
+unfolding walk nearest betweenOf keeps sameSet roundOf lapsOf bitOf wordOf hasIn has make freshOf passed witnessOf claimOf others nextOf rounded timeOf slotTimeOf tokenLostOf rotationTimeOf withActivity withGap withPending withTokenTimes withNextApplication withOnline after run fieldOf beFrom loadOf zerosOr14 words.responseStateOf words.telegramRefusal words.telegramOf decisions.lengthRefusal decisions.decisionRefusal decisions.decisionOf records.headOf records.telegramAt records.decisionAt records.entryRefusal records.wordsRefusal records.recordRefusal steps.knownAt steps.elapsedOf steps.waitedOf steps.markedAt steps.busyOf steps.ongoingOf steps.busActivityOf steps.doneOf polling.connectedOf polling.dispatchOf polling.pollOnline polling.pollInner polling.acceptedAfter polling.acceptedPoll polling.pollOf answering.polledOf steps.rxOf steps.tokenLostWaitOf steps.heardOf hear.listenHeard hear.listenTelegram listening.heardTelegram listening.heardAll listening.receivedAll listening.consumedAll listening.listenTokenOn listening.handleLostToken listening.listenTokenOf steps.pauseOf steps.sentAt steps.transmitOf steps.withTokenTime claiming.claimNext claiming.claimTokenOf holding.declinesOn holding.declinesAt holding.usePassOf holding.appTransmitOf holding.firstOr holding.turnOf holding.askedFrom holding.askedOf holding.holdLess holding.capped holding.endOf holding.holdEndOf holding.holdsOf holding.useAppsAfter holding.useAppsOf holding.useTokenTimed holding.useTokenOf passing.gapAdvanced passing.passSentOn passing.passSend passing.passPollOn passing.passPoll passing.passTokenOf freshStation freshCore commands.onlineOf holding.validResponse holding.receivedOf holding.awaitDataOf listening.activeIdleOn listening.activeIdleOf active.activeCollided active.tokenHeard active.activeHeard active.handleTelegram
 first-runs =
     record {
       look = refl;
@@ -137,7 +137,7 @@ record Tested : Type 0 where
   pub own-but-one : ring-but-one .own ≡ 0
 
 tested : Tested
-unfolding walk nearest betweenOf keeps sameSet roundOf lapsOf bitOf wordOf hasIn has make freshOf passed witnessOf claimOf nextOf rounded timeOf slotTimeOf tokenLostOf rotationTimeOf withActivity withGap withPending withTokenTimes withNextApplication withOnline after run fieldOf beFrom loadOf zerosOr14 words.responseStateOf words.telegramRefusal words.telegramOf decisions.lengthRefusal decisions.decisionRefusal decisions.decisionOf records.headOf records.telegramAt records.decisionAt records.entryRefusal records.wordsRefusal records.recordRefusal steps.knownAt steps.elapsedOf steps.waitedOf steps.markedAt steps.busyOf steps.ongoingOf steps.busActivityOf steps.doneOf polling.connectedOf polling.dispatchOf polling.pollOnline polling.pollInner polling.acceptedAfter polling.acceptedPoll polling.pollOf answering.polledOf steps.rxOf steps.tokenLostWaitOf steps.heardOf hear.listenHeard hear.listenTelegram listening.heardTelegram listening.heardAll listening.receivedAll listening.consumedAll listening.listenTokenOn listening.handleLostToken listening.listenTokenOf steps.pauseOf steps.sentAt steps.transmitOf steps.withTokenTime claiming.claimNext claiming.claimTokenOf holding.declinesOn holding.declinesAt holding.usePassOf holding.appTransmitOf holding.firstOr holding.turnOf holding.askedFrom holding.askedOf holding.holdLess holding.capped holding.endOf holding.holdEndOf holding.holdsOf holding.useAppsAfter holding.useAppsOf holding.useTokenTimed holding.useTokenOf passing.gapAdvanced passing.passSent passing.passSend passing.passPollOn passing.passPoll passing.passTokenOf freshStation freshCore commands.onlineOf holding.validResponse holding.receivedOf holding.awaitDataOf listening.activeIdleOn listening.activeIdleOf active.activeCollided active.tokenHeard active.activeHeard active.handleTelegram
+unfolding walk nearest betweenOf keeps sameSet roundOf lapsOf bitOf wordOf hasIn has make freshOf passed witnessOf claimOf others nextOf rounded timeOf slotTimeOf tokenLostOf rotationTimeOf withActivity withGap withPending withTokenTimes withNextApplication withOnline after run fieldOf beFrom loadOf zerosOr14 words.responseStateOf words.telegramRefusal words.telegramOf decisions.lengthRefusal decisions.decisionRefusal decisions.decisionOf records.headOf records.telegramAt records.decisionAt records.entryRefusal records.wordsRefusal records.recordRefusal steps.knownAt steps.elapsedOf steps.waitedOf steps.markedAt steps.busyOf steps.ongoingOf steps.busActivityOf steps.doneOf polling.connectedOf polling.dispatchOf polling.pollOnline polling.pollInner polling.acceptedAfter polling.acceptedPoll polling.pollOf answering.polledOf steps.rxOf steps.tokenLostWaitOf steps.heardOf hear.listenHeard hear.listenTelegram listening.heardTelegram listening.heardAll listening.receivedAll listening.consumedAll listening.listenTokenOn listening.handleLostToken listening.listenTokenOf steps.pauseOf steps.sentAt steps.transmitOf steps.withTokenTime claiming.claimNext claiming.claimTokenOf holding.declinesOn holding.declinesAt holding.usePassOf holding.appTransmitOf holding.firstOr holding.turnOf holding.askedFrom holding.askedOf holding.holdLess holding.capped holding.endOf holding.holdEndOf holding.holdsOf holding.useAppsAfter holding.useAppsOf holding.useTokenTimed holding.useTokenOf passing.gapAdvanced passing.passSentOn passing.passSend passing.passPollOn passing.passPoll passing.passTokenOf freshStation freshCore commands.onlineOf holding.validResponse holding.receivedOf holding.awaitDataOf listening.activeIdleOn listening.activeIdleOf active.activeCollided active.tokenHeard active.activeHeard active.handleTelegram
 tested = record { all = refl; alone = refl; but-one = refl; own-all = refl; own-alone = refl; own-but-one = refl }
 
 pub record Members : Type 0 where
@@ -216,7 +216,7 @@ claimed r = record { look-none = refl; look-heard = refl; question-none = refl; 
 
 -- 1 is asked, where the ring has it polled; and it answers: in the ring, or not ready
 pub one-gets-asked : (r : Ring) → polls r 1 ≡ true → run (pass-question r) (pollSilent 8000 ∷ []) ≡ awaits-one r
-unfolding rounded timeOf slotTimeOf tokenLostOf rotationTimeOf withActivity withGap withPending withTokenTimes withNextApplication withOnline after run fieldOf beFrom loadOf zerosOr14 words.responseStateOf words.telegramRefusal words.telegramOf decisions.lengthRefusal decisions.decisionRefusal decisions.decisionOf records.headOf records.telegramAt records.decisionAt records.entryRefusal records.wordsRefusal records.recordRefusal steps.knownAt steps.elapsedOf steps.waitedOf steps.markedAt steps.busyOf steps.ongoingOf steps.busActivityOf steps.doneOf polling.connectedOf polling.dispatchOf polling.pollOnline polling.pollInner polling.acceptedAfter polling.acceptedPoll polling.pollOf answering.polledOf steps.pauseOf steps.sentAt steps.transmitOf steps.withTokenTime claiming.claimNext claiming.claimTokenOf passing.gapAdvanced passing.passSent passing.passSend passing.passPollOn passing.passPoll passing.passTokenOf gapOf candidateOf status.statusRingOn status.statusRing status.statusAnswered status.statusReceived status.awaitStatusOf
+unfolding rounded timeOf slotTimeOf tokenLostOf rotationTimeOf withActivity withGap withPending withTokenTimes withNextApplication withOnline after run fieldOf beFrom loadOf zerosOr14 words.responseStateOf words.telegramRefusal words.telegramOf decisions.lengthRefusal decisions.decisionRefusal decisions.decisionOf records.headOf records.telegramAt records.decisionAt records.entryRefusal records.wordsRefusal records.recordRefusal steps.knownAt steps.elapsedOf steps.waitedOf steps.markedAt steps.busyOf steps.ongoingOf steps.busActivityOf steps.doneOf polling.connectedOf polling.dispatchOf polling.pollOnline polling.pollInner polling.acceptedAfter polling.acceptedPoll polling.pollOf answering.polledOf steps.pauseOf steps.sentAt steps.transmitOf steps.withTokenTime claiming.claimNext claiming.claimTokenOf passing.gapAdvanced passing.passSentOn passing.passSend passing.passPollOn passing.passPoll passing.passTokenOf gapOf candidateOf status.statusRingOn status.statusRing status.statusAnswered status.statusReceived status.awaitStatusOf
 one-gets-asked r e = rw e
 
 pub record OneAnswers (r : Ring) : Type 0 where

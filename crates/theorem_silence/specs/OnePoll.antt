@@ -3,7 +3,6 @@ use Prim.Native.Nat.{ℕ}
 use mathlib.Core.Bool.{Bool, true, false, cond}
 use mathlib.Core.Path.{_≡_, refl, sym, ap, _∙_}
 use mathlib.Core.List.{List, [], _∷_}
-use borrow.Author.Tests.{eq-eqb, ne-eqb}
 use borrow.Table.Steps.{cases}
 use Rattle.bit_times.specs.declared.Micros.{Micros}
 use Rattle.settings.specs.declared.Parameters.{Parameters}
@@ -14,7 +13,7 @@ use Rattle.ring.specs.declared.Ring.{Ring}
 use Rattle.ring.specs.declared.GapState.{GapState}
 use Rattle.ring.specs.declared.GapState.the-variants.{Waiting, DoPoll}
 use Rattle.ring.specs.Ring.{others, nextOf, witnessOf, removeOf}
-use Rattle.ring.specs.Laws.{next-is, next-alone, next-other, others-witness, others-remove}
+use Rattle.ring.specs.Laws.{next-is, next-alone, others-witness, others-remove}
 use Rattle.codec_answers.specs.declared.Outcome.the-variants as outcome
 use Rattle.codec_answers.specs.declared.Sent.the-variants as sent
 use Rattle.station.specs.declared.Activity.{Activity}
@@ -26,7 +25,8 @@ use Rattle.station.specs.declared.Core.{Core}
 use Rattle.station.specs.declared.RingStep.{RingStep}
 use Rattle.station.specs.Parts.{withActivity, withGap}
 use Rattle.station.specs.Steps.{toUseToken, markedAt, sentAt, busyOf, waitedOf, pauseOf, slotExpiredOf, doneOf, transmitOf, ringStepOf}
-use Rattle.station_pass.specs.Pass.{gapAdvanced, passSent, passSend, passPollOn, passPoll, passTokenOf}
+use Rattle.station_pass.specs.Pass.{gapAdvanced, destinationOf, passSentOn, passSend, passPollOn, passPoll, passTokenOf}
+use Rattle.station_pass.specs.Laws.{destination-is}
 use Rattle.station_check_pass.specs.CheckPass.{resendOf, checkReceived, checkTokenPassOf}
 use Rattle.station_poll.specs.Poll.{dispatchOf}
 use Rattle.theorem_sound.specs.Keeps.{RingGood, witness-good, remove-good}
@@ -73,40 +73,47 @@ pub data Turn (p : Parameters) (now : Micros) (ph : Phase) (counts : Bool) (x : 
   sends : Sends p now (receiver (p .address) ph) (next ph) x → Turn p now ph counts x
   stays : counts ≡ false → Stays p ph x → Turn p now ph counts x
 
--- a pass that the ring has witnessed: if the next station is then ourselves the token is held, else the pass is checked
-held-now : (p : Parameters) (c : Core) (now : Micros) (k : PassTokenAttempt) (to own : ℕ) (seen : Ring) → to ≡ own → Ready p c seen [] → Sends p now own holding (passSent p c now k to seen)
-unfolding passSent transmitOf withActivity
+-- whom the token is passed to: the first of the others, ourselves if there is none
+goes-to : (p : Parameters) (c : Core) (r : Ring) (os : List ℕ) → Ready p c r os → destinationOf (p .address) (nextOf r) ≡ headOr (p .address) os
+goes-to p c r os w =
+    let g = w .ring-good in
+    destination-is r (p .address) (g .sound) (g .own) ∙ ap (λ (o : ℕ). headOr o (others r)) (g .own) ∙ ap (headOr (p .address)) (w .are)
+
+-- a pass that the ring has witnessed: if there is then nobody else the token is held, else the pass is checked
+held-now : (p : Parameters) (c : Core) (now : Micros) (k : PassTokenAttempt) (to own : ℕ) (seen : Ring) → to ≡ own → Ready p c seen [] → Sends p now own holding (passSentOn (nextOf seen) p c now k to seen)
+unfolding passSentOn transmitOf withActivity
 held-now p c now k to own seen e w =
     let g = w .ring-good in
-    rw (eq-eqb (nextOf seen) (p .address) (next-alone seen (g .sound) (w .are) ∙ g .own))
+    rw (next-alone seen (g .sound) (w .are))
     (record { token = ap sent.Token e; marks = refl; place = (record { on = w .on; ring-good = g; are = w .are }, record { since = now; held = refl }) })
 
-checked-now : (p : Parameters) (c : Core) (now : Micros) (k : PassTokenAttempt) (to x : ℕ) (more : List ℕ) (seen : Ring) → to ≡ x → Ready p c seen (x ∷ more) → Sends p now x (checking k x more) (passSent p c now k to seen)
-unfolding passSent transmitOf withActivity
+checked-now : (p : Parameters) (c : Core) (now : Micros) (k : PassTokenAttempt) (to x : ℕ) (more : List ℕ) (seen : Ring) → to ≡ x → Ready p c seen (x ∷ more) → Sends p now x (checking k x more) (passSentOn (nextOf seen) p c now k to seen)
+unfolding passSentOn transmitOf withActivity
 checked-now p c now k to x more seen e w =
     let g = w .ring-good in
-    let other = next-other seen x more (g .sound) (w .are) in
-    rw (ne-eqb (nextOf seen) (p .address) (λ z. other .not-own (sym (next-is seen x more (g .sound) (w .are)) ∙ z ∙ sym (g .own))))
+    rw (next-is seen x more (g .sound) (w .are))
     (record { token = ap sent.Token e; marks = refl; place = (record { on = w .on; ring-good = g; are = w .are }, refl) })
 
--- the ring once it has witnessed the pass to the next station: the others stay
-seen-ready : (p : Parameters) (c : Core) (r : Ring) (os : List ℕ) → Ready p c r os → Ready p c (witnessOf r (p .address) (nextOf r)) os
+-- the ring once it has witnessed the pass: the others stay
+seen-ready : (p : Parameters) (c : Core) (r : Ring) (os : List ℕ) → Ready p c r os → Ready p c (witnessOf r (p .address) (destinationOf (p .address) (nextOf r))) os
 seen-ready p c r os w =
     let g = w .ring-good in
+    let to = destinationOf (p .address) (nextOf r) in
     record {
       on = w .on;
-      ring-good = witness-good p r (p .address) (nextOf r) g;
-      are = ap (λ (a : ℕ). others (witnessOf r a (nextOf r))) (sym (g .own)) ∙ others-witness r (g .sound) ∙ w .are;
+      ring-good = witness-good p r (p .address) to g;
+      are =
+          ap (λ (a : ℕ). others (witnessOf r a to)) (sym (g .own))
+          ∙ ap (λ (a : ℕ). others (witnessOf r (r .own) a)) (destination-is r (p .address) (g .sound) (g .own))
+          ∙ others-witness r (g .sound)
+          ∙ w .are;
     }
 
 -- a token that is sent goes to the first of the others; with none it goes to ourselves and is held
 first-sent : (p : Parameters) (c : Core) (r : Ring) (now : Micros) (k : PassTokenAttempt) (os : List ℕ) → Ready p c r os → Sends p now (headOr (p .address) os) (sentTo k os) (passSend p c r now k)
 unfolding passSend
-first-sent p c r now k [] w =
-    let g = w .ring-good in
-    held-now p c now k (nextOf r) (p .address) _ (next-alone r (g .sound) (w .are) ∙ g .own) (seen-ready p c r [] w)
-first-sent p c r now k (x ∷ more) w =
-    checked-now p c now k (nextOf r) x more _ (next-is r x more (w .ring-good .sound) (w .are)) (seen-ready p c r (x ∷ more) w)
+first-sent p c r now k [] w = held-now p c now k _ (p .address) _ (goes-to p c r [] w) (seen-ready p c r [] w)
+first-sent p c r now k (x ∷ more) w = checked-now p c now k _ x more _ (goes-to p c r (x ∷ more) w) (seen-ready p c r (x ∷ more) w)
 
 -- parts of the station that these places do not look at
 active-ready : (p : Parameters) (c : Core) (r : Ring) (os : List ℕ) (a : Activity) → Ready p c r os → Ready p (withActivity c a) r os
@@ -216,23 +223,23 @@ unfolding gapDue
 no-gap p c r = refl
 
 -- a token that is sent again, or, after the third, to the next station behind the one that is taken out: the pause is over
-again : (p : Parameters) (c : Core) (r : Ring) (now : Micros) (k : PassTokenAttempt) (os : List ℕ) → Ready p c r os → pauseOf p c now .over ≡ true → Sends p now (headOr (p .address) os) (sentTo k os) (passTokenOf p c r now false k)
+pub again : (p : Parameters) (c : Core) (r : Ring) (now : Micros) (k : PassTokenAttempt) (os : List ℕ) → Ready p c r os → pauseOf p c now .over ≡ true → Sends p now (headOr (p .address) os) (sentTo k os) (passTokenOf p c r now false k)
 again p c r now k os w e = paused-sent p c r now false k os w (no-gap p c r) e
 
-taken-out : (p : Parameters) (c : Core) (r : Ring) (x : ℕ) (more : List ℕ) → Ready p c r (x ∷ more) → Ready p c (removeOf r (nextOf r)) more
+taken-out : (p : Parameters) (c : Core) (r : Ring) (x : ℕ) (more : List ℕ) → Ready p c r (x ∷ more) → Ready p c (removeOf r (destinationOf (p .address) (nextOf r))) more
 taken-out p c r x more w =
     let g = w .ring-good in
     record {
       on = w .on;
-      ring-good = remove-good p r (nextOf r) g;
-      are = ap (λ (a : ℕ). others (removeOf r a)) (next-is r x more (g .sound) (w .are)) ∙ others-remove r x more (g .sound) (w .are);
+      ring-good = remove-good p r _ g;
+      are = ap (λ (a : ℕ). others (removeOf r a)) (goes-to p c r (x ∷ more) w) ∙ others-remove r x more (g .sound) (w .are);
     }
 
-resent : (k : PassTokenAttempt) (p : Parameters) (c : Core) (r : Ring) (now : Micros) (x : ℕ) (more : List ℕ) → Ready p c r (x ∷ more) → pauseOf p c now .over ≡ true → Sends p now (receiver (p .address) (checking k x more)) (next (checking k x more)) (resendOf p c r now k)
+pub resent : (k : PassTokenAttempt) (p : Parameters) (c : Core) (r : Ring) (now : Micros) (x : ℕ) (more : List ℕ) → Ready p c r (x ∷ more) → pauseOf p c now .over ≡ true → Sends p now (receiver (p .address) (checking k x more)) (next (checking k x more)) (resendOf p c r now k)
 unfolding resendOf
 resent First p c r now x more w e = again p c r now Second (x ∷ more) w e
 resent Second p c r now x more w e = again p c r now Third (x ∷ more) w e
-resent Third p c r now x more w e = again p c (removeOf r (nextOf r)) now First more (taken-out p c r x more w) e
+resent Third p c r now x more w e = again p c _ now First more (taken-out p c r x more w) e
 
 module _ (p : Parameters) (w : Slotted p) (s : State) (c : Core) (r : Ring) (now : Micros) (bytes : List ℕ) (n : ℕ) where
   -- a pass is being checked: once the slot has expired the next token is sent, before that nothing happens

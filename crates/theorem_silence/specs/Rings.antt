@@ -2,16 +2,18 @@
 use Prim.Native.Nat.{ℕ, zero, suc, _+_, _≤_, _<_}
 use mathlib.Core.Bool.{Bool, true, false, cond, not, _||_}
 use mathlib.Core.Path.{_≡_, refl, sym, ap, _∙_}
+use mathlib.Core.List.{List, [], _∷_}
 use lib.ListN.{length}
 use lib.Dec.{eqb, leb, ltb}
 use native.Mathlib.Omega.{arith}
-use borrow.Author.Tests.{le-leb, lt-leb, le-ltb, lt-ltb, ne-eqb, leb-true, leb-false, eqb-true, eqb-false}
+use borrow.Author.Tests.{le-leb, lt-leb, le-ltb, lt-ltb, ne-eqb, leb-true, leb-false, eqb-true}
 use borrow.Table.Steps.{cases}
 use Rattle.ring_addresses.specs.Set.{up, walk, betweenOf, keeps}
 use Rattle.ring_addresses.specs.SetLaws.{true≢false, walk-ext, walk-nobody}
 use Rattle.ring.specs.declared.Ring.{Ring}
-use Rattle.ring.specs.Ring.{has, others, nextOf, polls, witnessOf}
-use Rattle.ring.specs.Laws.{SoundRing, next-in, witness-has}
+use Rattle.ring.specs.declared.NextStation.{NextStation}
+use Rattle.ring.specs.Ring.{has, others, firstOf, nextOf, pollsOn, polls, witnessOf}
+use Rattle.ring.specs.Laws.{SoundRing, next-first, next-other, witness-has}
 
 -- the members are 0, 1, .. k
 abbrev pub UpTo : Ring → ℕ → Type 0
@@ -99,9 +101,10 @@ above-one (suc (suc n)) a b = omega arith
 pub one-asked : (r : Ring) → SoundRing r → r .own ≡ 0 → has r 1 ≡ false → polls r 1 ≡ true
 unfolding polls
 one-asked r s own out =
-    ap (λ (o : ℕ). cond (eqb (nextOf r) o) (not (eqb 1 o)) (betweenOf o 1 (nextOf r))) own ∙ go (nextOf r) (next-in r s)
+    ap (λ (o : ℕ). pollsOn (nextOf r) o 1) own ∙ ap (λ (n : NextStation). pollsOn n 0 1) (next-first r s) ∙ go (others r) refl
   where
-    go : (n : ℕ) → has r n ≡ true → cond (eqb n 0) (not (eqb 1 0)) (betweenOf 0 1 n) ≡ true
-    go n i =
-        cases (eqb n 0) (λ e. rw e)
-        (λ e. rw e (cases (eqb n 1) (λ f. absurd (true≢false (sym i ∙ ap (has r) (eqb-true n 1 f) ∙ out))) (λ f. one-between n (above-one n (eqb-false n 0 e) (eqb-false n 1 f)))))
+    go : (os : List ℕ) → others r ≡ os → pollsOn (firstOf os) 0 1 ≡ true
+    go [] e = refl
+    go (y ∷ ys) e =
+        let other = next-other r y ys s e in
+        one-between y (above-one y (λ z. other .not-own (z ∙ sym own)) (λ z. true≢false (sym (other .in-set) ∙ ap (has r) z ∙ out)))

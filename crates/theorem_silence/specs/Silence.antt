@@ -9,7 +9,7 @@
 --   to itself. It holds the token by the (3k+1)th poll that comes at least one slot time after known last bus activity."
 --
 -- Document 01: "holds the token" is the state UseToken, "start a token pass" the state PassToken; a poll with unknown activity is
--- not counted.
+-- not counted. Document 02 (P5): with no others left nobody is next in the ring, and the last token goes to the station itself.
 use Prim.Native.Nat.{ℕ, _+_, _-_, _*_, _/_, _≤_}
 use mathlib.Core.Bool.{Bool, true, false, cond}
 use mathlib.Core.Path.{_≡_}

@@ -15,8 +15,9 @@ use Rattle.settings.specs.declared.Parameters.{Parameters}
 use Rattle.ring.specs.declared.Ring.{Ring}
 use Rattle.ring.specs.declared.GapState.{GapState}
 use Rattle.ring.specs.declared.GapState.the-variants.{Waiting, DoPoll}
-use Rattle.ring.specs.Ring.{nextOf}
-use Rattle.ring.specs.Laws.{next-low}
+use Rattle.ring.specs.declared.NextStation.{NextStation}
+use Rattle.ring.specs.declared.NextStation.the-variants.{Nobody, Neighbour}
+use Rattle.ring.specs.Laws.{next-number-low}
 use Rattle.codec_decisions.specs.declared.Decision.{Decision}
 use Rattle.codec_decisions.specs.declared.Decision.the-variants as decision
 use Rattle.codec_telegrams.specs.declared.Telegram.{Telegram}
@@ -51,7 +52,8 @@ use Rattle.station_hold.specs.declared.Asked.{Asked}
 use Rattle.station_hold.specs.Hold.{validResponse, holdsOf, askedOf, appTransmitOf, usePassOf, useAppsAfter, useAppsOf, useTokenTimed, useTokenOf, receivedOf, withNotice, timeoutOf, awaitDataOf}
 use Rattle.station.specs.declared.Heard.{Heard}
 use Rattle.station_listen.specs.Listen.{handleLostToken, listenResponse, consumedAll, listenTokenOn, listenTokenOf, activeResponse, activeIdleOn, activeIdleOf}
-use Rattle.station_pass.specs.Pass.{passSent, passSend, passPollOn, passPoll, passTokenOf}
+use Rattle.station_pass.specs.Pass.{passSentOn, passSend, passPollOn, passPoll, passTokenOf}
+use Rattle.station_pass.specs.Laws.{destination-low}
 use Rattle.station_await_status.specs.AwaitStatus.{statusAnswered, statusUnexpected, statusReceived, awaitStatusOf}
 use Rattle.station_check_pass.specs.CheckPass.{resendOf, checkReceived, checkTokenPassOf}
 use Rattle.station_poll.specs.Poll.{connectedOf, dispatchOf, pollOnline, pollInner, acceptedAfter, acceptedPoll, pollOf}
@@ -197,16 +199,14 @@ module _ (p : Parameters) (n : ℕ) (bytes : List ℕ) (count : ℕ) (now : Micr
   active-fits c r q m collisions l = lost-fits c r _ (λ d. active-on-fits q d r m collisions l)
 
   -- do_pass_token
-  pass-sent-fits : (c : Core) (a : PassTokenAttempt) (next : ℕ) (r : Ring) → next < 126 → Fit (passSent p c now a next r)
-  unfolding passSent
-  pass-sent-fits c a next r l =
-      either Fit (eqb (nextOf r) (p .address)) _ _
-      (record { step-fits = transmit-fits p _ _ now _ (omega arith) })
-      (record { step-fits = transmit-fits p _ _ now _ (omega arith) })
+  pass-sent-fits : (x : NextStation) (c : Core) (a : PassTokenAttempt) (to : ℕ) (r : Ring) → to < 126 → Fit (passSentOn x p c now a to r)
+  unfolding passSentOn
+  pass-sent-fits Nobody c a to r l = record { step-fits = transmit-fits p _ _ now _ (omega arith) }
+  pass-sent-fits (Neighbour next) c a to r l = record { step-fits = transmit-fits p _ _ now _ (omega arith) }
 
   pass-send-fits : (c : Core) (r : Ring) (a : PassTokenAttempt) → RingGood p r → Fit (passSend p c r now a)
   unfolding passSend
-  pass-send-fits c r a g = pass-sent-fits c a _ _ (next-low r (g .sound))
+  pass-send-fits c r a g = pass-sent-fits _ c a _ _ (destination-low r (p .address) (g .sound) (g .own))
 
   pass-poll-fits : (s : GapState) (c : Core) (r : Ring) (a : PassTokenAttempt) → GapAddressed s → RingGood p r → Fit (passPollOn s p c r now a)
   unfolding passPollOn
@@ -248,7 +248,7 @@ module _ (p : Parameters) (n : ℕ) (bytes : List ℕ) (count : ℕ) (now : Micr
   unfolding resendOf
   resend-fits c r First g = pass-fits _ r false Second g
   resend-fits c r Second g = pass-fits _ r false Third g
-  resend-fits c r Third g = pass-fits _ _ false First (remove-good p r (nextOf r) g)
+  resend-fits c r Third g = pass-fits _ _ false First (remove-good p r _ g)
 
   check-fits : (c : Core) (r : Ring) (a : PassTokenAttempt) → RingGood p r → Fit (checkTokenPassOf p c r now a bytes n count)
   unfolding checkTokenPassOf checkReceived
@@ -306,14 +306,14 @@ polled-fits p n x e l g f =
       consumed = f .step-fits .consumed-fits;
       notice = f .step-fits .notice-fits;
       application = omega arith;
-      station = omega (arith, next-low (x .ring) (g .sound));
+      station = next-number-low (x .ring) (g .sound);
     }
 
 -- the answer of a refused entry
 refused-poll-fits : (s : Station) (k : ℕ) → SoundStation s → refusalKnown k ≡ true → Fits (refusedPoll s k .answer)
 unfolding refusedPoll
 refused-poll-fits s k w e =
-    refused-fits k _ _ _ e (state-known (s .state)) (omega (arith, w .core-sound .next-one, w .eight)) (omega (arith, next-low (s .«token_ring») (w .ring-sound)))
+    refused-fits k _ _ _ e (state-known (s .state)) (omega (arith, w .core-sound .next-one, w .eight)) (next-number-low (s .«token_ring») (w .ring-sound))
 
 -- a record's refusal is none or one of a record's: 12 to 15
 abbrev Known : ℕ → Type 0

@@ -9,9 +9,11 @@ use lib.Dec.{ltb, eqb, lit≤}
 use Rattle.bit_times.specs.declared.Micros.{Micros}
 use Rattle.settings.specs.declared.Parameters.{Parameters}
 use Rattle.ring.specs.declared.Ring.{Ring}
+use Rattle.ring.specs.declared.NextStation.{NextStation}
+use Rattle.ring.specs.declared.NextStation.the-variants.{Nobody, Neighbour}
 use Rattle.ring.specs.declared.GapState.{GapState}
 use Rattle.ring.specs.declared.GapState.the-variants.{Waiting, DoPoll}
-use Rattle.ring.specs.Ring.{nextOf, candidateOf, polls, gapOf}
+use Rattle.ring.specs.Ring.{candidateOf, polls, gapOf}
 use Rattle.codec_telegrams.specs.declared.ResponseState.{ResponseState}
 use Rattle.codec_telegrams.specs.declared.ResponseState.the-variants.{Slave, MasterNotReady, MasterWithoutToken, MasterInRing}
 use Rattle.codec_telegrams.specs.declared.Telegram.{Telegram}
@@ -24,7 +26,7 @@ use Rattle.station.specs.declared.State.the-variants.{UseToken, PassToken, Chec
 use Rattle.station.specs.declared.Core.{Core}
 use Rattle.station.specs.Parts.{withActivity}
 use Rattle.station.specs.Steps.{toActiveIdle, knownAt, waitedOf, pauseOf, slotExpiredOf}
-use Rattle.station_pass.specs.Pass.{gapAdvanced, passSent, passSend, passPollOn, passPoll, passTokenOf}
+use Rattle.station_pass.specs.Pass.{gapAdvanced, passSentOn, passSend, passPollOn, passPoll, passTokenOf}
 use Rattle.station_await_status.specs.AwaitStatus.{statusRingOn, statusRing, statusAnswered, statusUnexpected, statusReceived, awaitStatusOf}
 use Rattle.station_check_pass.specs.CheckPass.{resendOf, checkReceived, checkTokenPassOf}
 use Rattle.theorem_sound.specs.Moves.{GapAddressed, GapCounted}
@@ -69,13 +71,16 @@ pub record PassEnds (E : State → Type 0) (gap : Bool) : Type 0 where
 
 module _ {p : Parameters} {n : ℕ} {now : Micros} {x₀ : State} {c₀ : Core} {E : State → Type 0} where
   -- do_pass_token
+  sent-made : {gap : Bool} {attempt : PassTokenAttempt} {c : Core} (x : NextStation) (to : ℕ) (r : Ring) → PassEnds E gap → Came p n now x₀ c₀ (PassToken gap attempt) c → RingGood p r → RingMade p n now x₀ c₀ E (passSentOn x p c now attempt to r)
+  unfolding passSentOn
+  sent-made Nobody to r e k g =
+      record { made-step = transmit-made _ (lit≤ tt) (to-use _ refl (new-token n now (k .clock)) k) (e .ends-alone _); made-ring = g }
+  sent-made {attempt = attempt} (Neighbour a) to r e k g =
+      record { made-step = transmit-made _ (lit≤ tt) (to-check attempt refl k) (e .ends-check _); made-ring = g }
+
   send-made : {gap : Bool} {attempt : PassTokenAttempt} {c : Core} (r : Ring) → PassEnds E gap → Came p n now x₀ c₀ (PassToken gap attempt) c → RingGood p r → RingMade p n now x₀ c₀ E (passSend p c r now attempt)
-  unfolding passSend passSent
-  send-made {attempt = attempt} r e k g =
-      let w = witness-good p r (p .address) (nextOf r) g in
-      either (RingMade p n now x₀ c₀ E) (eqb (nextOf _) (p .address)) _ _
-      (record { made-step = transmit-made _ (lit≤ tt) (to-use _ refl (new-token n now (k .clock)) k) (e .ends-alone _); made-ring = w })
-      (record { made-step = transmit-made _ (lit≤ tt) (to-check attempt refl k) (e .ends-check _); made-ring = w })
+  unfolding passSend
+  send-made r e k g = sent-made _ _ _ e k (witness-good p r (p .address) _ g)
 
   poll-on-made : {attempt : PassTokenAttempt} {c : Core} (s : GapState) (r : Ring) → GapAddressed s → PassEnds E true → Came p n now x₀ c₀ (PassToken true attempt) c → RingGood p r → RingMade p n now x₀ c₀ E (passPollOn s p c r now attempt)
   unfolding passPollOn
@@ -128,7 +133,7 @@ module _ {p : Parameters} {n : ℕ} {now : Micros} {x₀ : State} {c₀ : Core} 
   unfolding resendOf
   resend-made First r e u k g = pass-token-made false r e (λ o. u o Second) (to-pass false Second refl k) g
   resend-made Second r e u k g = pass-token-made false r e (λ o. u o Third) (to-pass false Third refl k) g
-  resend-made Third r e u k g = pass-token-made false _ e (λ o. u o First) (to-pass false First refl k) (remove-good p r (nextOf r) g)
+  resend-made Third r e u k g = pass-token-made false _ e (λ o. u o First) (to-pass false First refl k) (remove-good p r _ g)
 
   pub check-token-made : {c : Core} (attempt : PassTokenAttempt) (r : Ring) (bytes : List ℕ) (count : ℕ) → PassEnds E false → ActiveEnds E → (slotExpiredOf p c now .over ≡ true → pauseOf p c now .over ≡ false → (k : PassTokenAttempt) → E (PassToken false k)) → Came p n now x₀ c₀ (CheckTokenPass attempt) c → RingGood p r → RingMade p n now x₀ c₀ E (checkTokenPassOf p c r now attempt bytes n count)
   unfolding checkTokenPassOf checkReceived slotExpiredOf pauseOf waitedOf knownAt withActivity

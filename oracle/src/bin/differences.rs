@@ -185,6 +185,13 @@ fn factors(millis: u64) -> String {
     format!("{:?}", parameters::factors(Duration::from_millis(millis)))
 }
 
+/// Where the published text passes its token when the station is alone, and what an answer carries.
+fn alone() -> String {
+    let station = FdlActiveStation::new(header().parameters());
+    let ring = station.inspect_token_ring();
+    format!("the token to {}, {:?}, {} in the answer", ring.next_station(), ring.next(), ring.next().number())
+}
+
 /// Two applications, the second one's turn; then a poll with one application only.
 fn changed_list() -> String {
     let mut station = FdlActiveStation::new(header().parameters());
@@ -278,22 +285,22 @@ fn shown() -> Vec<Shown> {
             "A1",
             "ClaimToken, polled exactly one pause (66 us) after its last activity",
             &silent(&[1000, 7400, 7532]),
-            "0232140030000014",
-            "0440000000000014",
+            "02321400300001fc",
+            "04400000000001fc",
         ),
         by_trace(
             "A2",
             "AwaitDataResponse, polled exactly one slot (400 us) after its telegram",
             &with(asked_9(), poll(8122, &[])),
-            "0460000000809014",
-            "0350000000000014",
+            "04600000008091fc",
+            "03500000000001fc",
         ),
         by_trace(
             "A3",
             "the first PassToken after a claim",
             &silent(&[1000, 7400, 7540, 7700, 7800]),
-            "0232140030000014",
-            "0284180060000014",
+            "02321400300001fc",
+            "02841800600001fc",
         ),
         by_trace(
             "A4",
@@ -323,6 +330,13 @@ fn shown() -> Vec<Shown> {
         by_walk("R1a", "next above HSA", (5, 10, &[20], 9), "waits", "polls 0"),
         by_walk("R1b", "a walk from beyond HSA", (1, 5, &[], 9), "polls 0", "polls 10"),
         by_walk("R1c", "next below own, walk up to own", (5, 126, &[2], 4), "waits", "polls 5"),
+        by_call(
+            "R5",
+            "a lone station 5: next_station() of the published text, and document 02's answer beside it",
+            alone,
+            "the token to 5, Nobody, 127 in the answer",
+            "the token to 5, Nobody, 127 in the answer",
+        ),
         by_call(
             "S2",
             "slot_bits(199) at 500 kbaud, and what the builder then holds",

@@ -2,6 +2,7 @@
 
 use super::poll::Poll;
 use crate::records::{state::*, Notice, Sent, Telegram};
+use crate::ring::Next;
 
 /// All that has to happen in some poll.
 pub const EVENTS: [&str; 71] = [
@@ -299,8 +300,9 @@ fn check_token_pass(poll: &Poll, when: When) {
     }
     let source = telegrams[0].source();
     when(source.is_none(), "CheckTokenPass: short confirmation first");
-    when(source == Some(poll.next), "CheckTokenPass: next station heard first");
-    when(source.map_or(false, |source| source != poll.next), "CheckTokenPass: another station heard first");
+    let next = |source: u8| poll.next == Next::Station(source);
+    when(source.map_or(false, next), "CheckTokenPass: next station heard first");
+    when(source.map_or(false, |source| !next(source)), "CheckTokenPass: another station heard first");
     when(is.state == LISTEN_TOKEN, "CheckTokenPass: second collision");
     when(is.state == USE_TOKEN, "CheckTokenPass: token accepted");
     when(is.state == ACTIVE_IDLE && is.status_request.is_some(), "CheckTokenPass: request noted");

@@ -3,9 +3,10 @@
 
 use super::events::{events, EVENTS};
 use super::points::Points;
-use super::poll::{Poll, WITNESSED};
+use super::poll::{Poll, WALKS_ALONE, WITNESSED};
 use super::refusals;
-use crate::records::{state::*, Notice, PollRecord, Sent, Telegram, LAST_CLOCK};
+use crate::records::{state::*, Answer, Notice, PollRecord, Sent, Telegram, LAST_CLOCK};
+use crate::ring::Next;
 use crate::trace::{Entry, Header, Runner, Trace, ANSWER, HEADER};
 
 /// The states by document 01's numbers.
@@ -66,6 +67,25 @@ const SENT: [&str; 5] = ["nothing", "token", "status request", "status response"
 
 /// For each state, what a poll in it can send.
 const SENT_OF: OfStates = [&[0, 1], &[0, 1, 3], &[0, 1, 3], &[0, 4], &[0, 1], &[0, 4], &[0, 1, 2], &[0, 1], &[0, 1]];
+
+/// The states in which a station can be alone: all but CheckTokenPass, which it enters and keeps with another as next.
+const ALONE_IN: [u8; 8] = [
+    OFFLINE,
+    LISTEN_TOKEN,
+    ACTIVE_IDLE,
+    USE_TOKEN,
+    CLAIM_TOKEN,
+    AWAIT_DATA_RESPONSE,
+    PASS_TOKEN,
+    AWAIT_STATUS_RESPONSE,
+];
+
+/// The entries whose answers carry the next station. Offline makes a fresh station, which is alone.
+const ANSWERED: [&str; 4] = ["poll", "online", "offline", "refused entry"];
+
+/// Company that comes and goes while the station stays online, by the number of stations in its ring.
+const COMPANY: [&str; 4] =
+    ["alone, then two", "alone, then more than two", "two, then alone", "alone, then two, then alone"];
 
 /// The questions of time, each asked at -1, 0 and +1 microseconds from where its answer changes.
 const QUESTIONS: [&str; 13] = [
@@ -176,6 +196,16 @@ impl Default for Met {
         points.group("heard", pairs(&pairs(&hearing, ": ", &KINDS), ", ", &LAST));
         points.group("token witnessed", WITNESSED);
         points.group("reply to a gap question", pairs(&STATION_TYPES, ", ", &OK));
+        let alone_in = ALONE_IN.map(|state| STATES[usize::from(state)]);
+        let offline = ["offline in Offline".to_string()];
+        let answered = [ANSWERED[0], ANSWERED[1], ANSWERED[3]];
+        let nobody = pairs(&answered, " in ", &alone_in).into_iter().chain(offline);
+        points.group("answered with nobody", nobody);
+        let neighboured = STATES.iter().skip(1).copied().collect::<Vec<_>>();
+        points.group("answered with a station", pairs(&answered, " in ", &neighboured));
+        points.group("company", COMPANY);
+        points.group("gap walk alone", WALKS_ALONE);
+        points.group("reply to a gap question alone", pairs(&STATION_TYPES, ", ", &OK));
         points.group("event", CLOCKS.iter().chain(&EVENTS));
         Met { points, traces: 0, entries: 0 }
     }
@@ -198,7 +228,7 @@ impl Met {
         }
         self.points.hit("applications", header.applications);
         let mut runner = Runner::new(&header);
-        let (mut room, mut clock) = (trace.room, None);
+        let (mut room, mut clock, mut company) = (trace.room, None, Company::default());
         if rest.is_empty() {
             return self.points.hit("ending", "0: no entry");
         }
@@ -224,6 +254,9 @@ impl Met {
                 return ends(room > 0, "18: 1 to 7 bytes left");
             }
             self.see_entry(&header, &mut runner, entry, &mut clock);
+            for case in company.after(&runner) {
+                self.points.hit("company", COMPANY[case]);
+            }
             rest = after;
             room -= ANSWER;
         }
@@ -241,8 +274,9 @@ impl Met {
         let was = runner.station.watch();
         let state = STATES[usize::from(was.state)];
         let ring = runner.station.inspect_token_ring();
-        let (next, ready, size) = (ring.next_station(), ring.ready_for_ring(), ring.size());
+        let (next, ready, size) = (ring.next(), ring.ready_for_ring(), ring.size());
         let answer = runner.entry(entry);
+        self.see_next_station(entry, &answer);
         let bytes = match entry {
             _ if answer.refusal != 0 => {
                 if let Entry::Poll(bytes) = entry {
@@ -282,6 +316,20 @@ impl Met {
         self.see_poll(header, &poll);
     }
 
+    /// Counts who is next in an answer, by the state that the same answer carries.
+    fn see_next_station(&mut self, entry: Entry, answer: &Answer) {
+        let answered = match entry {
+            _ if answer.refusal != 0 => 3,
+            Entry::Poll(_) => 0,
+            Entry::Online => 1,
+            Entry::Offline | Entry::Passive => 2,
+        };
+        let nobody = answer.next_station == 127;
+        let group = if nobody { "answered with nobody" } else { "answered with a station" };
+        let state = STATES[usize::from(answer.state)];
+        self.points.hit(group, format_args!("{} in {}", ANSWERED[answered], state));
+    }
+
     fn see_poll(&mut self, header: &Header, poll: &Poll) {
         let (was, record, answer) = (&poll.was, &poll.record, &poll.answer);
         let state = STATES[usize::from(was.state)];
@@ -319,9 +367,13 @@ impl Met {
         if [OFFLINE, LISTEN_TOKEN, ACTIVE_IDLE].contains(&was.state) {
             poll.witnessed().iter().for_each(|case| self.points.hit("token witnessed", WITNESSED[*case]));
         }
+        poll.walks_alone().iter().for_each(|case| self.points.hit("gap walk alone", WALKS_ALONE[*case]));
         if let Some((station_type, ok)) = poll.gap_reply() {
-            let kind = STATION_TYPES[usize::from(station_type)];
-            self.points.hit("reply to a gap question", format_args!("{}, {}", kind, OK[usize::from(ok)]));
+            let (kind, ok) = (STATION_TYPES[usize::from(station_type)], OK[usize::from(ok)]);
+            self.points.hit("reply to a gap question", format_args!("{}, {}", kind, ok));
+            if poll.next == Next::Nobody {
+                self.points.hit("reply to a gap question alone", format_args!("{}, {}", kind, ok));
+            }
         }
     }
 
@@ -340,6 +392,35 @@ impl Met {
 
     pub fn points(&self) -> &Points {
         &self.points
+    }
+}
+
+/// How many stations the ring had, as far back as `COMPANY` looks.
+#[derive(Default)]
+struct Company {
+    /// The sizes in their order since the station came online, without repetitions.
+    sizes: Vec<usize>,
+}
+
+impl Company {
+    /// What an entry made of it, as numbers of `COMPANY`.
+    fn after(&mut self, runner: &Runner) -> Vec<usize> {
+        if !runner.station.watch().online {
+            self.sizes.clear();
+            return Vec::new();
+        }
+        let size = runner.station.inspect_token_ring().size();
+        if self.sizes.last() == Some(&size) {
+            return Vec::new();
+        }
+        self.sizes.push(size);
+        let met = [
+            self.sizes.ends_with(&[1, 2]),
+            self.sizes.ends_with(&[1, size]) && size > 2,
+            self.sizes.ends_with(&[2, 1]),
+            self.sizes.ends_with(&[1, 2, 1]),
+        ];
+        (0..met.len()).filter(|case| met[*case]).collect()
     }
 }
 

@@ -2,7 +2,7 @@
 
 use crate::fdl::{Parameters, Watched};
 use crate::records::{state::*, Answer, PollRecord, Sent, Telegram};
-use crate::ring::LAST;
+use crate::ring::{Next, LAST};
 
 /// Cases of a token that the ring witnesses.
 pub const WITNESSED: [&str; 7] = [
@@ -15,13 +15,26 @@ pub const WITNESSED: [&str; 7] = [
     "the ring shrinks",
 ];
 
+/// Cases of the gap walk of a lone station, but for the replies. "The gap walk still covers all other addresses."
+pub const WALKS_ALONE: [&str; 9] = [
+    "waiting is counted",
+    "waiting is over",
+    "an address above own is asked",
+    "0 is asked after the last below HSA",
+    "an address below own is asked",
+    "the walk ends at own",
+    "no reply",
+    "an unexpected telegram",
+    "a reply makes two of us",
+];
+
 /// One poll that was accepted: the station before it, what it was, its answer, and the station after it.
 pub struct Poll<'a> {
     pub parameters: &'a Parameters,
     pub own: u8,
     pub was: Watched,
     /// The ring before: the next station, whether it is ready, its size.
-    pub next: u8,
+    pub next: Next,
     pub ready: bool,
     pub size: usize,
     pub record: PollRecord,
@@ -75,6 +88,34 @@ impl Poll<'_> {
             }
             _ => None,
         }
+    }
+
+    /// The cases of a lone station's gap walk, as numbers of `WALKS_ALONE`.
+    pub fn walks_alone(&self) -> Vec<usize> {
+        let (was, is) = (&self.was, &self.is);
+        if self.next != Next::Nobody {
+            return Vec::new();
+        }
+        let asks = match self.answer.sent {
+            Sent::StatusRequest { destination } => Some(destination),
+            _ => None,
+        };
+        let passes = matches!(self.answer.sent, Sent::Token { .. });
+        let asked = |from: u8, to: u8| asks.map_or(false, |address| from <= address && address < to);
+        let walks = was.state == PASS_TOKEN && was.do_gap;
+        let waits = was.state == AWAIT_STATUS_RESPONSE;
+        let met = [
+            walks && passes && is.gap_count > was.gap_count,
+            walks && asks.is_some() && was.gap_poll.is_none(),
+            asked(self.own + 1, LAST + 1),
+            asked(0, 1) && was.gap_poll == Some(self.parameters.highest_station_address - 1),
+            asked(0, self.own),
+            walks && passes && was.gap_poll.is_some() && is.gap_poll.is_none(),
+            waits && passes,
+            waits && is.state == ACTIVE_IDLE,
+            self.gap_reply().is_some() && self.size_after == 2,
+        ];
+        (0..met.len()).filter(|case| met[*case]).collect()
     }
 
     /// "Consumed: none where a transmission is found going on (outcome 2, nothing sent). Else the two reply-waiting states

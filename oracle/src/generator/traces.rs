@@ -34,6 +34,12 @@ pub fn trace(seed: u64, index: u64) -> Trace {
     if kind == Kind::Edge {
         edge_header(&mut seed, &mut header);
     }
+    // few addresses below HSA, so that the gap walk of a lone station comes to its end
+    if kind == Kind::Whole && index % 64 == 63 {
+        header.address %= 4;
+        header.hsa = header.address + 1;
+        header.gap = 1;
+    }
     let length = if kind == Kind::Whole { seed.pick(&[20, 60, 100, 150]) } else { seed.between(0, 30) };
     let fill = seed.pick(&[0x00, 0xff, 0xa5, 0x5a]);
     let mut made = Trace { header: header.write(), entries: Vec::new(), room: 0, fill };

@@ -313,6 +313,7 @@ pub struct Answer {
     pub consumed: u8,
     pub notice: Notice,
     pub next_application: u8,
+    /// The number of who is next: document 02's 127 if that is nobody.
     pub next_station: u8,
 }
 

@@ -1,5 +1,5 @@
-//! Document 01, "Ring (ours)", word by word, over a plain set whose addresses are walked one by one. The names are those
-//! that the published station calls.
+//! Document 01, "Ring (ours)", word by word, and document 02 (P5) for who is next, over a plain set whose addresses are
+//! walked one by one. The names are those that the published station calls, and `next`, which it does not call.
 
 pub type Address = u8;
 
@@ -14,6 +14,23 @@ pub struct TokenRing {
     members: [bool; LAST as usize + 1],
     laps: u8,
     ready: bool,
+}
+
+/// What the ring answers when it is asked for the next station.
+#[derive(Debug, Clone, Copy, PartialEq, Eq)]
+pub enum Next {
+    Nobody,
+    Station(Address),
+}
+
+impl Next {
+    /// What an answer carries: the address; for nobody, "the answer record carries 127".
+    pub fn number(&self) -> u8 {
+        match *self {
+            Next::Nobody => 127,
+            Next::Station(address) => address,
+        }
+    }
 }
 
 /// The address after this one, going up.
@@ -56,16 +73,28 @@ impl TokenRing {
         ring
     }
 
-    /// "Next: first member going up from own, 125 followed by 0; own if alone."
-    pub fn next_station(&self) -> Address {
+    /// "Next: first member going up from own, 125 followed by 0"; document 02: "The ring's question for the next station
+    /// is to answer "nobody" when we are alone."
+    pub fn next(&self) -> Next {
         let mut address = up(self.own);
-        while address != self.own && !self.members[address as usize] {
+        while address != self.own {
+            if self.members[address as usize] {
+                return Next::Station(address);
+            }
             address = up(address);
         }
-        address
+        Next::Nobody
     }
 
-    /// "Previous: the same going down."
+    /// What the published station asks for: the address that its token goes to. "The pass still sends the token to us."
+    pub fn next_station(&self) -> Address {
+        match self.next() {
+            Next::Nobody => self.own,
+            Next::Station(address) => address,
+        }
+    }
+
+    /// "Previous: the same going down." Document 02 leaves it: own if alone.
     pub fn previous_station(&self) -> Address {
         let mut address = down(self.own);
         while address != self.own && !self.members[address as usize] {
@@ -128,17 +157,17 @@ impl TokenRing {
     }
 
     /// "Gap walk from a: candidate a + 1, or 0 if that is ≥ HSA. It is polled exactly if it lies
-    /// strictly between own and next going up (if alone: any but own); else waiting, count 0."
-    /// `Some` is the polled address, `None` waiting with count 0.
+    /// strictly between own and next going up (if alone: any but own); else waiting, count 0." Document
+    /// 02: "the gap walk still covers all other addresses". `Some` is the polled address, `None` waiting
+    /// with count 0.
     pub fn gap_walk(&self, from: Address, highest_station_address: Address) -> Option<Address> {
         let candidate = match from.checked_add(1) {
             Some(above) if above < highest_station_address => above,
             _ => 0,
         };
-        let polled = if self.size() == 1 {
-            candidate != self.own
-        } else {
-            strictly_between(self.own, self.next_station()).contains(&candidate)
+        let polled = match self.next() {
+            Next::Nobody => candidate != self.own,
+            Next::Station(next) => strictly_between(self.own, next).contains(&candidate),
         };
         polled.then_some(candidate)
     }
@@ -161,10 +190,29 @@ mod tests {
     #[test]
     fn next_and_previous_pass_125_to_0() {
         for (own, others, next, previous) in
-            [(5, &[][..], 5, 5), (125, &[3, 9], 3, 9), (0, &[125], 125, 125), (5, &[9, 2], 9, 2)]
+            [(125, &[3, 9][..], 3, 9), (0, &[125], 125, 125), (125, &[0], 0, 0), (5, &[9, 2], 9, 2)]
         {
             let ring = ring(own, others);
-            assert_eq!((ring.next_station(), ring.previous_station()), (next, previous));
+            assert_eq!((ring.next(), ring.previous_station()), (Next::Station(next), previous));
+            assert_eq!((ring.next().number(), ring.next_station()), (next, next));
+        }
+    }
+
+    /// Document 02, P5: fresh, and again after the last of the others is taken out.
+    #[test]
+    fn alone_there_is_nobody_and_the_token_goes_to_us() {
+        for own in [0, 5, 125] {
+            let mut ring = ring(own, &[]);
+            for other in [3, 124] {
+                assert_eq!((ring.next(), ring.next().number()), (Next::Nobody, 127));
+                assert_eq!((ring.next_station(), ring.previous_station()), (own, own));
+                ring.set_next_station(other);
+                assert_eq!((ring.next(), ring.next_station()), (Next::Station(other), other));
+                ring.remove_station(other);
+            }
+            let asked: Vec<Option<Address>> = (0..=LAST).map(|from| ring.gap_walk(from, 126)).collect();
+            assert_eq!(asked.iter().flatten().count(), usize::from(LAST), "all but own are asked");
+            assert!(!asked.contains(&Some(own)));
         }
     }
 

@@ -210,7 +210,7 @@ impl Runner {
             consumed: 0,
             notice: Notice::Nothing,
             next_application: self.station.next_application() as u8,
-            next_station: self.station.inspect_token_ring().next_station(),
+            next_station: self.station.inspect_token_ring().next().number(),
         }
     }
 }

@@ -10,4 +10,5 @@ answer-of-spec =
     (tie.spec
     (λ c κs. search needs)
     (λ c κs. search needs)
-    (λ c. simp (← c .before .state-number .ensures, ← c .next-station .ensures)))
+    (λ c κs. search needs)
+    (λ c. simp (← c .before .before .state-number .ensures, ← c .before .next-station .ensures, ← c .next-station-number .ensures)))

@@ -11,4 +11,5 @@ refused-spec =
     (λ c κs. search needs)
     (λ c κs. search needs)
     (λ c κs. search needs)
-    (λ c. simp (← c .before .before .state-number .ensures, ← c .before .next-station .ensures, ← c .refused-answer .ensures)))
+    (λ c κs. search needs)
+    (λ c. simp (← c .before .before .before .state-number .ensures, ← c .before .before .next-station .ensures, ← c .before .next-station-number .ensures, ← c .refused-answer .ensures)))

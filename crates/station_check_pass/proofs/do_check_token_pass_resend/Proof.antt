@@ -16,6 +16,7 @@ do-check-token-pass-resend-spec =
     (λ c κs. search needs)
     (λ c κs. search needs)
     (λ c κs. search needs)
+    (λ c κs. search needs)
     (λ c. simp (c .before .enum-told .given .1, ← c .do-pass-token .ensures))
     (λ c. simp (c .before .enum-told2 .given .1, ← c .do-pass-token2 .ensures))
-    (λ c. simp (c .before .before .before .enum-told3 .given .1, ← c .before .before .next-station .ensures, ← c .before .remove-station .ensures, ← c .do-pass-token3 .ensures)))
+    (λ c. simp (c .before .before .before .before .enum-told3 .given .1, ← c .before .before .before .next-station .ensures, ← c .before .before .token-destination .ensures, ← c .before .remove-station .ensures, ← c .do-pass-token3 .ensures)))

@@ -1,7 +1,7 @@
-//! Document 01, "Answer, 64 bits".
+//! Document 01, "Answer, 64 bits", and document 02 (P5) for the next station.
 
 use crate::bits::{word_of, Reader, Writer};
-use crate::number::{with_number, UnknownNumber};
+use crate::number::{unknown, with_number, UnknownNumber};
 use crate::record::StationType;
 use crate::refusal::Refusal;
 use std::fmt;
@@ -133,6 +133,50 @@ pub enum Notice {
     Timeout { application: u8, address: u8 },
 }
 
+/// The number that an answer carries as next station where there is none.
+pub const NOBODY: u8 = 127;
+
+/// The station that our station hands the token to.
+#[derive(Debug, Clone, Copy, PartialEq, Eq, Hash)]
+pub enum NextStation {
+    /// Our station is alone in its ring: it passes the token to itself.
+    Nobody,
+    /// The address, 0..125.
+    Station(u8),
+}
+
+impl From<NextStation> for u8 {
+    /// The number in an answer: the address, or [`NOBODY`].
+    fn from(next: NextStation) -> u8 {
+        match next {
+            NextStation::Nobody => NOBODY,
+            NextStation::Station(address) => address,
+        }
+    }
+}
+
+impl TryFrom<u8> for NextStation {
+    type Error = UnknownNumber;
+
+    fn try_from(number: u8) -> Result<NextStation, UnknownNumber> {
+        match number {
+            NOBODY => Ok(NextStation::Nobody),
+            0..=125 => Ok(NextStation::Station(number)),
+            _ => Err(unknown(number, "a next station")),
+        }
+    }
+}
+
+impl fmt::Display for NextStation {
+    /// The address, or "nobody".
+    fn fmt(&self, f: &mut fmt::Formatter) -> fmt::Result {
+        match self {
+            NextStation::Nobody => write!(f, "nobody"),
+            NextStation::Station(address) => write!(f, "{}", address),
+        }
+    }
+}
+
 /// The answer to one entry.
 #[derive(Debug, Clone, Copy, PartialEq, Eq, Hash)]
 pub struct Answer {
@@ -144,7 +188,7 @@ pub struct Answer {
     pub consumed: u8,
     pub notice: Notice,
     pub next_application: u8,
-    pub next_station: u8,
+    pub next_station: NextStation,
 }
 
 impl Answer {
@@ -207,7 +251,7 @@ impl From<Answer> for u64 {
         word.put(3, u64::from(notified));
         word.put(7, u64::from(address));
         word.put(3, u64::from(answer.next_application));
-        word.put(7, u64::from(answer.next_station));
+        word.put(7, u64::from(u8::from(answer.next_station)));
         word.put(2, 0);
         word.word()
     }
@@ -241,8 +285,8 @@ impl TryFrom<u64> for Answer {
         let address = word.take_byte(7);
         let next_application = word.take_byte(3);
         let next_station = word.take_byte(7);
-        let unknown = NotAnAnswer(bits);
-        let unnumbered = |_: UnknownNumber| unknown;
+        let not_an_answer = NotAnAnswer(bits);
+        let unnumbered = |_: UnknownNumber| not_an_answer;
         let answer = Answer {
             refusal: match refusal {
                 0 => None,
@@ -261,7 +305,7 @@ impl TryFrom<u64> for Answer {
                     reply_from: to,
                     length,
                 },
-                _ => return Err(unknown),
+                _ => return Err(not_an_answer),
             },
             consumed,
             notice: match notice {
@@ -274,15 +318,15 @@ impl TryFrom<u64> for Answer {
                     application: notified,
                     address,
                 },
-                _ => return Err(unknown),
+                _ => return Err(not_an_answer),
             },
             next_application,
-            next_station,
+            next_station: NextStation::try_from(next_station).map_err(unnumbered)?,
         };
         if u64::from(answer) == bits && answer.is_possible() {
             Ok(answer)
         } else {
-            Err(unknown)
+            Err(not_an_answer)
         }
     }
 }

@@ -8,7 +8,7 @@
 //! | [`refusal`] | the documents' nineteen refusal numbers and their words |
 //! | [`run`] | what the call returns, and the text that the program `replay` prints |
 //! | `replay` | the call itself, safe; only where the static library is linked |
-//! | [`number`] | the error of a number that document 01 does not have |
+//! | [`number`] | the error of a number that the documents do not have |
 //! | [`words`] | numbers and settings in words |
 //!
 //! Nothing here knows what a station does. Records are written and read, answers are read, and every answer comes
@@ -19,7 +19,7 @@
 //! when this package is built, for x86-64. Without it the package reads and writes all the same.
 //!
 //! ```
-//! use amsulfezd::answer::{Answer, Sent, State};
+//! use amsulfezd::answer::{Answer, NextStation, Sent, State};
 //! use amsulfezd::record::{Decision, Poll, Telegram};
 //! use amsulfezd::trace::{Header, TraceBuilder};
 //!
@@ -31,10 +31,11 @@
 //! let bytes = trace.into_bytes();
 //! assert_eq!(bytes.len(), 16 + 1 + 19 + 15);
 //!
-//! // An answer of document 01's example 12.
-//! let answer = Answer::try_from(0x0242_1400_3000_0014)?;
+//! // An answer of document 01's example 12: station 5 is alone.
+//! let answer = Answer::try_from(0x0242_1400_3000_01fc)?;
 //! assert_eq!(answer.state, State::ClaimToken);
 //! assert_eq!(answer.sent, Sent::Token { to: 5 });
+//! assert_eq!(answer.next_station, NextStation::Nobody);
 //! # Ok::<(), Box<dyn std::error::Error>>(())
 //! ```
 

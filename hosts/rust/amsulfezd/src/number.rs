@@ -1,8 +1,8 @@
-//! Document 01's numbers for states, outcomes, station types and refusals.
+//! Document 01's numbers for states, outcomes, station types and refusals, and document 02's for the next station.
 
 use std::fmt;
 
-/// A number that document 01 gives to nothing of its kind.
+/// A number that the documents give to nothing of its kind.
 #[derive(Debug, Clone, Copy, PartialEq, Eq, Hash)]
 pub struct UnknownNumber {
     number: u8,
@@ -32,5 +32,10 @@ pub(crate) fn with_number<T: Copy>(
     kind: &'static str,
 ) -> Result<T, UnknownNumber> {
     let found = all.iter().find(|&&one| number_of(one) == number);
-    found.copied().ok_or(UnknownNumber { number, kind })
+    found.copied().ok_or(unknown(number, kind))
+}
+
+/// Nothing of this kind has this number.
+pub(crate) fn unknown(number: u8, kind: &'static str) -> UnknownNumber {
+    UnknownNumber { number, kind }
 }

@@ -18,7 +18,7 @@ extern "C" {
 /// their value. A refused header writes nothing. It keeps no state between calls and may be called by several threads.
 ///
 /// ```
-/// use amsulfezd::answer::State;
+/// use amsulfezd::answer::{NextStation, State};
 /// use amsulfezd::replay::replay;
 /// use amsulfezd::run::from_buffer;
 /// use amsulfezd::trace::{Header, TraceBuilder};
@@ -29,7 +29,8 @@ extern "C" {
 /// let run = replay(&trace.into_bytes(), &mut buffer);
 /// assert_eq!((run.entries, run.ending), (1, None));
 /// for answer in from_buffer(&buffer, &run)? {
-///     assert_eq!((answer.state, answer.next_station), (State::Offline, 5));
+///     assert_eq!(answer.state, State::Offline);
+///     assert_eq!(answer.next_station, NextStation::Nobody);
 /// }
 /// # Ok::<(), amsulfezd::answer::NotAnAnswer>(())
 /// ```

@@ -1,11 +1,13 @@
 //! Answers, refusals and runs.
 
-use amsulfezd::answer::{answers, Answer, Notice, Outcome, Sent, State, STATES};
+use amsulfezd::answer::{
+    answers, Answer, NextStation, Notice, Outcome, Sent, State, NOBODY, STATES,
+};
 use amsulfezd::record::StationType;
 use amsulfezd::refusal::{Refusal, ALL};
 use amsulfezd::run::{from_buffer, from_text, to_text, Run};
 
-/// A listening station's answer with nothing in it.
+/// A listening station's answer with nothing in it; it is alone.
 const LISTENS: Answer = Answer {
     refusal: None,
     outcome: Outcome::Bus,
@@ -14,7 +16,7 @@ const LISTENS: Answer = Answer {
     consumed: 0,
     notice: Notice::Nothing,
     next_application: 0,
-    next_station: 5,
+    next_station: NextStation::Nobody,
 };
 
 #[test]
@@ -25,11 +27,11 @@ fn the_answers_of_example_12() {
         sent: Sent::Token { to: 5 },
         ..LISTENS
     };
-    assert_eq!(u64::from(LISTENS), 0x0310_0000_0000_0014);
-    assert_eq!(u64::from(claims), 0x0242_1400_3000_0014);
-    assert_eq!(Answer::try_from(0x0310_0000_0000_0014), Ok(LISTENS));
-    assert_eq!(Answer::try_from(0x0242_1400_3000_0014), Ok(claims));
-    let bytes = [0x02, 0x42, 0x14, 0x00, 0x30, 0x00, 0x00, 0x14];
+    assert_eq!(u64::from(LISTENS), 0x0310_0000_0000_01fc);
+    assert_eq!(u64::from(claims), 0x0242_1400_3000_01fc);
+    assert_eq!(Answer::try_from(0x0310_0000_0000_01fc), Ok(LISTENS));
+    assert_eq!(Answer::try_from(0x0242_1400_3000_01fc), Ok(claims));
+    let bytes = [0x02, 0x42, 0x14, 0x00, 0x30, 0x00, 0x01, 0xfc];
     assert_eq!(Answer::try_from(bytes), Ok(claims));
     assert_eq!(<[u8; 8]>::from(claims), bytes);
 }
@@ -53,7 +55,7 @@ fn an_answer_bit_by_bit() {
             address: 85,
         },
         next_application: 6,
-        next_station: 125,
+        next_station: NextStation::Station(125),
     };
     let bits = "00000 010 0011 100 1111111 00 101 1 11111111 1000 10 011 1010101 110 1111101 00";
     let word = u64::from_str_radix(&bits.replace(' ', ""), 2).unwrap();
@@ -72,7 +74,7 @@ fn a_status_response_carries_its_type_and_a_refusal_its_number() {
             to: 30,
             station_type: StationType::WithoutToken,
         },
-        next_station: 9,
+        next_station: NextStation::Station(9),
         ..LISTENS
     };
     assert_eq!(Answer::try_from(word), Ok(answer));
@@ -81,8 +83,39 @@ fn a_status_response_carries_its_type_and_a_refusal_its_number() {
         outcome: Outcome::None,
         ..LISTENS
     };
-    assert_eq!(u64::from(refused), 0x8010_0000_0000_0014);
-    assert_eq!(Answer::try_from(0x8010_0000_0000_0014), Ok(refused));
+    assert_eq!(u64::from(refused), 0x8010_0000_0000_01fc);
+    assert_eq!(Answer::try_from(0x8010_0000_0000_01fc), Ok(refused));
+}
+
+/// Document 02, P5: 127 is nobody, in the answers of polls, commands and refused entries alike; 126 is no next station.
+#[test]
+fn the_next_station_is_an_address_or_nobody() {
+    for number in 0..=125 {
+        let next = NextStation::Station(number);
+        assert_eq!(
+            (u8::from(next), NextStation::try_from(number)),
+            (number, Ok(next))
+        );
+    }
+    let next = |word| Answer::try_from(word).expect("an answer").next_station;
+    for word in [
+        0x0000_0000_0000_01fc, // a command
+        0x0310_0000_0000_01fc, // a poll
+        0x8010_0000_0000_01fc, // a refused entry
+    ] {
+        assert_eq!(next(word), NextStation::Nobody);
+        assert_eq!(next(word - (127 << 2)), NextStation::Station(0));
+    }
+    assert_eq!(
+        (u8::from(NextStation::Nobody), NextStation::try_from(NOBODY)),
+        (127, Ok(NextStation::Nobody))
+    );
+    for number in [126, 128, 255] {
+        let unknown = NextStation::try_from(number).expect_err("no next station");
+        assert_eq!(unknown.number(), number);
+    }
+    assert_eq!(NextStation::Nobody.to_string(), "nobody");
+    assert_eq!(NextStation::Station(9).to_string(), "9");
 }
 
 #[test]
@@ -104,6 +137,7 @@ fn words_that_no_answer_has() {
         0xc810_0000_0000_0014, // refusal 25, which a header meets and no entry
         0x8310_0000_0000_0014, // a refusal with an outcome
         0x8010_0000_0100_0014, // a refusal with a telegram consumed
+        0x0310_0000_0000_01f8, // next station 126
     ] {
         let error = Answer::try_from(word).expect_err("not an answer");
         assert_eq!(error.word(), word);
@@ -184,7 +218,7 @@ fn what_the_call_returns() {
 
 #[test]
 fn the_text_of_replay_reads_back() {
-    let text = "0000000000000014\n0310000000000014\n2 17\n";
+    let text = "00000000000001fc\n0310000000000014\n2 17\n";
     let (read, run) = from_text(text).unwrap();
     assert_eq!(read.len(), 2);
     assert_eq!(

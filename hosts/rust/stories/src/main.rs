@@ -2,6 +2,7 @@
 //! what it would write. It also writes the arguments of the program that replays them all, with the output expected of
 //! it.
 
+mod alone;
 mod applications;
 mod bus;
 mod collisions;
@@ -39,6 +40,7 @@ fn main() {
 fn stories() -> Vec<Story> {
     let mut all = vec![bus::example_12()];
     all.extend(ring::stories());
+    all.push(alone::story());
     all.push(night::story());
     all.extend(collisions::stories());
     all.extend(applications::stories());

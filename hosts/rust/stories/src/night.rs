@@ -128,7 +128,7 @@ pub fn story() -> Story {
         sends_token(CheckTokenPass, 9),
         "400 us of silence: third token to the panel",
     );
-    story.next_station(5);
+    story.alone();
     story.poll(
         Poll::at(pulled + 1_298),
         sends_token(UseToken, 5),

@@ -129,7 +129,7 @@ fn silent_neighbours(name: &'static str, others: &'static [u8], title: &'static 
             clock += 66 + 400;
         }
     }
-    story.next_station(5);
+    story.alone();
     story.poll(
         Poll::at(clock),
         sends_token(UseToken, 5),

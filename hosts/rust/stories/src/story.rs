@@ -2,7 +2,7 @@
 //!
 //! The answers are statements of their own, written down field by field. Nothing here works out what a station does.
 
-use amsulfezd::answer::{Answer, Notice, Outcome, Sent, State};
+use amsulfezd::answer::{Answer, NextStation, Notice, Outcome, Sent, State};
 use amsulfezd::record::{Poll, StationType, Telegram};
 use amsulfezd::refusal::Refusal;
 use amsulfezd::run::{to_text, Run};
@@ -159,11 +159,11 @@ pub struct Story {
     ending: Option<Refusal>,
     state: State,
     next_application: u8,
-    next_station: u8,
+    next_station: NextStation,
 }
 
 impl Story {
-    /// A story without entries. A fresh station has itself as next station.
+    /// A story without entries. A fresh station is alone.
     pub fn new(
         name: &'static str,
         header: Header,
@@ -183,13 +183,18 @@ impl Story {
             ending: None,
             state: State::Offline,
             next_application: 0,
-            next_station: header.address,
+            next_station: NextStation::Nobody,
         }
     }
 
     /// From the next entry on, answers carry this next station.
     pub fn next_station(&mut self, address: u8) {
-        self.next_station = address;
+        self.next_station = NextStation::Station(address);
+    }
+
+    /// From the next entry on, answers say that there is no next station.
+    pub fn alone(&mut self) {
+        self.next_station = NextStation::Nobody;
     }
 
     /// From the next entry on, answers carry this next application.
@@ -223,7 +228,7 @@ impl Story {
     /// From the next entry on, answers carry a fresh station's next application and next station.
     pub fn fresh(&mut self) {
         self.next_application = 0;
-        self.next_station = self.header.address;
+        self.alone();
     }
 
     /// The station is told to be passive: refused in every state.
@@ -416,6 +421,9 @@ fn fields(answer: &Answer) -> String {
         )),
     }
     parts.push(format!("next application {}", answer.next_application));
-    parts.push(format!("next station {}", answer.next_station));
+    parts.push(match answer.next_station {
+        NextStation::Nobody => "alone".to_string(),
+        NextStation::Station(address) => format!("next station {}", address),
+    });
     format!("{:016x}  {}", u64::from(*answer), parts.join(", "))
 }

@@ -93,12 +93,12 @@ fn the_program_replays_every_trace() {
     std::fs::remove_dir_all(&folder).expect("the folder goes");
 }
 
-/// Document 01's example 12 as it is printed there.
+/// Document 01's example 12 as it is printed there, with document 02's ending of each line (P5).
 #[test]
-fn example_12_is_document_01s() {
+fn example_12_is_the_documents() {
     let answers = std::fs::read_to_string(traces().join("example12.answers")).expect("the file");
     assert_eq!(
         answers,
-        "0000000000000014\n0310000000000014\n0310000000000014\n0242140030000014\n0232140030000014\n0230000000000014\n6 0\n"
+        "00000000000001fc\n03100000000001fc\n03100000000001fc\n02421400300001fc\n02321400300001fc\n02300000000001fc\n6 0\n"
     );
 }

@@ -2,7 +2,7 @@
 //! gave. Nothing is worked out anew: the state before an entry is the one that the answer before it carries.
 
 use crate::view::{Note, View};
-use amsulfezd::answer::{Answer, Notice, Outcome, Sent, State};
+use amsulfezd::answer::{Answer, NextStation, Notice, Outcome, Sent, State};
 use amsulfezd::record::{Poll, Telegram};
 use amsulfezd::refusal::Refusal;
 use amsulfezd::run::Run;
@@ -145,7 +145,7 @@ impl std::error::Error for NotThisTrace {}
 struct Before {
     state: State,
     next_application: u8,
-    next_station: u8,
+    next_station: NextStation,
 }
 
 /// A line for each answer.
@@ -157,7 +157,7 @@ fn lines<'a>(
     let mut before = Before {
         state: State::Offline,
         next_application: 0,
-        next_station: header.address,
+        next_station: NextStation::Nobody,
     };
     let mut lines = Vec::new();
     for (index, (entry, answer)) in entries(trace).zip(answers).enumerate() {
@@ -226,7 +226,10 @@ fn alarm(before: &Before, answer: &Answer) -> Option<Alarm> {
     match (before.state, answer.state) {
         (_, State::ClaimToken) if sent_token => Some(Alarm::Claim),
         (State::CheckTokenPass, _) if sent_token && answer.next_station != before.next_station => {
-            Some(Alarm::Left(before.next_station))
+            match before.next_station {
+                NextStation::Station(left) => Some(Alarm::Left(left)),
+                NextStation::Nobody => None,
+            }
         }
         (_, State::Offline) if answer.outcome == Outcome::Bus => Some(Alarm::Offline),
         (State::ActiveIdle, State::ListenToken) | (State::CheckTokenPass, State::ListenToken)
@@ -508,7 +511,9 @@ fn waited_in_quiet(own: u8, before: &Before, poll: &Poll, answer: &Answer) -> St
         (State::CheckTokenPass, State::ActiveIdle) => {
             let next = before.next_station;
             let heard = match poll.telegrams.first().and_then(Telegram::source) {
-                Some(source) if source == next => format!("{} is heard: it has the token", next),
+                Some(source) if NextStation::Station(source) == next => {
+                    format!("{} is heard: it has the token", next)
+                }
                 Some(source) => format!(
                     "not {} but {} is heard: the token pass is over",
                     next, source
@@ -590,7 +595,10 @@ fn waited_for_delay(before: &Before, poll: &Poll, answer: &Answer) -> String {
 fn changes(before: &Before, answer: &Answer) -> String {
     let mut text = String::new();
     if answer.next_station != before.next_station {
-        text.push_str(&format!("; next station is now {}", answer.next_station));
+        text.push_str(&match answer.next_station {
+            NextStation::Nobody => "; is alone now".to_string(),
+            NextStation::Station(address) => format!("; next station is now {}", address),
+        });
     }
     if answer.next_application != before.next_application {
         text.push_str(&format!(

@@ -24,6 +24,7 @@ fn stored_outputs() {
     let mut count = 0;
     for name in [
         "example12",
+        "alone",
         "night",
         "joining",
         "gap-poll",
@@ -65,7 +66,7 @@ fn answers_of_another_trace_are_found() {
         "explain",
         &explain(
             &trace("refused-entries.trace"),
-            b"0000000000000014\n0310000000000014\n2 18\n",
+            b"00000000000001fc\n03100000000001fc\n2 18\n",
         ),
         "entry 2 has another form",
     );
@@ -79,7 +80,7 @@ fn a_listening_station_takes_no_token() {
     trace
         .poll(&Poll::at(1000).telegram(Telegram::token(9, 5)))
         .expect("a poll that fits");
-    let (answers, run) = from_text("0000000000000014\n0310000001000024\n2 0\n").expect("a run");
+    let (answers, run) = from_text("00000000000001fc\n0310000001000024\n2 0\n").expect("a run");
     let text = explained(&trace.into_bytes(), &answers, &run, &View::default());
     let text = text.expect("an explanation");
     assert!(
@@ -89,6 +90,30 @@ fn a_listening_station_takes_no_token() {
         "{}",
         text
     );
+}
+
+/// A change of the next station is said; a station that is alone is said to be alone, and 127 stands in no line.
+#[test]
+fn a_lone_station_is_alone() {
+    let text = printed(PROGRAM, "alone", &[]);
+    let said: Vec<&str> = text
+        .lines()
+        .filter_map(|line| line.rsplit_once("; "))
+        .map(|(_, last)| last)
+        .filter(|last| last.contains("alone") || last.contains("next station"))
+        .collect();
+    assert_eq!(said, ["next station is now 0", "is alone now"]);
+    for name in ["alone", "night", "joining", "example12"] {
+        assert!(!printed(PROGRAM, name, &[]).contains("127"), "{}", name);
+    }
+    // an answer that says so in CheckTokenPass, which no station gives, is still put into words
+    let mut trace = TraceBuilder::new(Header::new(5, 6, 1));
+    trace.poll(&Poll::at(1000)).expect("a poll that fits");
+    trace.poll(&Poll::at(2000)).expect("a poll that fits");
+    let (answers, run) = from_text("03700000000001fc\n0372240030000024\n2 0\n").expect("a run");
+    let text = explained(&trace.into_bytes(), &answers, &run, &View::default());
+    let text = text.expect("an explanation");
+    assert!(!text.contains("127"), "{}", text);
 }
 
 /// A range has the lines of its entries as the whole has them, under a line that says which they are.
@@ -129,7 +154,7 @@ fn notes_stand_at_their_time() {
     trace.poll(&Poll::at(1000)).expect("a poll that fits");
     trace.offline();
     trace.poll(&Poll::at(2000)).expect("a poll that fits");
-    let text = "6800000000000014\n0100000000000014\n0000000000000014\n0100000000000014\n4 0\n";
+    let text = "68000000000001fc\n01000000000001fc\n00000000000001fc\n01000000000001fc\n4 0\n";
     let (answers, run) = from_text(text).expect("a run");
     let note = |clock: u64, words: &str| Note {
         clock,
@@ -167,7 +192,7 @@ fn notes_stand_at_their_time() {
 
 #[test]
 fn no_room_is_explained() {
-    let output = explain(&trace("example12.trace"), b"0000000000000014\n1 18\n");
+    let output = explain(&trace("example12.trace"), b"00000000000001fc\n1 18\n");
     let printed = String::from_utf8(output.stdout).expect("text");
     assert!(output.status.success());
     assert!(printed.ends_with(

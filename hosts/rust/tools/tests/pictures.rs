@@ -6,7 +6,7 @@
 mod common;
 mod drawing;
 
-use amsulfezd::answer::{Answer, Notice, Outcome, Sent, State, STATES};
+use amsulfezd::answer::{Answer, NextStation, Notice, Outcome, Sent, State, STATES};
 use amsulfezd::record::{Decision, Poll, StationType, Telegram};
 use amsulfezd::run::{from_text, to_text, Run};
 use amsulfezd::trace::{entries, Entry, Header, TraceBuilder};
@@ -479,7 +479,10 @@ fn has_lanes(replay: &Replay, lanes: &[Lane], mut touched: Vec<String>) {
 fn has_blocks(replay: &Replay, picture: &Element) {
     let range = replay.view.shown(replay.answers.len());
     let state = |answer: &Answer| format!("{:?}", answer.state);
-    let next = |answer: &Answer| format!("next station {}", answer.next_station);
+    let next = |answer: &Answer| match answer.next_station {
+        NextStation::Nobody => "alone".to_string(),
+        NextStation::Station(address) => format!("next station {}", address),
+    };
     let shown = &replay.answers[range.clone()];
     let states: Vec<String> = shown.iter().map(state).collect();
     let nexts: Vec<String> = shown.iter().map(next).collect();
@@ -787,7 +790,7 @@ fn ten_entries_have_every_label() {
     for step in 0..10 {
         trace.poll(&Poll::at(1000 + step * step)).expect("a poll");
     }
-    let answers = "0100000000000014\n".repeat(10) + "10 0\n";
+    let answers = "01000000000001fc\n".repeat(10) + "10 0\n";
     let picture = shows_the_run(&replay_of("ten", trace.into_bytes(), &answers));
     is_readable("10 entries", &picture);
     assert_eq!(picture.with_class("number-of-entry").len(), 10);
@@ -819,8 +822,8 @@ fn gaps_are_marked() {
     trace.offline();
     trace.record(&[0xff; 8]).expect("a record that fits");
     trace.poll(&Poll::at(clock)).expect("a poll");
-    let answers = "0100000000000014\n".repeat(199)
-        + "0000000000000014\n6800000000000014\n0100000000000014\n202 0\n";
+    let answers = "01000000000001fc\n".repeat(199)
+        + "00000000000001fc\n68000000000001fc\n01000000000001fc\n202 0\n";
     let picture = shows_the_run(&replay_of("gaps", trace.into_bytes(), &answers));
     is_readable("gaps", &picture);
     let entries = picture.with_class("entry");
@@ -970,7 +973,7 @@ fn every_leaving_ends_a_lane() {
     }
     assert_eq!(
         (count, back),
-        (14, 5),
+        (15, 5),
         "leavings, and stations that come back"
     );
 }
@@ -1264,7 +1267,7 @@ fn every_address_has_its_lane() {
         }
         trace.poll(&poll).expect("a poll");
     }
-    let answers = "0100000000000014\n".repeat(8) + "8 0\n";
+    let answers = "01000000000001fc\n".repeat(8) + "8 0\n";
     let picture = shows_the_run(&replay_of("lanes", trace.into_bytes(), &answers));
     is_readable("every address", &picture);
     assert_eq!(lanes(&picture).len(), 128);

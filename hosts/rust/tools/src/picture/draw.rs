@@ -17,7 +17,7 @@ use super::shapes::{
 use super::svg::{shortened, text_width, wrapped, Anchor, Px, Svg};
 use crate::explain::{settings, thousands, Explanation, Line};
 use crate::from_replay::Replay;
-use amsulfezd::answer::{Answer, Notice, Outcome, Sent, State};
+use amsulfezd::answer::{Answer, NextStation, Notice, Outcome, Sent, State};
 use amsulfezd::refusal::Refusal;
 use amsulfezd::trace::Entry;
 use std::ops::Range;
@@ -526,7 +526,7 @@ impl<'a> Bus<'a> {
         }
         self.svg.close("g");
         self.svg.open("g", "next-stations", &[]);
-        let next: Vec<u8> = answers.iter().map(|answer| answer.next_station).collect();
+        let next: Vec<NextStation> = answers.iter().map(|answer| answer.next_station).collect();
         for (first, last) in stretches(&next) {
             let after = format!("after {}", self.entries_words(first, last));
             let stretch = self.stretch(first, last);
@@ -566,10 +566,16 @@ impl<'a> Bus<'a> {
         self.draw_block(self.rows.state, stretch, &class, &name, &words);
     }
 
-    /// The block of a next station.
-    fn draw_next_station(&mut self, stretch: &Column, address: u8, when: &str) {
-        let name = address.to_string();
-        let words = format!("next station {} {}", name, when);
+    /// The block of a next station; of a station that is alone, a block that says so.
+    fn draw_next_station(&mut self, stretch: &Column, next: NextStation, when: &str) {
+        let (name, words) = match next {
+            NextStation::Nobody => ("alone".to_string(), format!("alone {}", when)),
+            NextStation::Station(address) => {
+                let name = address.to_string();
+                let words = format!("next station {} {}", name, when);
+                (name, words)
+            }
+        };
         let row = self.rows.next_station;
         self.draw_block(row, stretch, "block plain", &name, &words);
     }
