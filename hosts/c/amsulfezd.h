@@ -55,8 +55,9 @@ extern "C" {
 #define AMSULFEZD_STACK_BYTES 4096
 
 /*
- * Document 01's refusal numbers. As ending number of a run: 0, the number of a refused header (1 to 8, 10, 11, 14), 17
- * or 18. In an answer: 0, or 12 to 16. Number 9 belongs to a settings call and is never answered here.
+ * Document 01's refusal numbers, and document 02's 25. As ending number of a run: 0, the number of a refused header (1 to
+ * 8, 10, 11, 14, 25), 17 or 18. In an answer: 0, or 12 to 16. Number 9 belongs to a settings call and is never answered
+ * here.
  */
 enum amsulfezd_refusal {
     AMSULFEZD_OK = 0,
@@ -77,7 +78,8 @@ enum amsulfezd_refusal {
     AMSULFEZD_REFUSAL_NO_BYTES = 15,        /* sending 0 bytes */
     AMSULFEZD_REFUSAL_PASSIVE = 16,         /* passive */
     AMSULFEZD_REFUSAL_CUT = 17,             /* trace ends inside header or entry, or is above 2^32 bytes */
-    AMSULFEZD_REFUSAL_NO_ROOM = 18          /* no 8 bytes left for an answer */
+    AMSULFEZD_REFUSAL_NO_ROOM = 18,         /* no 8 bytes left for an answer */
+    AMSULFEZD_REFUSAL_GAP_ROOM = 25         /* rotation with no room for a gap poll: below slot bits + 100 */
 };
 
 /* How a poll ended. */
@@ -336,7 +338,7 @@ struct amsulfezd_header {
     uint8_t address;        /* 0..125 */
     uint8_t baud;           /* code 0..10, for 9600 to 12,000,000 bits a second */
     uint16_t slot_bits;     /* at least 100 for codes 0 to 5, then 200, 300, 400, 600, 1000 */
-    uint32_t rotation_bits; /* 256..16,777,960 */
+    uint32_t rotation_bits; /* 256..16,777,960, and at least slot_bits + 100 */
     uint8_t gap_wait;       /* 1..100 rotations */
     uint8_t hsa;            /* highest station address: above the address, at most 126 */
     uint8_t retry;          /* 1..15 */

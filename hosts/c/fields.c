@@ -104,7 +104,7 @@ static void test_readers(void)
     check(amsulfezd_ending(6 * 256 + 17) == 17, "ending number", "6 * 256 + 17");
 }
 
-/* Document 01's numbers, in their order. */
+/* Document 01's numbers, in their order, and document 02's. */
 static void test_numbers(void)
 {
     static const unsigned refusals[] = {
@@ -163,6 +163,7 @@ static void test_numbers(void)
     COUNTS(notices)
     COUNTS(commands)
     COUNTS(kinds)
+    check(AMSULFEZD_REFUSAL_GAP_ROOM == 25, "not document 02's number", "refusals");
     for (i = 0; i < sizeof names / sizeof names[0]; i++) {
         check(strcmp(amsulfezd_state_name(i), names[i]) == 0, "the name of a state", names[i]);
     }

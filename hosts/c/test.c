@@ -184,6 +184,9 @@ static void test_refused_headers(void)
         {0, 126, AMSULFEZD_REFUSAL_ADDRESS},     {1, 11, AMSULFEZD_REFUSAL_BAUD},
         {3, 199, AMSULFEZD_REFUSAL_SLOT},        {9, 5, AMSULFEZD_REFUSAL_HSA},
         {9, 127, AMSULFEZD_REFUSAL_HSA},         {4, 1, AMSULFEZD_REFUSAL_ROTATION},
+        /* rotation 180: 4 comes before 25; slots 32,456 and 65,480 with rotation 32,436, the second above 16 bits */
+        {6, 0, AMSULFEZD_REFUSAL_ROTATION},      {2, 0x7e, AMSULFEZD_REFUSAL_GAP_ROOM},
+        {2, 0xff, AMSULFEZD_REFUSAL_GAP_ROOM},
         {8, 0, AMSULFEZD_REFUSAL_GAP_WAIT},      {8, 101, AMSULFEZD_REFUSAL_GAP_WAIT},
         {10, 0, AMSULFEZD_REFUSAL_RETRY},        {10, 16, AMSULFEZD_REFUSAL_RETRY},
         {11, 10, AMSULFEZD_REFUSAL_MIN_TSDR},    {12, 0, AMSULFEZD_REFUSAL_APPLICATIONS},

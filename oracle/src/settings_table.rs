@@ -1,11 +1,12 @@
 //! The table that the proved settings program prints, worked out by the published `parameters.rs`. Document 01's time and baud types and
 //! a list of peripherals stand in for the rest of profirust. A panic of the published code is written as the refusal that
-//! document 01 gives.
+//! document 01 gives. Document 02's 25 has no counterpart in the published code: it is asked of the record that its builder gives.
 
 use crate::baud::BAUDRATES;
 use crate::dp;
 use crate::fdl::{parameters, Parameters, ParametersBuilder};
 use crate::time::Duration;
+use crate::trace::least_rotation;
 use std::panic::{catch_unwind, AssertUnwindSafe};
 
 /// What the published code answers, `None` where it panics.
@@ -163,7 +164,13 @@ fn times_line(p: &Parameters) -> String {
     named.map(|(name, time)| format!("{} {}", name, time)).join(" ") + &record(p)
 }
 
-/// A whole record, of which the published code has no check: its setters are tried in document 01's order.
+/// Document 02's 25, by its rule: the rotation has no room for a gap poll.
+fn without_room(p: &Parameters) -> Option<u8> {
+    (p.token_rotation_bits < least_rotation(p.slot_bits)).then_some(25)
+}
+
+/// A whole record, of which the published code has no check: its setters are tried in document 01's order, and 25 is asked
+/// directly after 4, the third of them.
 fn whole_line(p: &Parameters, code: u8, factors: (u8, u8)) -> String {
     let values = [
         p.slot_bits.into(),
@@ -181,7 +188,9 @@ fn whole_line(p: &Parameters, code: u8, factors: (u8, u8)) -> String {
     let first = (p.address > 125)
         .then_some(1)
         .or_else(|| (code > 10).then_some(10))
-        .or_else(|| SETTERS.iter().zip(values).find_map(refused))
+        .or_else(|| SETTERS.iter().zip(values).take(3).find_map(refused))
+        .or_else(|| without_room(p))
+        .or_else(|| SETTERS.iter().zip(values).skip(3).find_map(refused))
         .or_else(|| ((factors.0 == 0) != (factors.1 == 0)).then_some(8));
     match first {
         Some(number) => format!("build: refused {}", number),
@@ -193,10 +202,11 @@ fn whole_line(p: &Parameters, code: u8, factors: (u8, u8)) -> String {
 fn whole_lines(mut p: Parameters) -> Vec<String> {
     let (f1, f2) = p.watchdog_factors.unwrap_or((0, 0));
     let mut lines = vec![whole_line(&p, 6, (f1, f2)), whole_line(&p, 6, (f1, 0))];
-    let faults: [fn(&mut Parameters); 6] = [
+    let faults: [fn(&mut Parameters); 7] = [
         |p| p.min_tsdr_bits = 10,
         |p| p.max_retry_limit = 16,
         |p| p.gap_wait_rotations = 101,
+        |p| p.token_rotation_bits = 299,
         |p| p.token_rotation_bits = 255,
         |p| p.highest_station_address = 5,
         |p| p.slot_bits = 199,
@@ -208,6 +218,53 @@ fn whole_lines(mut p: Parameters) -> Vec<String> {
     lines.push(whole_line(&p, 11, (f1, 0)));
     p.address = 126;
     lines.push(whole_line(&p, 11, (f1, 0)));
+    lines
+}
+
+/// Settings that the published builder made, finished. Its setters have checked each field, so that 25 alone is left to ask.
+fn finish_line(made_by: &str, b: &ParametersBuilder) -> String {
+    let p = b.build();
+    let words = match without_room(&p) {
+        None => "accepted".to_string(),
+        Some(number) => format!("refused {}", number),
+    };
+    format!("finish {}: {}{}", made_by, words, record(&p))
+}
+
+/// Two setters on new settings, in both orders, each time finished.
+fn finish_lines(code: u8, first: (Setter, u64), second: (Setter, u64)) -> [String; 2] {
+    [[first, second], [second, first]].map(|calls| {
+        let mut b = builder(5, code);
+        let made_by = calls.map(|((name, _, set), value)| {
+            set(&mut b, value);
+            format!("{} {}", name, value)
+        });
+        finish_line(&made_by.join(" "), &b)
+    })
+}
+
+/// New settings of each baud code finished; slot and rotation, and slot and HSA, which sets the rotation, where there is just
+/// room for a gap poll, and where there is not.
+fn finished_lines() -> Vec<String> {
+    let [slot, hsa, rotation, ..] = SETTERS;
+    let mut lines: Vec<String> =
+        (0..11).map(|code| finish_line(&format!("new 5 {}", code), &builder(5, code))).collect();
+    let rotations = [
+        (6, 200, 299),
+        (6, 200, 300),
+        (6, 200, 256),
+        (0, 156, 256),
+        (0, 157, 256),
+        (0, 157, 257),
+        (6, 65_535, 65_634),
+        (6, 65_535, 65_635),
+    ];
+    for (code, slot_bits, rotation_bits) in rotations {
+        lines.extend(finish_lines(code, (slot, slot_bits), (rotation, rotation_bits)));
+    }
+    for address in [13, 14] {
+        lines.extend(finish_lines(6, (slot, 65_535), (hsa, address)));
+    }
     lines
 }
 
@@ -230,5 +287,6 @@ pub fn table() -> String {
     lines.extend(whole_lines(b.build()));
     lines.extend(in_place_lines());
     lines.extend(one_record_lines(b));
+    lines.extend(finished_lines());
     lines.join("\n") + "\n"
 }

@@ -211,6 +211,7 @@ fn published_poll(station: &mut FdlActiveStation, record: &PollRecord) {
     }
 }
 
+/// Document 02's 25 is no panic of the published builder, and has a test of its own.
 #[test]
 fn a_header_is_refused_exactly_where_the_published_builder_panics() {
     std::panic::set_hook(Box::new(|_| {}));
@@ -228,10 +229,57 @@ fn a_header_is_refused_exactly_where_the_published_builder_panics() {
             Header { rotation: 16_777_960 - 128 + more, ..good },
         ] {
             let built = std::panic::catch_unwind(|| header.parameters()).is_ok();
-            assert_eq!(built, header.refusal().is_none(), "{:?}", header);
+            assert_eq!(built, matches!(header.refusal(), None | Some(25)), "{:?}", header);
         }
     }
     let _ = std::panic::take_hook();
+}
+
+/// Document 02, P4: "rotation of at least slot bits + 100", without a wrap; 25 comes "directly after 4".
+#[test]
+fn a_rotation_without_room_for_a_gap_poll_is_25() {
+    let good = Header::EXAMPLE_12;
+    // the site's settings; the edge; the least rotation of all; the largest slot; where 16 bits would wrap
+    for (baud, slot, rotation, refusal) in [
+        (6, 200, 256, Some(25)),
+        (6, 200, 299, Some(25)),
+        (6, 200, 300, None),
+        (6, 200, 301, None),
+        (0, 156, 256, None),
+        (0, 157, 256, Some(25)),
+        (0, 155, 255, Some(4)),
+        (6, 65435, 65534, Some(25)),
+        (6, 65435, 65535, None),
+        (6, 65436, 256, Some(25)),
+        (6, 65436, 65535, Some(25)),
+        (6, 65436, 65536, None),
+        (6, 65535, 65634, Some(25)),
+        (6, 65535, 65635, None),
+        (6, 65535, 16_777_960, None),
+    ] {
+        let header = Header { baud, slot, rotation, ..good };
+        assert_eq!(header.refusal(), refusal, "{:?}", header);
+    }
+    // with one other fault
+    let short = Header { rotation: 299, ..good };
+    for (header, refusal) in [
+        (Header { address: 126, ..short }, 1),
+        (Header { baud: 11, ..short }, 10),
+        (Header { slot: 199, rotation: 298, ..short }, 2),
+        (Header { hsa: 5, ..short }, 3),
+        (Header { rotation: 255, ..short }, 4),
+        (Header { gap: 0, ..short }, 25),
+        (Header { retry: 0, ..short }, 25),
+        (Header { min_tsdr: 10, ..short }, 25),
+        (Header { applications: 9, ..short }, 25),
+        (Header { factors: (1, 0), ..short }, 25),
+        (Header { zero: 1, ..short }, 25),
+    ] {
+        assert!(header.faults().contains(&25), "{:?}", header);
+        assert_eq!(header.refusal(), Some(refusal), "{:?}", header);
+        assert_eq!(replay_trace(&header.write(), &mut []), refusal.into(), "{:?}", header);
+        assert_eq!(replay_trace(&header.write()[..15], &mut []), 17, "{:?}", header);
+    }
 }
 
 #[test]

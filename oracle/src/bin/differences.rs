@@ -7,10 +7,11 @@ use oracle::comparison::hex;
 use oracle::dp::{DpMaster, Options, Peripheral};
 use oracle::fdl::{parameters, FdlActiveStation, FdlApplication, ParametersBuilder};
 use oracle::port::{RecordApplication, RecordPort};
-use oracle::records::{Decision, PollRecord, Telegram};
+use oracle::records::{Decision, PollRecord, Sent, Telegram};
 use oracle::time::{Duration, Instant};
-use oracle::trace::{replay_trace, Header, ANSWER};
+use oracle::trace::{replay_trace, Entry, Header, Runner, ANSWER};
 use oracle::Baudrate;
+use std::collections::BTreeSet;
 use std::panic::{catch_unwind, AssertUnwindSafe};
 
 /// Whether this build has the published helpers.
@@ -201,12 +202,78 @@ fn changed_list() -> String {
     format!("next application {}", station.next_application())
 }
 
+/// The header of the site: slot 200 with rotation 256.
+fn site() -> Header {
+    Header { rotation: 256, ..header() }
+}
+
+/// A station with these settings, as the published builder takes them. 9 joins its ring, passes the token back at once, and
+/// each gap question is answered at once. The station is offered one telegram of each priority for each token. Gives for
+/// all tokens but the first, with a gap question due and without, how far the end of hold lies from the token time that it
+/// is counted from, and what was sent.
+fn holds(header: Header) -> String {
+    let own = header.address;
+    let mut runner = Runner::new(&header);
+    runner.entry(Entry::Online);
+    let (mut coming, mut served, mut counted_from, mut due) = (None, None, Instant::ZERO, false);
+    let mut seen = BTreeSet::new();
+    for clock in (1000..60_000).step_by(10) {
+        let was = runner.station.watch();
+        let held = was.token_time.is_some();
+        if held && was.token_time != Some(was.last_token_time) {
+            counted_from = was.last_token_time;
+            due = was.gap_poll.is_some();
+        }
+        let mut record = poll(clock, &[]);
+        if held && was.token_time != served {
+            let sends = Decision::Sends { reply: None, length: 1 };
+            record.decisions[0] = (sends, sends);
+        }
+        record.telegrams.extend(coming.filter(|(time, _)| *time == clock).map(|(_, telegram)| telegram));
+        match runner.poll(&record).sent {
+            // what was sent has 66 or 132 us; what is heard then has come 100 us later
+            Sent::Token { destination: 9 } => coming = Some((clock + 170, Telegram::token(9, own))),
+            Sent::StatusRequest { destination: source } => {
+                let station_type = if source == 9 { 2 } else { 0 };
+                let reply = Telegram::Response { destination: own, source, station_type, status: 0 };
+                coming = Some((clock + 230, reply));
+            }
+            Sent::Application { high, .. } => {
+                served = was.token_time;
+                let end = runner.station.watch().end_token_hold_time.total_micros() - counted_from.total_micros();
+                let question = if due { "a gap question due" } else { "none due" };
+                let priority = if high { "high" } else { "normal" };
+                if counted_from != Instant::ZERO {
+                    seen.insert(format!("{}: hold to {} us, sent at {} priority", question, end, priority));
+                }
+            }
+            _ => {}
+        }
+    }
+    Vec::from_iter(seen).join("; ")
+}
+
+/// What the published station does with a header's settings, and what the call returns for a trace of that header alone.
+fn by_header(words: [&'static str; 2], header: Header, hold: &'static str, ending: &'static str) -> [Shown; 2] {
+    let trace = header.write();
+    let ended = format!("0 {}", replay_trace(&trace, &mut []));
+    let shown = |words, got, expected| Shown {
+        number: "S11",
+        words,
+        input: hex(&trace),
+        got,
+        ours: expected,
+        published: expected,
+    };
+    [shown(words[0], tried(|| holds(header)), hold), shown(words[1], ended, ending)]
+}
+
 fn shown() -> Vec<Shown> {
     let with = |mut polls: Vec<PollRecord>, more: PollRecord| {
         polls.push(more);
         polls
     };
-    vec![
+    let mut all = vec![
         by_trace(
             "A1",
             "ClaimToken, polled exactly one pause (66 us) after its last activity",
@@ -282,7 +349,20 @@ fn shown() -> Vec<Shown> {
             "panic",
             "yes",
         ),
-    ]
+    ];
+    all.extend(by_header(
+        ["slot 200 with rotation 256: the end of hold, from the token time that it is counted from", "its header"],
+        site(),
+        "a gap question due: hold to -88 us, sent at high priority; none due: hold to 512 us, sent at normal priority",
+        "0 25",
+    ));
+    all.extend(by_header(
+        ["slot 200 with rotation 300, the least that is accepted", "its header"],
+        Header { rotation: 300, ..site() },
+        "a gap question due: hold to 0 us, sent at high priority; none due: hold to 600 us, sent at normal priority",
+        "0 0",
+    ));
+    all
 }
 
 fn main() {

@@ -2,7 +2,6 @@
 
 use super::poll::Poll;
 use crate::records::{state::*, Notice, Sent, Telegram};
-use crate::time::Instant;
 
 /// All that has to happen in some poll.
 pub const EVENTS: [&str; 71] = [
@@ -41,7 +40,7 @@ pub const EVENTS: [&str; 71] = [
     "UseToken: all decline at normal priority",
     "UseToken: all decline at high priority",
     "UseToken: hold time over, a cycle done",
-    "UseToken: end of hold below zero",
+    "UseToken: end of hold at the token time that it is counted from",
     "UseToken: gap time taken off the hold time",
     "UseToken: a decline completes the cycle before all are asked",
     "AwaitDataResponse: reply by a response",
@@ -215,7 +214,10 @@ fn use_token(poll: &Poll, when: When) {
     let (was, is) = (&poll.was, &poll.is);
     let new_token = was.token_time != Some(was.last_token_time);
     when(new_token && was.gap_poll.is_some(), "UseToken: gap time taken off the hold time");
-    when(is.end_token_hold_time < Instant::ZERO, "UseToken: end of hold below zero");
+    let (end, counted_from) = (is.end_token_hold_time, was.last_token_time);
+    when(new_token && end == counted_from, "UseToken: end of hold at the token time that it is counted from");
+    // out of reach since document 02's 25, and so not among the events that are named
+    when(new_token && end < counted_from, "UseToken: end of hold before the token time that it is counted from");
     if let Sent::Application { application, high, .. } = poll.answer.sent {
         when(high, "UseToken: an application sends at high priority");
         when(!high, "UseToken: an application sends at normal priority");

@@ -10,7 +10,7 @@ pub const ROOMS: [usize; 6] = [0, 13, 14, 15, 16, 20];
 /// What a header's move does, from edition 1 and from edition 2.
 const FROM: [&str; 2] = ["edition 1 to 2", "edition 2 to 1"];
 /// The refusals of a header's move, in their order. In edition 2 every number of applications is good.
-const REFUSED: [u8; 12] = [17, 1, 10, 2, 3, 4, 5, 6, 7, 11, 8, 14];
+const REFUSED: [u8; 13] = [17, 1, 10, 2, 3, 4, 25, 5, 6, 7, 11, 8, 14];
 
 /// What is lent of a trace: all of it, what stands before its entries, and, where the header is accepted, the header in the
 /// other edition, which is the way back.

@@ -6,13 +6,17 @@ use crate::editions::{Edition, SECOND};
 use crate::records::{split, Decision, Place, PollRecord, Telegram, DECISION, TELEGRAM};
 use crate::trace::Header;
 
-/// The groups of headers of an edition: refused ones, those at an edge, those with two faults.
-fn header_groups(edition: Edition) -> [&'static str; 3] {
+/// The groups of headers of an edition: refused ones, those at an edge, those with two faults, and those with a rotation at the
+/// edge of its room for a gap poll.
+fn header_groups(edition: Edition) -> [&'static str; 4] {
     match edition {
-        Edition::First => ["refused header", "header at an edge", "header with two faults"],
-        Edition::Second => {
-            ["refused header of edition 2", "header of edition 2 at an edge", "header of edition 2 with two faults"]
-        }
+        Edition::First => ["refused header", "header at an edge", "header with two faults", "room for a gap poll"],
+        Edition::Second => [
+            "refused header of edition 2",
+            "header of edition 2 at an edge",
+            "header of edition 2 with two faults",
+            "room for a gap poll in edition 2",
+        ],
     }
 }
 
@@ -120,9 +124,38 @@ const TWO_FAULTS: [(u8, u8); 10] =
 /// The same in edition 2, which has no 11.
 const SECOND_TWO_FAULTS: [(u8, u8); 9] = [(1, 10), (10, 3), (2, 3), (3, 4), (4, 5), (5, 6), (6, 7), (7, 8), (8, 14)];
 
+/// Neighbours of an edition's order.
+fn neighbours(edition: Edition) -> &'static [(u8, u8)] {
+    match edition {
+        Edition::First => &TWO_FAULTS,
+        Edition::Second => &SECOND_TWO_FAULTS,
+    }
+}
+
 /// What the first byte of a trace can be, and how many bytes there are.
 const FIRST_BYTES: [&str; 4] = ["82h", "0 to 125", "126 or 127", "128 to 255 but 82h"];
 const LENGTHS: [&str; 6] = ["under 13", "13", "14", "15", "16", "more"];
+
+/// Document 02's 25 with one other fault and no third: it comes "directly after 4".
+const WITHOUT_ROOM: [(u8, u8); 11] =
+    [(1, 25), (10, 25), (2, 25), (3, 25), (4, 25), (25, 5), (25, 6), (25, 7), (25, 11), (25, 8), (25, 14)];
+
+/// Slots and rotations at the edge of the room for a gap poll; after the colon the number of the refusal. The least rotation
+/// of all has room for a slot of 156; from slot 65,436 on, slot bits + 100 do not fit into 16 bits.
+const ROOM_EDGES: [&str; 12] = [
+    "slot 156, rotation 256",
+    "slot 157, rotation 256: 25",
+    "slot 65435, rotation 65534: 25",
+    "slot 65435, rotation 65535",
+    "slot 65436, rotation 65535: 25",
+    "slot 65436, rotation 65536",
+    "slot 65535, rotation 65634: 25",
+    "slot 65535, rotation 65635",
+    "slot 65535, rotation 256: 25",
+    "any slot, rotation slot + 99: 25",
+    "any slot, rotation slot + 100",
+    "any slot, rotation slot + 101",
+];
 
 /// Rules that a decision breaks.
 const BAD_DECISIONS: [&str; 10] = [
@@ -149,14 +182,19 @@ const STRAY: [(&str, &[&str]); 4] = [
 pub fn name_points(points: &mut Points) {
     let slots = (0..LEAST_SLOT_BITS.len())
         .flat_map(|code| [format!("least slot at code {}", code), format!("one slot bit too few at code {}: 2", code)]);
-    let mut name = |edition, numbers: &[u8], edges: &[&str], pairs: &[(u8, u8)]| {
-        let [refused, at_edge, two_faults] = header_groups(edition);
-        points.group(refused, numbers);
+    for edition in [Edition::First, Edition::Second] {
+        let [refused, at_edge, two_faults, room] = header_groups(edition);
+        // edition 2 cannot say that there is no application
+        let said = |number: u8| edition == Edition::First || number != 11;
+        let numbers = [1, 10, 2, 3, 4, 25, 5, 6, 7, 11, 8, 14, 17].into_iter();
+        points.group(refused, numbers.filter(|number| said(*number)));
+        let edges = if edition == Edition::First { &HEADER_EDGES[..] } else { &SECOND_EDGES };
         points.group(at_edge, edges.iter().map(|edge| edge.to_string()).chain(slots.clone()));
-        points.group(two_faults, pairs.iter().map(|(first, second)| format!("{} before {}", first, second)));
-    };
-    name(Edition::First, &[1, 10, 2, 3, 4, 5, 6, 7, 11, 8, 14, 17], &HEADER_EDGES, &TWO_FAULTS);
-    name(Edition::Second, &[1, 10, 2, 3, 4, 5, 6, 7, 8, 14, 17], &SECOND_EDGES, &SECOND_TWO_FAULTS);
+        let pairs =
+            neighbours(edition).iter().chain(&WITHOUT_ROOM).filter(|(first, second)| said(*first) && said(*second));
+        points.group(two_faults, pairs.map(|(first, second)| format!("{} before {}", first, second)));
+        points.group(room, ROOM_EDGES);
+    }
     let with_lengths = |first| LENGTHS.map(|length| format!("{}, {} bytes", first, length));
     points.group("first byte and length", FIRST_BYTES.iter().flat_map(with_lengths));
     let in_decisions = (0..16).flat_map(|i| [(14, Place::Decision(i)), (15, Place::Decision(i))]);
@@ -197,7 +235,7 @@ pub fn see_start(points: &mut Points, trace: &[u8]) {
 }
 
 fn see_header(points: &mut Points, edition: Edition, h: &Header) {
-    let [refused, at_edge, two_faults] = header_groups(edition);
+    let [refused, at_edge, two_faults, _] = header_groups(edition);
     let last = if edition == Edition::First { "last byte" } else { "last bits" };
     let faults = h.faults();
     let value = |name: &str, value: u32| format!("{} {}", name, value);
@@ -231,17 +269,40 @@ fn see_header(points: &mut Points, edition: Edition, h: &Header) {
     for (number, point) in values {
         if faults.is_empty() {
             points.hit_if_named(at_edge, point);
-        } else if faults == [number] || (number == 1 && faults == [1, 3]) {
-            // no HSA is above an address of 126 or more
+        } else if faults == [number] || (number == 1 && faults == [1, 3]) || (number == 4 && faults == [4, 25]) {
+            // no HSA is above an address of 126 or more, and few slots leave a rotation below 256 its room
             points.hit_if_named(at_edge, format_args!("{}: {}", point, number));
         }
     }
+    see_room(points, edition, h, &faults);
     if let Some(number) = faults.first() {
         points.hit(refused, number);
     }
-    if let [first, second, ..] = faults[..] {
-        points.hit_if_named(two_faults, format_args!("{} before {}", first, second));
+    for (first, second) in neighbours(edition) {
+        if faults.starts_with(&[*first, *second]) {
+            points.hit(two_faults, format_args!("{} before {}", first, second));
+        }
     }
+}
+
+/// The rotation's room for a gap poll: at its edges, and where there is too little and one fault more.
+fn see_room(points: &mut Points, edition: Edition, h: &Header, faults: &[u8]) {
+    let [_, _, two_faults, room] = header_groups(edition);
+    let refused = match faults {
+        [] => "",
+        [25] => ": 25",
+        _ => {
+            // no HSA is above an address of 126 or more
+            let pair = if faults == [1, 3, 25] { &[1, 25] } else { faults };
+            if let Some((first, second)) = WITHOUT_ROOM.iter().find(|(first, second)| pair == [*first, *second]) {
+                points.hit(two_faults, format_args!("{} before {}", first, second));
+            }
+            return;
+        }
+    };
+    points.hit_if_named(room, format_args!("slot {}, rotation {}{}", h.slot, h.rotation, refused));
+    let more = i64::from(h.rotation) - i64::from(h.slot);
+    points.hit_if_named(room, format_args!("any slot, rotation slot + {}{}", more, refused));
 }
 
 /// A record that is refused.

@@ -21,15 +21,12 @@ pub struct Maker {
     circle: usize,
     /// How many tokens of the circle were heard.
     heard: usize,
-    /// The trace starts at clock 0 and keeps to short times, on a bus that is never silent.
-    early: bool,
     clock: u64,
 }
 
 impl Maker {
-    pub fn new(mut seed: Seed, header: Header, early: bool) -> Maker {
+    pub fn new(mut seed: Seed, header: Header) -> Maker {
         let count = match seed.below(12) {
-            _ if early => 2,
             0..=2 => 0,
             3..=5 => 1,
             6..=9 => seed.between(2, 8),
@@ -41,12 +38,11 @@ impl Maker {
         others.truncate(count as usize);
         others.sort_by_key(|a| (a + 126 - header.address) % 126);
         let clock = match seed.below(8) {
-            _ if early => 0,
             0 => 0,
             1 => LAST_CLOCK - seed.below(3_000_000),
             _ => seed.below(1 << 34),
         };
-        Maker { seed, header, runner: Runner::new(&header), others, circle: 0, heard: 0, early, clock }
+        Maker { seed, header, runner: Runner::new(&header), others, circle: 0, heard: 0, clock }
     }
 
     /// The next entry, aimed at the station as it is; the station then does it.
@@ -108,7 +104,7 @@ impl Maker {
 
     /// A time soon after the last activity, before anything is over.
     fn soon(&mut self, last: i64) -> u64 {
-        let span = if self.early { self.time(40) } else { self.slot() }.max(4) as u64;
+        let span = self.slot().max(4) as u64;
         let step = match self.seed.below(4) {
             0 => 1,
             1 => self.seed.between(1, span / 2),
@@ -148,10 +144,10 @@ impl Maker {
                 }
             }
             // listening: what is heard comes soon, else the token is lost
-            OFFLINE..=ACTIVE_IDLE if hears || self.early => self.soon(last),
+            OFFLINE..=ACTIVE_IDLE if hears => self.soon(last),
             OFFLINE..=ACTIVE_IDLE => self.near(last + self.lost()),
             // waiting: the reply comes soon, else the slot expires
-            _ if hears && (self.early || !self.seed.one_in(8)) => self.soon(last),
+            _ if hears && !self.seed.one_in(8) => self.soon(last),
             _ => self.near(last + self.slot()),
         }
     }
@@ -345,8 +341,6 @@ impl Maker {
             6 => vec![Telegram::ShortConfirmation],
             7 => vec![Telegram::token(own, next); 2],
             8 => vec![self.any_telegram()],
-            // the bus is not silent: the next station passes the token on
-            _ if self.early => vec![Telegram::token(next, previous)],
             _ => Vec::new(),
         };
         self.perhaps_more(heard, 4)

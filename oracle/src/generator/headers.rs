@@ -4,7 +4,7 @@ use super::seed::Seed;
 use crate::baud::LEAST_SLOT_BITS;
 use crate::editions::Edition;
 use crate::ring::LAST;
-use crate::trace::Header;
+use crate::trace::{least_rotation, Header};
 
 /// A header that is accepted.
 pub fn good_header(seed: &mut Seed) -> Header {
@@ -21,12 +21,13 @@ pub fn good_header(seed: &mut Seed) -> Header {
         2 | 3 => seed.between(least.into(), 2 * u64::from(least)) as u16,
         _ => least,
     };
+    let shortest = shortest_rotation(slot);
     let rotation = match seed.below(6) {
         0 => 16_777_960,
-        1 => 256,
-        2 => seed.between(256, 16_777_960) as u32,
-        3 => 32436,
-        _ => seed.between(256, 6000) as u32,
+        1 => shortest,
+        2 => seed.between(shortest.into(), 16_777_960) as u32,
+        3 => shortest.max(32436),
+        _ => seed.between(shortest.into(), u64::from(shortest) + 6000) as u32,
     };
     let hsa = match seed.below(4) {
         0 => address + 1,
@@ -48,26 +49,37 @@ pub fn good_header(seed: &mut Seed) -> Header {
     }
 }
 
-/// The number of fields, and the places of slot and applications among them, in the order in which they are checked.
+/// The shortest rotation that is accepted with this slot.
+fn shortest_rotation(slot: u16) -> u32 {
+    least_rotation(slot).max(256)
+}
+
+/// The number of fields, and the places of some among them, in the order in which document 01 checks them.
 const FIELDS: u64 = 11;
 const SLOT: u64 = 2;
+const ROTATION: u64 = 4;
 const APPLICATIONS: u64 = 8;
 
-/// Puts one field at or beyond the edge of its range, or two neighbouring ones beyond theirs.
+/// Puts one field at or beyond the edge of its range, or two neighbouring ones beyond theirs, or the rotation at or below the
+/// edge of its room for a gap poll.
 pub fn edge_header(seed: &mut Seed, edition: Edition, header: &mut Header) {
-    if seed.coin() {
-        // the slot has an edge for each baud code
-        let field = if seed.one_in(3) { SLOT } else { seed.below(FIELDS) };
-        let beyond = seed.coin();
-        edge_field(seed, header, field, beyond);
-    } else {
-        let first = seed.below(FIELDS - 1);
-        // without a baud rate there is no least slot
-        let second = if first + 1 == SLOT { SLOT + 1 } else { first + 1 };
-        // edition 2 has no number of applications that is bad
-        let second = if edition == Edition::Second && second == APPLICATIONS { second + 1 } else { second };
-        edge_field(seed, header, first, true);
-        edge_field(seed, header, second, true);
+    match seed.below(6) {
+        0..=2 => {
+            // the slot has an edge for each baud code
+            let field = if seed.one_in(3) { SLOT } else { seed.below(FIELDS) };
+            let beyond = seed.coin();
+            edge_field(seed, header, field, beyond);
+        }
+        3 | 4 => {
+            let first = seed.below(FIELDS - 1);
+            // without a baud rate there is no least slot
+            let second = if first + 1 == SLOT { SLOT + 1 } else { first + 1 };
+            // edition 2 has no number of applications that is bad
+            let second = if edition == Edition::Second && second == APPLICATIONS { second + 1 } else { second };
+            edge_field(seed, header, first, true);
+            edge_field(seed, header, second, true);
+        }
+        _ => edge_room(seed, header),
     }
     if edition == Edition::Second {
         *header = fitted(header);
@@ -89,6 +101,42 @@ fn fitted(header: &Header) -> Header {
     }
 }
 
+/// A rotation with just enough room for a gap poll, or with less, alone or with a fault of another field.
+fn edge_room(seed: &mut Seed, header: &mut Header) {
+    match seed.below(3) {
+        // the least rotation of all, 256, has room for a slot of 156
+        0 => {
+            header.baud = seed.below(6) as u8;
+            header.slot = seed.pick(&[156, 157]);
+        }
+        // from 65,436 on the sum does not fit into 16 bits
+        1 => header.slot = seed.pick(&[65435, 65436, 65535]),
+        _ => header.slot = header.slot.max(157),
+    }
+    match seed.below(3) {
+        0 => header.rotation = least_rotation(header.slot) + seed.pick(&[0, 0, 1]),
+        1 => header.rotation = short_rotation(seed, header.slot),
+        _ => {
+            let field = seed.below(FIELDS);
+            if field == SLOT {
+                // from this code on a slot can be too small and yet larger than 156
+                header.baud = seed.between(6, 10) as u8;
+                header.slot = LEAST_SLOT_BITS[usize::from(header.baud)] - 1;
+            } else {
+                edge_field(seed, header, field, true);
+            }
+            let too_short = field == ROTATION;
+            header.rotation = if too_short { seed.pick(&[0, 255]) } else { short_rotation(seed, header.slot) };
+        }
+    }
+}
+
+/// A rotation without room for a gap poll.
+fn short_rotation(seed: &mut Seed, slot: u16) -> u32 {
+    let longest = least_rotation(slot) - 1;
+    seed.pick(&[longest, longest, 256.min(longest)])
+}
+
 /// One field at the edge of its range, or beyond it.
 fn edge_field(seed: &mut Seed, header: &mut Header, field: u64, beyond: bool) {
     let mut of = |inside: &[u32], outside: &[u32]| seed.pick(if beyond { outside } else { inside });
@@ -104,14 +152,19 @@ fn edge_field(seed: &mut Seed, header: &mut Header, field: u64, beyond: bool) {
             header.baud = of(&[0, 10], &[11, 12, 255]) as u8;
             if !beyond {
                 header.slot = header.slot.max(1000);
+                header.rotation = header.rotation.max(shortest_rotation(header.slot));
             }
         }
         SLOT => {
             let least = u32::from(LEAST_SLOT_BITS[usize::from(header.baud.min(10))]);
             header.slot = of(&[least, least, least + 1, 65535], &[least - 1, least - 1, 0]) as u16;
+            header.rotation = header.rotation.max(shortest_rotation(header.slot));
         }
         3 => header.hsa = of(&[own + 1, 126], &[0, own, own, 127, 127, 255]) as u8,
-        4 => header.rotation = of(&[256, 16_777_960], &[0, 255, 16_777_961, u32::MAX]),
+        ROTATION => {
+            let shortest = shortest_rotation(header.slot);
+            header.rotation = of(&[shortest, 16_777_960], &[0, 255, 16_777_961, u32::MAX]);
+        }
         5 => header.gap = of(&[1, 100], &[0, 101, 255]) as u8,
         6 => header.retry = of(&[1, 15], &[0, 16, 255]) as u8,
         7 => header.min_tsdr = of(&[11, 255], &[0, 10]) as u8,

@@ -30,8 +30,8 @@ pub fn trace(seed: u64, index: u64) -> Trace {
         0 => Kind::Cut,
         1 => Kind::Damaged,
         2 => Kind::Small,
-        3..=6 => Kind::Edge,
-        7 => Kind::Mixed,
+        3..=7 => Kind::Edge,
+        8 => Kind::Mixed,
         _ => Kind::Whole,
     };
     let edition = if seed.coin() { Edition::Second } else { Edition::First };
@@ -39,16 +39,11 @@ pub fn trace(seed: u64, index: u64) -> Trace {
     if kind == Kind::Edge {
         edge_header(&mut seed, edition, &mut header);
     }
-    let early = kind == Kind::Whole && seed.one_in(16);
-    if early {
-        header.slot = 65535;
-        header.gap = 1;
-    }
     let length = if kind == Kind::Whole { seed.pick(&[20, 60, 100, 150]) } else { seed.between(0, 30) };
     let fill = seed.pick(&[0x00, 0xff, 0xa5, 0x5a]);
     let mut made = Trace { header: header.write_as(edition), entries: Vec::new(), room: 0, fill };
     if header.refusal().is_none() {
-        let mut maker = Maker::new(seed, header, early);
+        let mut maker = Maker::new(seed, header);
         made.entries = (0..length).map(|_| maker.next_entry()).collect();
         seed = maker.seed;
     }
@@ -89,10 +84,11 @@ fn cut(seed: &mut Seed, made: &mut Trace) {
 /// Gives the trace another first byte: that of edition 2, one of edition 1, or one that no header has. Half of the traces then
 /// end near the lengths of the two editions' headers.
 fn mix(seed: &mut Seed, made: &mut Trace) {
-    made.header[0] = match seed.below(4) {
+    made.header[0] = match seed.below(5) {
         0 => SECOND,
         1 => seed.below(126) as u8,
         2 => seed.pick(&[126, 127]),
+        3 => seed.pick(&[128, 129, 131, 255]),
         _ => seed.between(128, 255) as u8,
     };
     if seed.coin() {

@@ -56,7 +56,8 @@ impl Header {
         self.faults().first().copied()
     }
 
-    /// The numbers of all faults in document 01's order "1, 10, 2, 3, 4, 5, 6, 7, 11, 8, 14".
+    /// The numbers of all faults in document 01's order "1, 10, 2, 3, 4, 5, 6, 7, 11, 8, 14", and document 02's 25 "directly
+    /// after 4".
     pub fn faults(&self) -> Vec<u8> {
         let rules = [
             (1, self.address > 125),
@@ -64,6 +65,7 @@ impl Header {
             (2, self.slot_too_small()),
             (3, self.hsa <= self.address || self.hsa > 126),
             (4, self.rotation < 256 || self.rotation > 16_777_960),
+            (25, self.rotation < least_rotation(self.slot)),
             (5, self.gap < 1 || self.gap > 100),
             (6, self.retry < 1 || self.retry > 15),
             (7, self.min_tsdr < 11),
@@ -96,6 +98,12 @@ impl Header {
         }
         parameters
     }
+}
+
+/// Document 02, P4: "Finished settings and trace headers need rotation of at least slot bits + 100". The sum is counted in
+/// 32 bits and does not wrap.
+pub fn least_rotation(slot: u16) -> u32 {
+    u32::from(slot) + 100
 }
 
 /// "byte 0 online, 1 offline, 2 passive, any L ≥ 3 a poll record of L bytes"

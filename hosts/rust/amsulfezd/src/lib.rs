@@ -5,7 +5,7 @@
 //! | [`record`] | the poll record: telegrams, decisions, the clock |
 //! | [`trace`] | a trace: its header, a writer, an iterator over its entries |
 //! | [`answer`] | the 64-bit answer, and an iterator over a buffer of them |
-//! | [`refusal`] | document 01's eighteen refusal numbers and their words |
+//! | [`refusal`] | the documents' nineteen refusal numbers and their words |
 //! | [`run`] | what the call returns, and the text that the program `replay` prints |
 //! | `replay` | the call itself, safe; only where the static library is linked |
 //! | [`number`] | the error of a number that document 01 does not have |

@@ -1,4 +1,4 @@
-//! Document 01's refusal numbers.
+//! Document 01's refusal numbers, and document 02's 25.
 
 use crate::number::{with_number, UnknownNumber};
 use std::fmt;
@@ -26,6 +26,7 @@ pub enum Refusal {
     Passive = 16,
     Cut = 17,
     NoRoom = 18,
+    GapRoom = 25,
 }
 
 /// Every refusal, in the order of their numbers.
@@ -48,15 +49,16 @@ pub const ALL: &[Refusal] = &[
     Refusal::Passive,
     Refusal::Cut,
     Refusal::NoRoom,
+    Refusal::GapRoom,
 ];
 
 impl Refusal {
-    /// Document 01's number.
+    /// The documents' number.
     pub fn number(self) -> u8 {
         self as u8
     }
 
-    /// The column "When" of document 01's table.
+    /// The column "When" of document 01's table; document 02's words for 25.
     pub fn words(self) -> &'static str {
         match self {
             Refusal::Address => "address above 125",
@@ -81,10 +83,11 @@ impl Refusal {
                 "trace ends inside header or entry, or is above 2^32 bytes (checked with the header)"
             }
             Refusal::NoRoom => "no 8 bytes left for an answer",
+            Refusal::GapRoom => "rotation with no room for a gap poll",
         }
     }
 
-    /// What document 01 asks for instead, where the words alone do not say it.
+    /// What the documents ask for instead, where the words alone do not say it.
     pub fn rule(self) -> Option<&'static str> {
         match self {
             Refusal::Slot => Some(
@@ -99,13 +102,14 @@ impl Refusal {
                 Some("must be 8 + 6 for each application + 4 for each telegram")
             }
             Refusal::Passive => Some("this station has no passive state"),
+            Refusal::GapRoom => Some("must be at least slot bits + 100"),
             _ => None,
         }
     }
 }
 
 impl From<Refusal> for u8 {
-    /// Document 01's number.
+    /// The documents' number.
     fn from(refusal: Refusal) -> u8 {
         refusal.number()
     }
@@ -121,7 +125,7 @@ impl TryFrom<u8> for Refusal {
 }
 
 impl fmt::Display for Refusal {
-    /// The number and document 01's words.
+    /// The number and the documents' words.
     fn fmt(&self, f: &mut fmt::Formatter) -> fmt::Result {
         write!(f, "{} ({})", self.number(), self.words())
     }

@@ -101,6 +101,7 @@ fn words_that_no_answer_has() {
         0x0310_0000_0900_0014, // 9 telegrams consumed
         0x0238_0000_0000_0014, // an application's telegram of 0 bytes
         0x8810_0000_0000_0014, // refusal 17, which ends a trace and refuses no entry
+        0xc810_0000_0000_0014, // refusal 25, which a header meets and no entry
         0x8310_0000_0000_0014, // a refusal with an outcome
         0x8010_0000_0100_0014, // a refusal with a telegram consumed
     ] {
@@ -140,9 +141,9 @@ fn states_outcomes_and_types_have_document_01s_numbers() {
 }
 
 #[test]
-fn refusals_have_document_01s_numbers() {
+fn refusals_have_the_documents_numbers() {
     let numbers: Vec<u8> = ALL.iter().map(|refusal| refusal.number()).collect();
-    assert_eq!(numbers, (1..=18).collect::<Vec<u8>>());
+    assert_eq!(numbers, (1..=18).chain([25]).collect::<Vec<u8>>());
     for &refusal in ALL {
         assert_eq!(Refusal::try_from(refusal.number()), Ok(refusal));
         assert_eq!(u8::from(refusal), refusal.number());
@@ -160,6 +161,14 @@ fn refusals_have_document_01s_numbers() {
         Refusal::NoRoom.to_string(),
         "18 (no 8 bytes left for an answer)"
     );
+    assert_eq!(
+        Refusal::GapRoom.to_string(),
+        "25 (rotation with no room for a gap poll)"
+    );
+    assert_eq!(
+        Refusal::GapRoom.rule(),
+        Some("must be at least slot bits + 100")
+    );
 }
 
 #[test]
@@ -169,6 +178,7 @@ fn what_the_call_returns() {
     assert_eq!(Run::try_from(6 * 256), run(6, None));
     assert_eq!(Run::try_from(5 * 256 + 17), run(5, Some(Refusal::Cut)));
     assert_eq!(Run::try_from(3), run(0, Some(Refusal::Hsa)));
+    assert_eq!(Run::try_from(25), run(0, Some(Refusal::GapRoom)));
     assert!(Run::try_from(256 + 19).is_err());
 }
 

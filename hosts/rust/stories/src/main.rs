@@ -6,6 +6,7 @@ mod applications;
 mod bus;
 mod collisions;
 mod fine_points;
+mod gap_room;
 mod night;
 mod refusals;
 mod ring;
@@ -45,6 +46,7 @@ fn stories() -> Vec<Story> {
     all.push(fine_points::story());
     all.push(twelve_mbaud::story());
     all.extend(refusals::stories());
+    all.extend(gap_room::stories());
     all
 }
 

@@ -228,8 +228,8 @@ fn headers() -> Vec<Story> {
         watchdog_factors: (4, 0),
         zero: 1,
     };
-    let tale = "The header has this fault and those that are checked after it, in document 01's order: 17, 1, 10, 2, 3, 4, 5, 6, 7, 11, 8, 14.\n\
-                The first decides. The entry that follows, online, is not looked at, and nothing is written.";
+    let tale = "The header has this fault and those that are checked after it, in the documents' order: 17, 1, 10, 2, 3, 4, 25, 5, 6, 7, 11, 8,\n\
+                14. The first decides. The entry that follows, online, is not looked at, and nothing is written.";
     let mut all = Vec::new();
     let mut refused = |name, header, title, refusal| {
         let mut story = Story::new(name, header, title, tale);
@@ -270,7 +270,14 @@ fn headers() -> Vec<Story> {
         "Refused header: rotation 255 bits",
         Refusal::Rotation,
     );
-    faulty.rotation_bits = 256;
+    faulty.rotation_bits = 299;
+    refused(
+        "headers/25-gap-room",
+        faulty,
+        "Refused header: rotation 299 bits has no room for a gap poll with slot 200",
+        Refusal::GapRoom,
+    );
+    faulty.rotation_bits = 300;
     refused(
         "headers/05-gap-wait",
         faulty,
@@ -322,13 +329,14 @@ fn cut_header() -> Story {
     let header = Header {
         address: 126,
         baud: 11,
+        rotation_bits: 299,
         ..station_5()
     };
     let mut story = Story::new(
         "headers/17-cut",
         header,
         "A trace that ends inside its header: 17",
-        "The header below without its last byte. Its address and baud code are bad too, but the end of the trace is found first.",
+        "The header below without its last byte. Its address, baud code and rotation are bad too, but the end of the trace is found first.",
     );
     story.cut_bytes(1);
     story

@@ -35,6 +35,7 @@ fn stored_outputs() {
         "cut-entry",
         "headers/03-hsa",
         "headers/17-cut",
+        "headers/25-site",
         "headers/accepted-limits",
     ] {
         let stored = package()
