@@ -221,25 +221,29 @@ fn whole_lines(mut p: Parameters) -> Vec<String> {
     lines
 }
 
-/// Settings that the published builder made, finished. Its setters have checked each field, so that 25 alone is left to ask.
-fn finish_line(made_by: &str, b: &ParametersBuilder) -> String {
-    let p = b.build();
-    let words = match without_room(&p) {
-        None => "accepted".to_string(),
-        Some(number) => format!("refused {}", number),
+/// Settings that the published builder makes by these calls, finished. Its setters have checked each field, so that 25 alone is
+/// left to ask.
+fn finish_line(words: &str, code: u8, calls: &[(Setter, u64)]) -> String {
+    let made = tried(|| {
+        let mut b = builder(5, code);
+        for ((_, _, set), value) in calls {
+            set(&mut b, *value);
+        }
+        b.build()
+    });
+    let said = match made.map(|p| (without_room(&p), record(&p))) {
+        Some((None, record)) => format!("accepted{}", record),
+        Some((Some(number), record)) => format!("refused {}{}", number, record),
+        None => "a setter refuses".to_string(),
     };
-    format!("finish {}: {}{}", made_by, words, record(&p))
+    format!("finish {}: {}", words, said)
 }
 
 /// Two setters on new settings, in both orders, each time finished.
 fn finish_lines(code: u8, first: (Setter, u64), second: (Setter, u64)) -> [String; 2] {
     [[first, second], [second, first]].map(|calls| {
-        let mut b = builder(5, code);
-        let made_by = calls.map(|((name, _, set), value)| {
-            set(&mut b, value);
-            format!("{} {}", name, value)
-        });
-        finish_line(&made_by.join(" "), &b)
+        let words = calls.map(|((name, ..), value)| format!("{} {}", name, value));
+        finish_line(&words.join(" "), code, &calls)
     })
 }
 
@@ -247,8 +251,7 @@ fn finish_lines(code: u8, first: (Setter, u64), second: (Setter, u64)) -> [Strin
 /// room for a gap poll, and where there is not.
 fn finished_lines() -> Vec<String> {
     let [slot, hsa, rotation, ..] = SETTERS;
-    let mut lines: Vec<String> =
-        (0..11).map(|code| finish_line(&format!("new 5 {}", code), &builder(5, code))).collect();
+    let mut lines: Vec<String> = (0..11).map(|code| finish_line(&format!("new 5 {}", code), code, &[])).collect();
     let rotations = [
         (6, 200, 299),
         (6, 200, 300),

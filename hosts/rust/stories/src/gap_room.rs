@@ -7,15 +7,12 @@ use amsulfezd::record::{Decision, Poll, StationType, Telegram};
 use amsulfezd::refusal::Refusal;
 use amsulfezd::trace::Header;
 
-pub fn stories() -> Vec<Story> {
+/// Headers on both sides of the limit.
+pub fn headers() -> Vec<Story> {
     vec![
-        least_rotation(),
         refused(
             "headers/25-site",
-            Header {
-                rotation_bits: 256,
-                ..station_5()
-            },
+            with(6, 200, 256),
             "Refused header: the site's settings, slot 200 with rotation 256",
             "Nothing else is wrong with this header, and its slot and its rotation are accepted each by itself. A gap poll takes slot + 100\n\
              = 300 bits off the hold, 600 us; the rotation is 512 us. While the gap was polled the hold so ended 88 us before the token\n\
@@ -23,59 +20,49 @@ pub fn stories() -> Vec<Story> {
         ),
         refused(
             "headers/25-one-bit-short",
-            Header {
-                rotation_bits: 299,
-                ..station_5()
-            },
+            with(6, 200, 299),
             "Refused header: slot 200 with rotation 299, one bit short",
             "The rotation must be at least slot bits + 100, which is 300; `gap-room` has 300 and is accepted.",
         ),
         refused(
             "headers/25-slot-157",
-            least(157),
+            with(0, 157, 256),
             "Refused header: slot 157 with rotation 256",
             "256 is the least rotation of all. From slot 157 on it has no room for a gap poll: 157 + 100 = 257.",
         ),
-        accepted(
-            "headers/accepted-slot-156",
-            least(156),
-            "An accepted header: slot 156 with rotation 256",
-            "156 + 100 = 256: the least rotation of all has just room. With a smaller slot every rotation has.",
-        ),
         refused(
             "headers/25-largest-slot",
-            Header {
-                slot_bits: 65_535,
-                rotation_bits: 65_634,
-                ..station_5()
-            },
+            with(6, 65_535, 65_634),
             "Refused header: the largest slot with rotation 65,634",
             "65,535 + 100 = 65,635, one more than the rotation. The sum is counted as it is: in 16 bits it would be 99, and every rotation\n\
              would have room.",
         ),
         accepted(
+            "headers/accepted-slot-156",
+            with(0, 156, 256),
+            "An accepted header: slot 156 with rotation 256",
+            "156 + 100 = 256: the least rotation of all has just room. With a smaller slot every rotation has.",
+        ),
+        accepted(
             "headers/accepted-largest-slot",
-            Header {
-                slot_bits: 65_535,
-                rotation_bits: 65_635,
-                ..station_5()
-            },
+            with(6, 65_535, 65_635),
             "An accepted header: the largest slot with rotation 65,635",
             "65,535 + 100 = 65,635: the rotation has just room.",
         ),
     ]
 }
 
-/// The least rotation of all, at 9,600 bits a second, where a slot of 100 bits is the least.
-fn least(slot_bits: u16) -> Header {
+/// Station 5 with these settings.
+fn with(baud: u8, slot_bits: u16, rotation_bits: u32) -> Header {
     Header {
-        baud: 0,
+        baud,
         slot_bits,
-        rotation_bits: 256,
+        rotation_bits,
         ..station_5()
     }
 }
 
+/// A header that is refused with 25.
 fn refused(name: &'static str, header: Header, title: &'static str, tale: &'static str) -> Story {
     let mut story = Story::new(name, header, title, tale);
     story.header_refused(Refusal::GapRoom);
@@ -97,11 +84,10 @@ fn both(clock: u64) -> Poll {
 }
 
 /// The edge of what is accepted, in use.
-fn least_rotation() -> Story {
+pub fn story() -> Story {
     let header = Header {
-        rotation_bits: 300,
         gap_wait: 1,
-        ..station_5()
+        ..with(6, 200, 300)
     };
     let mut story = Story::new(
         "gap-room",

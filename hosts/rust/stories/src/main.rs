@@ -45,8 +45,9 @@ fn stories() -> Vec<Story> {
     all.extend(bus::stories());
     all.push(fine_points::story());
     all.push(twelve_mbaud::story());
+    all.push(gap_room::story());
     all.extend(refusals::stories());
-    all.extend(gap_room::stories());
+    all.extend(gap_room::headers());
     all
 }
 
