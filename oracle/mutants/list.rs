@@ -476,6 +476,7 @@ pub const PLANTED: &[Planted] = &[
     moved("given.write_as(Edition::of(header).other())", "given.write_as(Edition::of(header))"),
     moved("    (bytes.len(), 0)", "    (16, 0)"),
     moved("    if let Some(number) = given.refusal() {", "    if let Some(number) = given.refusal().filter(|number| *number != 14) {"),
+    moved("    if let Some(number) = given.refusal() {", "    if let Some(number) = given.refusal().filter(|number| *number != 25) {"),
     // The port and the applications.
     planted("port", "i + 1 == pending.len()", "i == 0"),
     planted("port",

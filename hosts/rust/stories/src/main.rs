@@ -5,6 +5,7 @@
 mod applications;
 mod bus;
 mod collisions;
+mod editions;
 mod fine_points;
 mod gap_room;
 mod night;
@@ -48,6 +49,7 @@ fn stories() -> Vec<Story> {
     all.push(gap_room::story());
     all.extend(refusals::stories());
     all.extend(gap_room::headers());
+    all.extend(editions::stories());
     all
 }
 
