@@ -645,7 +645,11 @@ fn ending(run: &Run, trace: &[u8]) -> String {
             run.entries, number
         ),
         Some(Refusal::Cut) if Header::from_bytes(trace).is_none() => format!(
-            "The trace ends inside its header: nothing is answered. Ending number {}.",
+            "The trace ends inside its header{}: nothing is answered. Ending number {}.",
+            match Edition::of(trace) {
+                Edition::First => "",
+                Edition::Second => " of edition 2",
+            },
             number
         ),
         Some(Refusal::Cut) => format!(
