@@ -27,9 +27,10 @@
  * Stack. A call uses at most AMSULFEZD_STACK_BYTES of the caller's stack, its return address included, whatever the
  * trace's length. Measured: 2,153 bytes, with the library of the toolchain rattle-kit-5b. The method: the call runs on
  * a stack of its own that was filled with a pattern, and the deepest byte that changed is looked for, over all traces
- * of traces/, one of 100,000 entries and 1,000 traces made at random, which reach every state and every kind of send.
- * hosts/c/stack.c does this and is part of the tests, so that a library that uses more than AMSULFEZD_STACK_BYTES is
- * found. The library's code has no recursion, takes no stack by a computed length and calls nothing outside itself.
+ * of traces/, one of 100,000 entries and 1,000 traces made at random, which reach every state and every kind of send;
+ * each is replayed, and its header moved to the other edition. hosts/c/stack.c does this and is part of the tests, so
+ * that a library that uses more than AMSULFEZD_STACK_BYTES is found. The library's code has no recursion, takes no stack
+ * by a computed length and calls nothing outside itself.
  */
 #ifndef AMSULFEZD_H
 #define AMSULFEZD_H
