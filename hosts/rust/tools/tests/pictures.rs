@@ -978,6 +978,24 @@ fn every_leaving_ends_a_lane() {
     );
 }
 
+/// The settings say that a header is of edition 2, and the entries are drawn as those behind the same settings in edition 1.
+#[test]
+fn the_edition_is_said_and_changes_no_entry() {
+    let words = "; header of edition 2";
+    for name in ["example12", "night", "applications"] {
+        let first = drawn(&stored_replay(name));
+        let second = drawn(&stored_replay(&format!("edition-2/{}", name)));
+        let settings = joined(&first, "settings");
+        assert_eq!(joined(&second, "settings"), settings + words);
+        let titles = |picture: &Element| -> Vec<String> {
+            let entries = picture.with_class("entry");
+            let words = |entry: &&Element| entry.title().expect("words").to_string();
+            entries.iter().map(words).collect()
+        };
+        assert_eq!(titles(&first), titles(&second), "{}", name);
+    }
+}
+
 /// An entry has something red exactly if it is refused, an application's time ran out, our own address was heard, or the
 /// clock went back: a wait is calm, however long it is. Over the bus only a leaving, a claim and a station that gives way
 /// are red, of the states only the claim.
