@@ -1,4 +1,6 @@
--- Fields put below one another and read again undo each other, for every list of widths; so do bytes and their number. Assumes nothing.
+-- Fields put below one another and read again undo each other, once for every list of widths and any number of bits (`unpack-pack`,
+-- `pack-unpack`). A word of 64 bits is one case of it, bytes and their number another; bytes that fields of other widths lie across
+-- are in codec_slices. Assumes nothing.
 use Prim.Native.Nat.{ℕ, zero, suc, _+_, _*_, _/_, _^_, _<_, _≤_}
 use mathlib.Core.Path.{_≡_, refl, sym, ap, _∙_}
 use mathlib.Core.List.{List, [], _∷_}
@@ -10,14 +12,8 @@ use borrow.Table.Steps.{cases}
 use lib.ListN.{length, getD, replicate}
 use lib.Pow.{high, low, split, shr-shr, pow-pos}
 use lib.Dec.{eqb, lit<}
-use Rattle.codec_fields.specs.Fields.{fieldOf, bitAt, bitNumber, zeroOr14, zerosOr14, putAll, total, unpack, Within, be, beFrom, lowBytes, bytesOf, Bytes}
+use Rattle.codec_fields.specs.Fields.{fieldOf, bitAt, bitNumber, zeroOr14, zerosOr14, putAll, packFrom, pack, total, unpack, Within, be, beFrom, lowBytes, bytesOf, Bytes}
 use Rattle.codec_fields.specs.Widths.{field-below, field-split, grown, put-plain}
-
--- the sum that fields make where nothing falls away
-abbrev packFrom : ℕ → List ℕ → List ℕ → ℕ
-packFrom acc (w ∷ ws) (v ∷ vs) = packFrom (acc * 2 ^ w + v) ws vs
-packFrom acc [] vs = acc
-packFrom acc (w ∷ ws) [] = acc
 
 -- values within their widths make the plain sum, where the widths have room
 plain : (k acc : ℕ) (ws vs : List ℕ) → acc < 2 ^ k → k + total ws ≤ 64 → Within ws vs → putAll acc ws vs ≡ packFrom acc ws vs
@@ -27,7 +23,7 @@ plain k acc (w ∷ ws) (v ∷ vs) a l h =
     ∙ plain (k + w) (acc * 2 ^ w + v) ws vs (grown k w acc v a (h .0)) (omega arith) (h .1)
 
 -- and that sum is below 2 to the bits that it takes
-below : (k acc : ℕ) (ws vs : List ℕ) → acc < 2 ^ k → Within ws vs → packFrom acc ws vs < 2 ^ (k + total ws)
+pub below : (k acc : ℕ) (ws vs : List ℕ) → acc < 2 ^ k → Within ws vs → packFrom acc ws vs < 2 ^ (k + total ws)
 below k acc [] [] a h = rw add-zero a
 below k acc (w ∷ ws) (v ∷ vs) a h =
     let e : k + w + total ws ≡ k + (total ws + w) = omega arith in
@@ -42,14 +38,14 @@ above acc (w ∷ ws) (v ∷ vs) h =
     ∙ high acc w (h .0)
 
 -- values within their widths are read back from the sum
-unpack-pack : (acc : ℕ) (ws vs : List ℕ) → Within ws vs → unpack ws (packFrom acc ws vs) ≡ vs
+pub unpack-pack : (acc : ℕ) (ws vs : List ℕ) → Within ws vs → unpack ws (packFrom acc ws vs) ≡ vs
 unfolding fieldOf
 unpack-pack acc [] [] h = refl
 unpack-pack acc (w ∷ ws) (v ∷ vs) h =
     rw (above (acc * 2 ^ w + v) ws vs (h .1), low acc w (h .0), unpack-pack (acc * 2 ^ w + v) ws vs (h .1))
 
 -- a number is the sum of its fields and of what stands above them
-pack-unpack : (ws : List ℕ) (word : ℕ) → packFrom (word / 2 ^ total ws) ws (unpack ws word) ≡ word
+pub pack-unpack : (ws : List ℕ) (word : ℕ) → packFrom (word / 2 ^ total ws) ws (unpack ws word) ≡ word
 unfolding fieldOf
 pack-unpack [] word = div-one word
 pack-unpack (w ∷ ws) word =
