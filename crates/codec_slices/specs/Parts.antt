@@ -12,8 +12,7 @@ use lib.Seq.{length-take-le, drop-drop}
 use lib.Pow.{pow-add}
 use lib.Dec.{leb}
 use Rattle.codec_fields.specs.Fields.{fieldOf, be, beFrom, hasRoom, loadOf, lowBytes, storedOf, Bytes}
-use Rattle.codec_fields.specs.Widths.{field-below}
-use Rattle.codec_fields.specs.Laws.{be-low, low-be, be-below, low-length}
+use Rattle.codec_fields.specs.Laws.{bytes-low, be-low, low-be, be-below, low-length}
 use Rattle.codec_fields.specs.Stores.{load-room, stored-room, room-of, bytes-take, bytes-drop}
 use Rattle.codec_slices.specs.Slices.{touched, behind, hasBits, fieldAt, overField, putAt, overWord}
 use Rattle.codec_slices.specs.Places.{field-above, field-within, over-above, over-within, over-below, over-word}
@@ -27,11 +26,6 @@ bytes-known (b ∷ s) h = (h 0, bytes-known s (λ i. h (suc i)))
 pub bytes-append : (a b : List ℕ) → Bytes a → Bytes b → Bytes (a ++ b)
 bytes-append [] b h k = k
 bytes-append (x ∷ a) b h k = (h .0, bytes-append a b (h .1) k)
-
--- the bytes of a number
-pub bytes-low : (count word : ℕ) → Bytes (lowBytes count word)
-bytes-low zero word = tt
-bytes-low (suc count) word = (field-below word _ 8, bytes-low count word)
 
 -- the number of bytes after others
 be-after : (acc : ℕ) (ys : List ℕ) → beFrom acc ys ≡ acc * 2 ^ (8 * length ys) + be ys

@@ -2,11 +2,11 @@
 -- where it ends below the upper one, whatever its place and width. So too for a field that is replaced. Assumes nothing.
 use Prim.Native.Nat.{ℕ, _+_, _-_, _*_, _/_, _%_, _^_, _<_, _≤_}
 use mathlib.Core.Path.{_≡_, refl, sym, ap, ap₂, _∙_, subst}
-use native.Mathlib.Nat.{mul-assoc, mul-add-div-right, mul-add-mod-self-right, mod-lt, mod-eq-of-lt, lt-of-lt-of-le}
+use native.Mathlib.Nat.{mul-assoc, mul-add-div-right, mul-add-mod-self-right, mod-lt, lt-of-lt-of-le}
 use native.Mathlib.Omega.{arith}
 use lib.Pow.{pow-add, pow-pos, pow-mono, shr-shr, shr-lt, high, low, mod-pow-add}
 use Rattle.codec_fields.specs.Fields.{fieldOf, putOf}
-use Rattle.codec_fields.specs.Widths.{grown, field-whole}
+use Rattle.codec_fields.specs.Widths.{grown, field-whole, put-low}
 use Rattle.codec_slices.specs.Slices.{overField, overWord}
 
 -- what stands above k bits and more
@@ -79,11 +79,6 @@ over-below more n at width value s =
     let a : more + width + at ≡ more + (at + width) = omega arith in
     let t : n / 2 ^ (at + width) < 2 ^ more = shr-lt more (at + width) (subst (λ (m : ℕ). n < 2 ^ m) a s) in
     grown (more + width) at _ _ (grown more width _ _ t (mod-lt value (pow-pos width))) (mod-lt n (pow-pos at))
-
--- a value below a number of k bits, where nothing falls away
-put-low : (k width word value : ℕ) → word < 2 ^ k → k + width ≤ 64 → putOf word width value ≡ word * 2 ^ width + value % 2 ^ width
-unfolding putOf
-put-low k width word value h l = mod-eq-of-lt (lt-of-lt-of-le (grown k width word (value % 2 ^ width) h (mod-lt value (pow-pos width))) (pow-mono l))
 
 -- in a word of which the field and what stands beside it are all, the parts put below one another are the word with the field replaced
 pub over-word : (more word after width value : ℕ) → word < 2 ^ (more + width + after) → more + width + after ≤ 64 → overWord word after width value ≡ overField word after width value

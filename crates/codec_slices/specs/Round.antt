@@ -1,6 +1,6 @@
 -- Fields of bytes, written and read: they undo each other, once for every place and width, and so for every list of widths that fills
 -- the bytes. Assumes nothing.
-use Prim.Native.Nat.{ℕ, _+_, _-_, _*_, _/_, _%_, _^_, _<_, _≤_}
+use Prim.Native.Nat.{ℕ, suc, _+_, _-_, _*_, _/_, _%_, _^_, _<_, _≤_}
 use mathlib.Core.Path.{_≡_, refl, sym, ap, _∙_, subst}
 use mathlib.Core.List.{List, [], _∷_}
 use native.Mathlib.Nat.{mod-lt, mod-eq-of-lt, div-one, div-eq-of-lt}
@@ -9,10 +9,10 @@ use lib.ListN.{length}
 use lib.Pow.{pow-pos, split, high, low, shr-shr}
 use lib.Dec.{lit<}
 use Rattle.codec_fields.specs.Fields.{fieldOf, be, pack, packFrom, total, unpack, Within, lowBytes, Bytes}
-use Rattle.codec_fields.specs.Laws.{below, unpack-pack, pack-unpack, unpacked-within, be-low, low-be, be-below, low-length}
+use Rattle.codec_fields.specs.Laws.{below, unpack-pack, pack-unpack, unpacked-within, bytes-low, be-low, low-be, be-below, low-length}
 use Rattle.codec_slices.specs.Slices.{touched, hasBits, fieldAt, overField, putAt, putFrom, fieldsFrom, Short}
 use Rattle.codec_slices.specs.Places.{field-within, over-high, over-below}
-use Rattle.codec_slices.specs.Parts.{bytes-low, bits-are-there}
+use Rattle.codec_slices.specs.Parts.{bits-are-there}
 
 -- One field.
 
@@ -160,36 +160,41 @@ put-all :
     (at : ℕ) (ws vs s : List ℕ)
     → Bytes s
     → Short ws
-    → Within ws vs
+    → length ws ≡ length vs
     → at + total ws ≡ 8 * length s
     → putFrom at ws vs s ≡ lowBytes (length s) (packFrom (be s / 2 ^ total ws) ws vs)
-put-all at [] [] s bytes short h fills = sym (ap (lowBytes (length s)) (div-one (be s)) ∙ low-be s bytes)
+put-all at [] vs s bytes short h fills = sym (ap (lowBytes (length s)) (div-one (be s)) ∙ low-be s bytes)
+put-all at (w ∷ ws) [] s bytes short h fills = absurd (omega (arith, h))
 put-all at (w ∷ ws) (v ∷ vs) s bytes short h fills =
     let few = short-touches at w (short .0) in
     let room : at + w ≤ 8 * length s = omega (arith, fills) in
     let next = putAt s at w v in
     let l = put-length s at w bytes few room v in
     let e : 8 * length s - (at + w) ≡ total ws = omega (arith, fills) in
-    let up : be next / 2 ^ total ws ≡ be s / 2 ^ (total ws + w) * 2 ^ w + v =
+    let up : be next / 2 ^ total ws ≡ be s / 2 ^ (total ws + w) * 2 ^ w + v % 2 ^ w =
     ap (λ (n : ℕ). n / 2 ^ total ws) (put-number s at w bytes few room v ∙ ap (λ (n : ℕ). overField (be s) n w v) e)
-    ∙ over-high (be s) (total ws) w v
-    ∙ ap (λ (n : ℕ). be s / 2 ^ (total ws + w) * 2 ^ w + n) (mod-eq-of-lt (h .0)) in
-    put-all (at + w) ws vs next (put-bytes s at w bytes few room v) (short .1) (h .1) (rw l (omega (arith, fills)))
+    ∙ over-high (be s) (total ws) w v in
+    put-all (at + w) ws vs next (put-bytes s at w bytes few room v) (short .1) (omega (arith, h)) (rw l (omega (arith, fills)))
     ∙ ap (λ (n : ℕ). lowBytes n (packFrom (be next / 2 ^ total ws) ws vs)) l
     ∙ ap (λ (n : ℕ). lowBytes (length s) (packFrom n ws vs)) up
 
 -- fields that fill the bytes leave nothing of what was there: the bytes are those of the number that the fields make
-pub filled : (ws vs s : List ℕ) → Bytes s → Short ws → Within ws vs → total ws ≡ 8 * length s → putFrom 0 ws vs s ≡ lowBytes (length s) (pack ws vs)
+pub filled : (ws vs s : List ℕ) → Bytes s → Short ws → length ws ≡ length vs → total ws ≡ 8 * length s → putFrom 0 ws vs s ≡ lowBytes (length s) (pack ws vs)
 filled ws vs s bytes short h fills =
     let small : be s < 2 ^ total ws = subst (λ (n : ℕ). be s < 2 ^ n) (sym fills) (be-below s bytes) in
     put-all 0 ws vs s bytes short h (omega (arith, fills)) ∙ ap (λ (n : ℕ). lowBytes (length s) (packFrom n ws vs)) (div-eq-of-lt small)
+
+-- as many values as widths
+as-many : (ws vs : List ℕ) → Within ws vs → length ws ≡ length vs
+as-many [] [] h = refl
+as-many (w ∷ ws) (v ∷ vs) h = ap suc (as-many ws vs (h .1))
 
 module _ (ws : List ℕ) (count : ℕ) (fills : total ws ≡ 8 * count) where
   -- values within their widths are read back from the bytes that they make
   pub read-written : (vs : List ℕ) → Within ws vs → unpack ws (be (lowBytes count (pack ws vs))) ≡ vs
   read-written vs h =
       let e : 0 + total ws ≡ 8 * count = omega (arith, fills) in
-      ap (unpack ws) (be-low count (pack ws vs) (subst (λ (n : ℕ). pack ws vs < 2 ^ n) e (below 0 0 ws vs (lit< tt) h)))
+      ap (unpack ws) (be-low count (pack ws vs) (subst (λ (n : ℕ). pack ws vs < 2 ^ n) e (below 0 0 ws vs (lit< tt))))
       ∙ unpack-pack 0 ws vs h
 
   -- bytes are made again from their fields
@@ -204,7 +209,7 @@ module _ (ws s : List ℕ) (bytes : Bytes s) (short : Short ws) (fills : total w
   -- values within their widths, written into bytes field by field, are read back field by field
   pub fields-put : (vs : List ℕ) → Within ws vs → fieldsFrom 0 ws (putFrom 0 ws vs s) ≡ vs
   fields-put vs h =
-      let e = filled ws vs s bytes short h fills in
+      let e = filled ws vs s bytes short (as-many ws vs h) fills in
       let l : 0 + total ws ≡ 8 * length (lowBytes (length s) (pack ws vs)) = rw low-length (omega (arith, fills)) in
       ap (fieldsFrom 0 ws) e
       ∙ fields-are 0 ws (lowBytes (length s) (pack ws vs)) (bytes-low (length s) (pack ws vs)) short l
@@ -214,5 +219,5 @@ module _ (ws s : List ℕ) (bytes : Bytes s) (short : Short ws) (fills : total w
   pub put-fields : (bs : List ℕ) → length bs ≡ length s → Bytes bs → putFrom 0 ws (fieldsFrom 0 ws bs) s ≡ bs
   put-fields bs l h =
       ap (λ (vs : List ℕ). putFrom 0 ws vs s) (fields-are 0 ws bs h short (rw l (omega (arith, fills))))
-      ∙ filled ws (unpack ws (be bs)) s bytes short (unpacked-within ws (be bs)) fills
+      ∙ filled ws (unpack ws (be bs)) s bytes short (as-many ws (unpack ws (be bs)) (unpacked-within ws (be bs))) fills
       ∙ written-read ws (length s) fills bs l h
