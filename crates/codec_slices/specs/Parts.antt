@@ -9,9 +9,10 @@ use borrow.Author.Tests.{le-leb, lt-leb, leb-true, leb-false}
 use borrow.Table.Steps.{cases}
 use lib.ListN.{length, take, drop, getD, length-append, length-drop, take-append-drop}
 use lib.Seq.{length-take-le, drop-drop}
-use lib.Pow.{pow-add}
+use lib.Pow.{pow-add, pow-pos}
 use lib.Dec.{leb}
 use Rattle.codec_fields.specs.Fields.{fieldOf, be, beFrom, hasRoom, loadOf, lowBytes, storedOf, Bytes}
+use Rattle.codec_fields.specs.Widths.{field-below}
 use Rattle.codec_fields.specs.Laws.{bytes-low, be-low, low-be, be-below, low-length}
 use Rattle.codec_fields.specs.Stores.{load-room, stored-room, room-of, bytes-take, bytes-drop}
 use Rattle.codec_slices.specs.Slices.{touched, behind, hasBits, fieldAt, overField, putAt, overWord}
@@ -200,3 +201,17 @@ field-too-wide s at width h = rw (too-wide (length s) at width h)
 pub put-too-wide : (s : List ℕ) (at width value : ℕ) → 64 < width → putAt s at width value ≡ s
 unfolding putAt
 put-too-wide s at width value h = rw (too-wide (length s) at width h)
+
+-- a field is below 2 to its width
+pub field-small : (s : List ℕ) (at width : ℕ) → fieldAt s at width < 2 ^ width
+unfolding fieldAt
+field-small s at width =
+    cases (hasBits (length s) at width) (λ t. rw t (field-below (be s) (8 * length s - (at + width)) width)) (λ t. rw t (pow-pos width))
+
+-- a field that is put leaves the length as it is
+pub put-keeps-length : (s : List ℕ) (at width value : ℕ) → length (putAt s at width value) ≡ length s
+unfolding putAt
+put-keeps-length s at width value =
+    cases (hasBits (length s) at width)
+    (λ t. rw t (low-length (length s) (overField (be s) (8 * length s - (at + width)) width value)))
+    (λ t. rw t)

@@ -1,2 +1,3 @@
--- The definitions; there are no laws.
+-- The definitions, and what the calls lean on.
 pub mod Headers
+pub mod Laws
