@@ -45,8 +45,8 @@ headerLength trace = lengthOf (editionOf trace)
 -- A header read.
 
 -- the header of twelve numbers
-abbrev pub headerWith : ℕ → ℕ → ℕ → ℕ → ℕ → ℕ → ℕ → ℕ → ℕ → ℕ → ℕ → ℕ → Header
-headerWith address baud slot rotation gap hsa retry min-tsdr applications factor-1 factor-2 spare =
+abbrev pub plainHeader : ℕ → ℕ → ℕ → ℕ → ℕ → ℕ → ℕ → ℕ → ℕ → ℕ → ℕ → ℕ → Header
+plainHeader address baud slot rotation gap hsa retry min-tsdr applications factor-1 factor-2 spare =
     record {
       settings = record {
         «token_rotation_bits» = rotation;
@@ -69,17 +69,17 @@ unfoldable pub headerIn : Edition → List ℕ → Header
 headerIn First bytes =
     reads (widthsOf First)
     (λ address baud slot rotation gap hsa retry min-tsdr applications factor-1 factor-2 spare.
-    headerWith address baud slot rotation gap hsa retry min-tsdr applications factor-1 factor-2 spare)
+    plainHeader address baud slot rotation gap hsa retry min-tsdr applications factor-1 factor-2 spare)
     (be bytes)
 headerIn Second bytes =
     reads (widthsOf Second)
     (λ mark address baud slot rotation gap hsa retry min-tsdr less-one factor-1 factor-2 spare.
-    headerWith address baud slot rotation gap hsa retry min-tsdr (less-one + 1) factor-1 factor-2 spare)
+    plainHeader address baud slot rotation gap hsa retry min-tsdr (less-one + 1) factor-1 factor-2 spare)
     (be bytes)
 
 -- all numbers zero
 unfoldable pub noHeader : Header
-noHeader = headerWith 0 0 0 0 0 0 0 0 0 0 0 0
+noHeader = plainHeader 0 0 0 0 0 0 0 0 0 0 0 0
 
 -- the header that these bytes begin with; all numbers zero where they end inside it
 unfoldable pub headerOf : List ℕ → Header

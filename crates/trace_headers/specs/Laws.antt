@@ -13,7 +13,7 @@ use Rattle.codec_slices.specs.Round.{fields-are, filled}
 use Rattle.trace_headers.specs.declared.Header.{Header}
 use Rattle.trace_headers.specs.declared.Edition.{Edition}
 use Rattle.trace_headers.specs.declared.Edition.the-variants.{First, Second}
-use Rattle.trace_headers.specs.Headers.{editionOf, otherThan, widthsOf, lengthOf, headerWith, headerIn, headerOf, valuesIn, headerBytes, headerInto, lentRefusal, otherLength, moveRefusal, moveNumber, moveInto}
+use Rattle.trace_headers.specs.Headers.{editionOf, otherThan, widthsOf, lengthOf, plainHeader, headerIn, headerOf, valuesIn, headerBytes, headerInto, lentRefusal, otherLength, moveRefusal, moveNumber, moveInto}
 
 -- the widths fill the edition's bytes, each field in at most 57 bits, and there are as many values
 pub widths-fill : (e : Edition) → total (widthsOf e) ≡ 8 * lengthOf e
@@ -34,9 +34,9 @@ values-many Second h = refl
 -- the header of its fields' values
 unfoldable pub madeIn : Edition → List ℕ → Header
 madeIn First vs =
-    headerWith (getD vs 0 0) (getD vs 1 0) (getD vs 2 0) (getD vs 3 0) (getD vs 4 0) (getD vs 5 0) (getD vs 6 0) (getD vs 7 0) (getD vs 8 0) (getD vs 9 0) (getD vs 10 0) (getD vs 11 0)
+    plainHeader (getD vs 0 0) (getD vs 1 0) (getD vs 2 0) (getD vs 3 0) (getD vs 4 0) (getD vs 5 0) (getD vs 6 0) (getD vs 7 0) (getD vs 8 0) (getD vs 9 0) (getD vs 10 0) (getD vs 11 0)
 madeIn Second vs =
-    headerWith (getD vs 1 0) (getD vs 2 0) (getD vs 3 0) (getD vs 4 0) (getD vs 5 0) (getD vs 6 0) (getD vs 7 0) (getD vs 8 0) (getD vs 9 0 + 1) (getD vs 10 0) (getD vs 11 0) (getD vs 12 0)
+    plainHeader (getD vs 1 0) (getD vs 2 0) (getD vs 3 0) (getD vs 4 0) (getD vs 5 0) (getD vs 6 0) (getD vs 7 0) (getD vs 8 0) (getD vs 9 0 + 1) (getD vs 10 0) (getD vs 11 0) (getD vs 12 0)
 
 -- a header's bytes read field by field
 pub read-in : (e : Edition) (s : List ℕ) → Bytes s → length s ≡ lengthOf e → madeIn e (fieldsFrom 0 (widthsOf e) s) ≡ headerIn e s
