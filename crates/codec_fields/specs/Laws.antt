@@ -12,7 +12,7 @@ use borrow.Table.Steps.{cases}
 use lib.ListN.{length, getD, replicate}
 use lib.Pow.{high, low, split, shr-shr, pow-pos, pow-mono}
 use lib.Dec.{eqb, lit<}
-use Rattle.codec_fields.specs.Fields.{fieldOf, bitAt, bitNumber, zeroOr14, zerosOr14, putAll, packFrom, pack, total, unpack, Within, be, beFrom, lowBytes, bytesOf, Bytes}
+use Rattle.codec_fields.specs.Fields.{fieldOf, bitAt, bitNumber, zeroOr14, zerosOr14, putAll, packFrom, total, unpack, Within, be, beFrom, lowBytes, bytesOf, Bytes}
 use Rattle.codec_fields.specs.Widths.{field-below, field-split, grown, put-low}
 
 -- in a word of 64 bits that has room for the widths nothing falls away

@@ -1,7 +1,7 @@
 -- A field of a number that two parts make: it is a field of the upper part where it stands above the lower one, and of the lower part
 -- where it ends below the upper one, whatever its place and width. So too for a field that is replaced. Assumes nothing.
 use Prim.Native.Nat.{ℕ, _+_, _-_, _*_, _/_, _%_, _^_, _<_, _≤_}
-use mathlib.Core.Path.{_≡_, refl, sym, ap, ap₂, _∙_, subst}
+use mathlib.Core.Path.{_≡_, sym, ap, ap₂, _∙_, subst}
 use native.Mathlib.Nat.{mul-assoc, mul-add-div-right, mul-add-mod-self-right, mod-lt, lt-of-lt-of-le}
 use native.Mathlib.Omega.{arith}
 use lib.Pow.{pow-add, pow-pos, pow-mono, shr-shr, shr-lt, high, low, mod-pow-add}

@@ -10,7 +10,7 @@ use lib.Pow.{pow-pos, split, high, low, shr-shr}
 use lib.Dec.{lit<}
 use Rattle.codec_fields.specs.Fields.{fieldOf, be, pack, packFrom, total, unpack, Within, lowBytes, Bytes}
 use Rattle.codec_fields.specs.Laws.{below, unpack-pack, pack-unpack, unpacked-within, bytes-low, be-low, low-be, be-below, low-length}
-use Rattle.codec_slices.specs.Slices.{touched, hasBits, fieldAt, overField, putAt, putFrom, fieldsFrom, Short}
+use Rattle.codec_slices.specs.Slices.{touched, fieldAt, overField, putAt, putFrom, fieldsFrom, Short}
 use Rattle.codec_slices.specs.Places.{field-within, over-high, over-below}
 use Rattle.codec_slices.specs.Parts.{bits-are-there}
 

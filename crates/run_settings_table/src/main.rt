@@ -1,7 +1,7 @@
 // Prints, from the proved calls of bit_times, settings_watchdog, settings, settings_in_place and settings_build: document 01's
 // watchdog lines, 33 bits at each baud code, and each boundary of new and of each setter, the last value accepted and the
-// first refused, with the settings after it; last, the setters on the caller's record at the same boundaries, and some of
-// them one after another on one record. A line ends with the ten numbers of the settings: address, baud code, slot bits,
+// first refused, with the settings after it; then the setters on the caller's record at the same boundaries, and some of
+// them one after another on one record; last, settings finished. A line ends with the ten numbers of the settings: address, baud code, slot bits,
 // rotation bits, gap wait, highest station address, retry limit, min Tsdr and the two watchdog factors. It leans on these
 // five and on io.
 ghost use mathlib.Core.Path.{_≡_};
@@ -68,7 +68,7 @@ fn created(answer: Created) {
     }
 }
 
-// What a setter came to.
+// What a setter, or finishing, came to.
 fn changed(answer: Changed) {
     match answer {
         Changed::Accepted(p) => {
@@ -344,6 +344,8 @@ fn whole_lines(f: PlainSettings) {
     whole(g);
     g.gap_wait_rotations = 101;
     whole(g);
+    g.token_rotation_bits = 299;
+    whole(g);
     g.token_rotation_bits = 255;
     whole(g);
     g.highest_station_address = 5;
@@ -486,6 +488,97 @@ fn one_record_lines(p: Parameters) {
     set_slot(q, 65535);
 }
 
+// New settings at a baud code, finished.
+fn finish_new(code: u8) {
+    let Created::Accepted(p) = Parameters::new(5, code) else {
+        return;
+    };
+    text(b"finish new 5 ");
+    number(code as u64);
+    text(b": ");
+    changed(settings_build::finish(p));
+}
+
+// The settings that a setter's answer has, set or as they were.
+fn settings_in(answer: Changed) -> Parameters {
+    match answer {
+        Changed::Accepted(p) => p,
+        Changed::Refused(_, p) => p,
+    }
+}
+
+// Slot bits and rotation set in either order at a baud code, and finished.
+fn finish_rotation(code: u8, slot: u16, rotation: u32) {
+    let Created::Accepted(p) = Parameters::new(5, code) else {
+        return;
+    };
+    text(b"finish slot_bits ");
+    item(slot as u64);
+    text(b"token_rotation_bits ");
+    number(rotation as u64);
+    text(b": ");
+    changed(settings_build::finish(settings_in(settings_in(p.slot_bits(slot)).token_rotation_bits(
+        rotation,
+    ))));
+    text(b"finish token_rotation_bits ");
+    item(rotation as u64);
+    text(b"slot_bits ");
+    number(slot as u64);
+    text(b": ");
+    changed(settings_build::finish(settings_in(settings_in(p.token_rotation_bits(
+        rotation,
+    )).slot_bits(slot))));
+}
+
+// Slot bits and HSA, which sets the rotation too, set in either order, and finished.
+fn finish_hsa(slot: u16, hsa: u8) {
+    let Created::Accepted(p) = Parameters::new(5, 6) else {
+        return;
+    };
+    text(b"finish slot_bits ");
+    item(slot as u64);
+    text(b"highest_station_address ");
+    number(hsa as u64);
+    text(b": ");
+    changed(settings_build::finish(settings_in(settings_in(p.slot_bits(
+        slot,
+    )).highest_station_address(hsa))));
+    text(b"finish highest_station_address ");
+    item(hsa as u64);
+    text(b"slot_bits ");
+    number(slot as u64);
+    text(b": ");
+    changed(settings_build::finish(settings_in(settings_in(p.highest_station_address(
+        hsa,
+    )).slot_bits(slot))));
+}
+
+// Settings finished: new ones at each baud code; rotation one below slot bits + 100 and at it, the site's, and at the end
+// of the slot bits' 16 bits.
+fn finish_lines() {
+    finish_new(0);
+    finish_new(1);
+    finish_new(2);
+    finish_new(3);
+    finish_new(4);
+    finish_new(5);
+    finish_new(6);
+    finish_new(7);
+    finish_new(8);
+    finish_new(9);
+    finish_new(10);
+    finish_rotation(6, 200, 299);
+    finish_rotation(6, 200, 300);
+    finish_rotation(6, 200, 256);
+    finish_rotation(0, 156, 256);
+    finish_rotation(0, 157, 256);
+    finish_rotation(0, 157, 257);
+    finish_rotation(6, 65535, 65634);
+    finish_rotation(6, 65535, 65635);
+    finish_hsa(65535, 13);
+    finish_hsa(65535, 14);
+}
+
 // The settings of document 01's example: address 5, code 6; then the same with a watchdog of ten seconds.
 fn main() {
     watchdog_lines();
@@ -507,4 +600,5 @@ fn main() {
     whole_lines(PlainSettings::of_parameters(q));
     in_place_lines(p);
     one_record_lines(q);
+    finish_lines();
 }

@@ -35,7 +35,7 @@ new-number address code =
     cases (eqb (addressRefusal address) 0) (λ t. rw t (new-at-number address (baudOf code))) (λ f. rw f)
 
 -- a setter whose rule refuses with n, or that sets the settings
-unless-number : (n : ℕ) (p q : Parameters) → changedNumber (unless n p (changed.Accepted q)) ≡ n
+pub unless-number : (n : ℕ) (p q : Parameters) → changedNumber (unless n p (changed.Accepted q)) ≡ n
 unfolding unless
 unless-number n p q = cases (eqb n 0) (λ t. rw t (sym (eqb-true n 0 t))) (λ f. rw f)
 

@@ -65,6 +65,6 @@ outside-number low v high n = by (leb low v && leb v high)
 pub none-refuses : (n : ℕ) (rest : List ℕ) → firstOf (n ∷ rest) ≡ 0 → (n ≡ 0) × (firstOf rest ≡ 0)
 none-refuses n rest e = cases (eqb n 0) (λ t. (eqb-true n 0 t, rw t at e)) (λ f. absurd (eqb-false n 0 f (rw f at e)))
 
--- numbers that are at most k have a first that is at most k
-pub first-small : (k n : ℕ) (rest : List ℕ) → n ≤ k → firstOf rest ≤ k → firstOf (n ∷ rest) ≤ k
-first-small k n rest l r = cases (eqb n 0) (λ t. rw t r) (λ f. rw f l)
+-- what holds of the head and of the first of the rest holds of the first of both
+pub first-has : (P : ℕ → Type 0) (n : ℕ) (rest : List ℕ) → P n → P (firstOf rest) → P (firstOf (n ∷ rest))
+first-has P n rest l r = cases (eqb n 0) (λ t. rw t r) (λ f. rw f l)

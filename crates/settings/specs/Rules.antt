@@ -1,6 +1,6 @@
 -- Document 01, "Settings": one rule for each limit. A rule gives its refusal's number, or 0 where the value is taken. Setters, new
 -- settings, the check of a whole record (settings_build), a header and a new station use the same rules. 1 to 7 and the watchdog's 8
--- are asserts of profirust's ParametersBuilder; 10, 11 and the factors' 8 are document 01's.
+-- are asserts of profirust's ParametersBuilder; 10, 11 and the factors' 8 are document 01's; 25 is document 02's (P4).
 use Prim.Native.Nat.{ℕ, _+_}
 use mathlib.Core.Bool.{cond, _&&_}
 use mathlib.Core.List.{List, [], _∷_}
@@ -29,6 +29,10 @@ leastRotation = 256
 
 abbrev pub greatestRotation : ℕ
 greatestRotation = 16777960
+
+-- what a gap poll may take besides its slot, in bits: do_use_token takes slot bits and these off the hold, and rule 25 asks for them
+abbrev pub gapAllowance : ℕ
+gapAllowance = 100
 
 -- the most applications that a station has
 abbrev pub mostApplications : ℕ
@@ -71,6 +75,11 @@ hsaRefusal address v = refuseOutside (address + 1) v greatestHsa 3
 -- 4: rotation 256..16,777,960
 unfoldable pub rotationRefusal : ℕ → ℕ
 rotationRefusal v = refuseOutside leastRotation v greatestRotation 4
+
+-- 25, in a whole record: rotation at least slot bits + 100, which is room for a gap poll. No setter asks for it, so that the two may
+-- be set in either order
+unfoldable pub roomRefusal : ℕ → ℕ → ℕ
+roomRefusal slot rotation = refuseBelow (slot + gapAllowance) rotation 25
 
 -- 5: gap wait 1..100
 unfoldable pub gapWaitRefusal : ℕ → ℕ

@@ -1,6 +1,6 @@
--- Document 01, "Settings" and its header order of refusals 1 to 8 and 10, beside profirust's parameters.rs: the check of a whole
--- record, and the settings that an accepted one makes.
--- A refusal is document 01's number; 0 stands for no refusal. `cond t a b` is a if the test t holds, else b.
+-- Document 01, "Settings" and its header order of refusals 1 to 8 and 10, beside profirust's parameters.rs, with document 02's 25 in its
+-- place: the check of a whole record, the settings that an accepted one makes, and settings finished.
+-- A refusal is its document's number; 0 stands for no refusal. `cond t a b` is a if the test t holds, else b.
 use Prim.Native.Nat.{ℕ}
 use mathlib.Core.Bool.{cond}
 use mathlib.Core.List.{[], _∷_}
@@ -13,10 +13,13 @@ use Rattle.settings_watchdog.specs.declared.WatchdogFactors.the-variants as wf
 use Rattle.settings.specs.declared.Parameters.{Parameters}
 use Rattle.settings.specs.declared.Created.{Created}
 use Rattle.settings.specs.declared.Created.the-variants as created
-use Rattle.settings.specs.Rules.{addressRefusal, baudRefusal, leastOf, slotBitsRefusal, hsaRefusal, rotationRefusal, gapWaitRefusal, retryRefusal, minTsdrRefusal, factorsRefusal, firstOf}
+use Rattle.settings.specs.declared.Changed.{Changed}
+use Rattle.settings.specs.declared.Changed.the-variants as changed
+use Rattle.settings.specs.Rules.{addressRefusal, baudRefusal, leastOf, slotBitsRefusal, hsaRefusal, rotationRefusal, roomRefusal, gapWaitRefusal, retryRefusal, minTsdrRefusal, factorsRefusal, firstOf}
+use Rattle.settings.specs.Settings.{unless}
 use Rattle.settings_build.specs.declared.PlainSettings.{PlainSettings}
 
--- the first refusal up to min Tsdr, in document 01's header order: 1, 10, 2, 3, 4, 5, 6, 7
+-- the first refusal up to min Tsdr, in document 01's header order with 25 directly after 4: 1, 10, 2, 3, 4, 25, 5, 6, 7
 unfoldable pub earlyRefusal : PlainSettings → ℕ
 earlyRefusal f =
     firstOf
@@ -25,12 +28,13 @@ earlyRefusal f =
     ∷ slotBitsRefusal (leastOf (baudOf (f .«baud_code»))) (f .«slot_bits»)
     ∷ hsaRefusal (f .address) (f .«highest_station_address»)
     ∷ rotationRefusal (f .«token_rotation_bits»)
+    ∷ roomRefusal (f .«slot_bits») (f .«token_rotation_bits»)
     ∷ gapWaitRefusal (f .«gap_wait_rotations»)
     ∷ retryRefusal (f .«max_retry_limit»)
     ∷ minTsdrRefusal (f .«min_tsdr_bits»)
     ∷ [])
 
--- the check of a whole record: 1, 10, 2, 3, 4, 5, 6, 7, then 8
+-- the check of a whole record: 1, 10, 2, 3, 4, 25, 5, 6, 7, then 8
 unfoldable pub firstRefusal : PlainSettings → ℕ
 firstRefusal f = firstOf (earlyRefusal f ∷ factorsRefusal (f .«factor_1») (f .«factor_2») ∷ [])
 
@@ -79,3 +83,7 @@ plainOf p =
       «factor_1» = factorsPair (p .«watchdog_factors») .0;
       «factor_2» = factorsPair (p .«watchdog_factors») .1;
     }
+
+-- settings are finished by the check of a whole record: refused with its number and handed back as they were, or accepted
+unfoldable pub finishOf : Parameters → Changed
+finishOf p = unless (firstRefusal (plainOf p)) p (changed.Accepted p)

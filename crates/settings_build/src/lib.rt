@@ -1,10 +1,12 @@
-// Settings from plain numbers: the one check of a whole record, in document 01's header order, and the settings that an
-// accepted record makes. Part of layer 2 of document 01 ("Settings", refusals 1 to 8 and 10 of a header), from profirust's
-// parameters.rs: ParametersBuilder::build. It leans on settings for the record and its rules, on settings_watchdog for the
+// Settings from plain numbers: the one check of a whole record, in document 01's header order with document 02's 25
+// directly after 4, the settings that an accepted record makes, and the call that finishes settings. Part of layer 2 of
+// document 01 ("Settings", refusals 1 to 8 and 10 of a header), from profirust's parameters.rs: ParametersBuilder::build.
+// It leans on settings for the record and its rules, on settings_watchdog for the
 // factors and on bit_times for the baud code.
 ghost use mathlib.Core.Path.{_≡_};
-ghost use Rattle.settings_build.specs.Build.{earlyRefusal, firstRefusal, pairOf, buildOf, factorsPair, plainOf};
+ghost use Rattle.settings_build.specs.Build.{earlyRefusal, firstRefusal, pairOf, buildOf, factorsPair, plainOf, finishOf};
 use bit_times::Coded;
+use settings::Changed;
 use settings::Created;
 use settings::Parameters;
 use settings::address_refusal;
@@ -15,6 +17,7 @@ use settings::hsa_refusal;
 use settings::least_of;
 use settings::min_tsdr_refusal;
 use settings::retry_refusal;
+use settings::room_refusal;
 use settings::rotation_refusal;
 use settings::slot_bits_refusal;
 use settings_watchdog::WatchdogFactors;
@@ -86,7 +89,8 @@ impl PlainSettings {
         }
     }
 
-    // The first refusal up to min Tsdr, in document 01's header order: 1, 10, 2, 3, 4, 5, 6, 7; 0 for none.
+    // The first refusal up to min Tsdr, in document 01's header order with 25 directly after 4: 1, 10, 2, 3, 4, 25, 5, 6,
+    // 7; 0 for none.
     pub fn early_refusal(self) -> u8
         ensures { λ r. ⌜ r ≡ earlyRefusal self ⌝ }
     {
@@ -111,6 +115,10 @@ impl PlainSettings {
         if rotation != 0 {
             return rotation;
         }
+        let room = room_refusal(self.slot_bits, self.token_rotation_bits);
+        if room != 0 {
+            return room;
+        }
         let gap_wait = gap_wait_refusal(self.gap_wait_rotations);
         if gap_wait != 0 {
             return gap_wait;
@@ -126,7 +134,7 @@ impl PlainSettings {
         0
     }
 
-    // The one check of a whole record: its first refusal in document 01's header order, 0 for none.
+    // The one check of a whole record: its first refusal in this order, then 8; 0 for none.
     pub fn first_refusal(self) -> u8
         ensures { λ r. ⌜ r ≡ firstRefusal self ⌝ }
     {
@@ -165,4 +173,16 @@ impl PlainSettings {
             Coded::Unknown => Created::Refused(baud_refusal(coded)),
         }
     }
+}
+
+// Settings are finished by the check of a whole record: the settings, or its number and the settings as they were. Settings
+// that `new` and accepted setters made are refused with 25 alone, where the rotation has no room for a gap poll.
+pub fn finish(p: Parameters) -> Changed
+    ensures { λ r. ⌜ r ≡ finishOf p ⌝ }
+{
+    let n = PlainSettings::of_parameters(p).first_refusal();
+    if n != 0 {
+        return Changed::Refused(n, p);
+    }
+    Changed::Accepted(p)
 }

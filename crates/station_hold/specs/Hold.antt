@@ -7,6 +7,7 @@ use lib.Dec.{ltb, leb, eqb}
 use Rattle.bit_times.specs.declared.Micros.{Micros}
 use Rattle.bit_times.specs.Times.{timeOf}
 use Rattle.settings.specs.declared.Parameters.{Parameters}
+use Rattle.settings.specs.Rules.{gapAllowance}
 use Rattle.settings.specs.Settings.{rotationTimeOf}
 use Rattle.ring.specs.declared.GapState.{GapState}
 use Rattle.ring.specs.declared.GapState.the-variants.{Waiting, DoPoll}
@@ -78,10 +79,6 @@ askedFrom (suc k) bytes n a first high =
 -- apps_transmit_telegram: as many turns as there are applications
 unfoldable pub askedOf : List ℕ → ℕ → ℕ → OptionApplication → Bool → Asked
 askedOf bytes n a first high = askedFrom n bytes n a first high
-
--- what a gap poll may take besides its slot, in bits
-abbrev pub gapAllowance : ℕ
-gapAllowance = 100
 
 -- do_use_token: the time of a gap poll, slot bits + 100, is taken off while the gap is polled
 unfoldable pub holdLess : Parameters → GapState → Micros

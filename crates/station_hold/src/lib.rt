@@ -14,6 +14,7 @@ use codec_answers::Sent;
 use codec_decisions::Decision;
 use codec_telegrams::Telegram;
 use ring::GapState;
+use settings::GAP_ALLOWANCE;
 use settings::Parameters;
 use station::Core;
 use station::OptionApplication;
@@ -183,7 +184,7 @@ fn do_use_token_hold(p: Parameters, core: Core, token_time: Micros) -> Core
             station::with_token_times(core, token_time, hold_end(from, span, Micros(0)))
         }
         GapState::DoPoll { .. } => {
-            let less = bit_times::time_of(Bits(p.slot_bits as u32 + 100), baud);
+            let less = bit_times::time_of(Bits(p.slot_bits as u32 + GAP_ALLOWANCE), baud);
             station::with_token_times(core, token_time, hold_end(from, span, less))
         }
     }

@@ -7,6 +7,7 @@ use Rattle.settings.proofs.least_of.Reads as least-of-reads
 use Rattle.settings.proofs.slot_bits_refusal.Reads as slot-bits-refusal-reads
 use Rattle.settings.proofs.hsa_refusal.Reads as hsa-refusal-reads
 use Rattle.settings.proofs.rotation_refusal.Reads as rotation-refusal-reads
+use Rattle.settings.proofs.room_refusal.Reads as room-refusal-reads
 use Rattle.settings.proofs.gap_wait_refusal.Reads as gap-wait-refusal-reads
 use Rattle.settings.proofs.retry_refusal.Reads as retry-refusal-reads
 use Rattle.settings.proofs.min_tsdr_refusal.Reads as min-tsdr-refusal-reads
@@ -44,6 +45,9 @@ hsa-refusal κs a r₁ r₂ s₁ s₂ p q = p ∙ sym q
 
 pub rotation-refusal : Determined rotation-refusal-reads.Post
 rotation-refusal κs a r₁ r₂ s₁ s₂ p q = p ∙ sym q
+
+pub room-refusal : Determined room-refusal-reads.Post
+room-refusal κs a r₁ r₂ s₁ s₂ p q = p ∙ sym q
 
 pub gap-wait-refusal : Determined gap-wait-refusal-reads.Post
 gap-wait-refusal κs a r₁ r₂ s₁ s₂ p q = p ∙ sym q

@@ -5,6 +5,7 @@ use Rattle.settings_build.proofs.PlainSettings.of_parameters.Reads as of-parame
 use Rattle.settings_build.proofs.PlainSettings.early_refusal.Reads as early-refusal-reads
 use Rattle.settings_build.proofs.PlainSettings.first_refusal.Reads as first-refusal-reads
 use Rattle.settings_build.proofs.PlainSettings.build.Reads as build-reads
+use Rattle.settings_build.proofs.finish.Reads as finish-reads
 
 pub of-parameters : Determined of-parameters-reads.Post
 of-parameters κs a r₁ r₂ s₁ s₂ p q = p ∙ sym q
@@ -17,3 +18,6 @@ first-refusal κs a r₁ r₂ s₁ s₂ p q = p ∙ sym q
 
 pub build : Determined build-reads.Post
 build κs a r₁ r₂ s₁ s₂ p q = p ∙ sym q
+
+pub finish : Determined finish-reads.Post
+finish κs a r₁ r₂ s₁ s₂ p q = p ∙ sym q

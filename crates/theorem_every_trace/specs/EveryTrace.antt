@@ -1,6 +1,7 @@
 -- The theorems on every trace, over the definitions of trace. That the call answers and ends on every trace and buffer is its contract.
 use Prim.Native.Nat.{ℕ, _-_, _*_, _/_, _%_, _<_, _≤_}
 use mathlib.Core.Path.{_≡_, sym, ap, _∙_}
+use mathlib.Core.Logic.{inl, inr}
 use mathlib.Core.List.{List, [], _∷_, _++_}
 use native.Mathlib.Omega.{arith}
 use native.Mathlib.Nat.{le-refl}
@@ -96,11 +97,12 @@ each-entry-is-answered s (e ∷ es) room w h =
     (run-enough (length (e .bytes ++ laid es)) (length (laid es)) (entryOf s (e .kind) (e .bytes) .station) (laid es) (room - 8) (rw length-append (omega arith)) (le-refl (length (laid es)))
     ∙ each-entry-is-answered (entryOf s (e .kind) (e .bytes) .station) es (room - 8) (w .1) (omega (arith, h))))
 
--- a replay ends with a number below 256: at most 18 after a header that was taken, and else the header's refusal, at most 17
+-- a replay ends with a number below 256: at most 18 after a header that was taken, and else the header's refusal, at most 25
 replay-ending : (x : TraceStart) (trace : List ℕ) (room : ℕ) → Small x → replayOn x trace room .ending < 256
 unfolding replayOn ranOf
 replay-ending (Accepted s) trace room h = omega (arith, run-ends (length (drop 16 trace)) s (drop 16 trace) room .number)
-replay-ending (Refused n) trace room h = omega (arith, h)
+replay-ending (Refused n) trace room (inl h) = omega (arith, h)
+replay-ending (Refused n) trace room (inr h) = omega (arith, h)
 
 pub ending-below-256 : (trace : List ℕ) (room : ℕ) → replayOf trace room .ending < 256
 unfolding replayOf

@@ -3,7 +3,7 @@
 use Prim.Native.Nat.{ℕ, _+_, _-_, _*_, _<_, _≤_}
 use mathlib.Core.Path.{_≡_}
 use mathlib.Core.List.{List, [], _∷_, _++_}
-use mathlib.Core.Logic.{_↔_}
+use mathlib.Core.Logic.{_↔_, _⊎_}
 use lib.ListN.{length, take, drop}
 use Rattle.station.specs.declared.Station.{Station}
 use Rattle.trace.specs.Entries.{recordLength, entryOf}
@@ -75,10 +75,14 @@ pub record Answered (fresh : Station) (trace before : List ℕ) (returned : ℕ)
   -- the buffer holds the answers, each by the station's definition from the station before it, and then its old bytes
   pub buffer : left ≡ written (along fresh entries .answers) ++ drop (8 * length entries) before
 
--- What the call does with any trace and any buffer: the header is refused with a number up to 17, which is returned, and nothing is
+-- a number that a trace may be refused with before its first entry: one of document 01's table, up to 17, or document 02's 25
+abbrev pub HeaderNumber : ℕ → Type 0
+HeaderNumber n = (n ≤ 17) ⊎ (n ≡ 25)
+
+-- What the call does with any trace and any buffer: the header is refused with such a number, which is returned, and nothing is
 -- written; or it starts a station, and the entries after it are answered.
 pub data Replayed (trace before : List ℕ) (returned : ℕ) (left : List ℕ) : Type 0 where
-  refused : startOf trace ≡ Refused returned → returned ≤ 17 → left ≡ before → Replayed trace before returned left
+  refused : startOf trace ≡ Refused returned → HeaderNumber returned → left ≡ before → Replayed trace before returned left
   ran : (fresh : Station) → startOf trace ≡ Accepted fresh → Answered fresh trace before returned left → Replayed trace before returned left
 
 -- the theorem, over what the call's contract says that it returns and leaves

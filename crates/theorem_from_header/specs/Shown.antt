@@ -87,7 +87,7 @@ settings =
     }
 
 starts : startOf trace ≡ Accepted (freshStation settings 1)
-unfolding fieldOf beFrom loadOf headers.headerAt headers.headerOf headers.headerRefusal rules.refuseBelow rules.refuseOutside rules.addressRefusal rules.baudRefusal rules.slotBitsRefusal rules.hsaRefusal rules.rotationRefusal rules.gapWaitRefusal rules.retryRefusal rules.minTsdrRefusal rules.factorsRefusal rules.applicationsRefusal earlyRefusal firstRefusal pairOf builtAt buildOf baudOf settingsOf settingsAt startedWith startOf zerosOr14
+unfolding fieldOf beFrom loadOf headers.headerAt headers.headerOf headers.headerRefusal rules.refuseBelow rules.refuseOutside rules.addressRefusal rules.baudRefusal rules.slotBitsRefusal rules.hsaRefusal rules.rotationRefusal rules.roomRefusal rules.gapWaitRefusal rules.retryRefusal rules.minTsdrRefusal rules.factorsRefusal rules.applicationsRefusal earlyRefusal firstRefusal pairOf builtAt buildOf baudOf settingsOf settingsAt startedWith startOf zerosOr14
 starts = refl
 
 one-application : headers.headerOf trace .applications ≡ 1

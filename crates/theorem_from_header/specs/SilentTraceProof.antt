@@ -38,7 +38,7 @@ use Rattle.theorem_sound.specs.Keeps.{either}
 use Rattle.theorem_sound.specs.Sound.{SoundStation, poll, after, call-sound}
 use Rattle.theorem_sound.specs.Fits.{poll-fits}
 use Rattle.theorem_silence.specs.Silence.{Quiet, AllQuiet, holdsToken, until, told, sentUntil, tokens, Silence}
-use Rattle.theorem_silence.specs.Calls.{poll-settings}
+use Rattle.theorem_sound.specs.Unchanged.{poll-settings}
 use Rattle.theorem_every_trace.specs.Statement.{Entry, Whole, laid, along}
 use Rattle.theorem_every_trace.specs.Theorem.{along-length}
 use Rattle.theorem_every_trace.specs.EveryTrace.{each-entry-is-answered, longer-trace-begins-alike}

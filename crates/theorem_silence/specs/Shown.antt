@@ -12,7 +12,7 @@ use Rattle.codec_fields.specs.Fields.{fieldOf, zerosOr14, beFrom, loadOf}
 use Rattle.bit_times.specs.declared.Baud.the-variants.{B500000}
 use Rattle.bit_times.specs.Times.{baudOf, rounded, timeOf}
 use Rattle.settings.specs.declared.Parameters.{Parameters}
-use Rattle.settings.specs.Rules.{refuseBelow, refuseOutside, addressRefusal, baudRefusal, slotBitsRefusal, hsaRefusal, rotationRefusal, gapWaitRefusal, retryRefusal, minTsdrRefusal, factorsRefusal, applicationsRefusal}
+use Rattle.settings.specs.Rules.{refuseBelow, refuseOutside, addressRefusal, baudRefusal, slotBitsRefusal, hsaRefusal, rotationRefusal, roomRefusal, gapWaitRefusal, retryRefusal, minTsdrRefusal, factorsRefusal, applicationsRefusal}
 use Rattle.settings.specs.Settings.{defaultOf, slotTimeOf, tokenLostOf, rotationTimeOf}
 use Rattle.settings_build.specs.Build.{earlyRefusal, firstRefusal, plainOf}
 use Rattle.ring_addresses.specs.Set.{takeOut, walk, nearest, betweenOf, keeps, sameSet}
@@ -61,7 +61,7 @@ made-by : (p : Parameters) (cs : List Call) (s : Station) → firstRefusal (plai
 made-by p cs s e m = record { settings = p; applications = 1; accepted = e; number-accepted = one-accepted; calls = cs; makes = m }
 
 lowest-accepted : firstRefusal (plainOf lowest) ≡ 0
-unfolding firstRefusal earlyRefusal plainOf refuseBelow refuseOutside addressRefusal baudRefusal slotBitsRefusal hsaRefusal rotationRefusal gapWaitRefusal retryRefusal minTsdrRefusal factorsRefusal baudOf
+unfolding firstRefusal earlyRefusal plainOf refuseBelow refuseOutside addressRefusal baudRefusal slotBitsRefusal hsaRefusal rotationRefusal roomRefusal gapWaitRefusal retryRefusal minTsdrRefusal factorsRefusal baudOf
 lowest-accepted = refl
 
 -- 3k + 1 turns of such a station end well before the clock does
@@ -262,7 +262,7 @@ pub record LetterRun : Type 0 where
   pub sent : sentIn letterStation five ≡ Token 9 ∷ Token 9 ∷ Token 9 ∷ Token 5 ∷ Application 0 0 false 9 ∷ []
 
 here-accepted : firstRefusal (plainOf here) ≡ 0
-unfolding firstRefusal earlyRefusal plainOf refuseBelow refuseOutside addressRefusal baudRefusal slotBitsRefusal hsaRefusal rotationRefusal gapWaitRefusal retryRefusal minTsdrRefusal factorsRefusal baudOf
+unfolding firstRefusal earlyRefusal plainOf refuseBelow refuseOutside addressRefusal baudRefusal slotBitsRefusal hsaRefusal rotationRefusal roomRefusal gapWaitRefusal retryRefusal minTsdrRefusal factorsRefusal baudOf
 here-accepted = refl
 
 -- worked out from the definitions

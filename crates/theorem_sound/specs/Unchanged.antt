@@ -1,17 +1,20 @@
--- Refused means unchanged: a call whose answer carries a refusal leaves the station as it was.
+-- Refused means unchanged: a call whose answer carries a refusal leaves the station as it was. And no call changes the settings.
 use Prim.Native.Nat.{ℕ}
 use mathlib.Core.Path.{_≡_, refl, sym, _∙_}
 use mathlib.Core.Bool.{false}
-use mathlib.Core.List.{List}
+use mathlib.Core.List.{List, [], _∷_}
 use borrow.Author.Tests.{eqb-true}
 use borrow.Table.Steps.{cases}
 use lib.Dec.{eqb}
+use Rattle.settings.specs.declared.Parameters.{Parameters}
 use Rattle.codec_records.specs.Records.{recordRefusal}
 use Rattle.codec_answers.specs.Answers.{refusedAnswer}
 use Rattle.station.specs.declared.Station.{Station}
+use Rattle.station.specs.Parts.{freshStation}
 use Rattle.station_answer.specs.Answer.{stepAnswer, polledOf, refusedPoll}
 use Rattle.station_command.specs.Command.{onlineOf, offlineOf, passiveOf}
 use Rattle.station_poll.specs.Poll.{acceptedAfter, acceptedPoll, pollOf}
+use Rattle.theorem_sound.specs.Sound.{Call, poll, online, offline, passive, after, run}
 
 -- a refused entry has its number and leaves the station
 refused-station : (s : Station) (k : ℕ) → refusedPoll s k .station ≡ s
@@ -63,3 +66,25 @@ online-refusal s = refl
 pub offline-refusal : (s : Station) → offlineOf s .answer .refusal ≡ 0
 unfolding offlineOf polledOf stepAnswer
 offline-refusal s = refl
+
+-- no call changes the settings
+pub poll-settings : (s : Station) (bytes : List ℕ) → pollOf s bytes .station .p ≡ s .p
+unfolding pollOf acceptedPoll acceptedAfter polledOf refusedPoll
+poll-settings s bytes = cases (eqb (recordRefusal bytes (s .applications)) 0) (λ e. rw e) (λ e. rw e)
+
+after-settings : (s : Station) (c : Call) → after s c .p ≡ s .p
+unfolding after onlineOf offlineOf passiveOf polledOf refusedPoll
+after-settings s (poll bytes) = poll-settings s bytes
+after-settings s online = refl
+after-settings s offline = refl
+after-settings s passive = refl
+
+run-settings : (cs : List Call) (s : Station) → run s cs .p ≡ s .p
+unfolding run
+run-settings [] s = refl
+run-settings (c ∷ cs) s = run-settings cs (after s c) ∙ after-settings s c
+
+-- so a station that calls make has the settings that the new one was given
+pub made-settings : (p : Parameters) (n : ℕ) (cs : List Call) → run (freshStation p n) cs .p ≡ p
+unfolding freshStation
+made-settings p n cs = run-settings cs (freshStation p n)

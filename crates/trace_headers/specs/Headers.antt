@@ -3,7 +3,7 @@ use Prim.Native.Nat.{ℕ, _+_, _-_, _*_}
 use mathlib.Core.List.{List, [], _∷_, _++_}
 use mathlib.Core.Bool.{cond}
 use lib.ListN.{length, take, drop, getD}
-use lib.Dec.{eqb, leb, ltb}
+use lib.Dec.{eqb, ltb}
 use Rattle.codec_fields.specs.Fields.{zeroOr14, be, reads, pack, lowBytes}
 use Rattle.settings.specs.Rules.{factorsRefusal, applicationsRefusal, firstOf}
 use Rattle.settings_build.specs.Build.{earlyRefusal}
@@ -85,8 +85,8 @@ noHeader = plainHeader 0 0 0 0 0 0 0 0 0 0 0 0
 unfoldable pub headerOf : List ℕ → Header
 headerOf trace = cond (ltb (length trace) (headerLength trace)) noHeader (headerIn (editionOf trace) (take (headerLength trace) trace))
 
--- a header's first refusal, in document 01's order: 1, 10, 2, 3, 4, 5, 6, 7 (`earlyRefusal`), then 11, 8, 14; 17 comes
--- before (`startOf` of trace). It is the same for both editions; in edition 2 there is no 11
+-- a header's first refusal, in document 01's order with 25 directly after 4: 1, 10, 2, 3, 4, 25, 5, 6, 7 (`earlyRefusal`), then 11, 8,
+-- 14; 17 comes before (`startOf` of trace). It is the same for both editions; in edition 2 there is no 11
 unfoldable pub headerRefusal : Header → ℕ
 headerRefusal h =
     firstOf

@@ -6,9 +6,9 @@ use native.Mathlib.Omega.{arith}
 use borrow.Author.Tests.{eq-eqb, ne-eqb, lt-ltb, le-ltb}
 use lib.ListN.{length, getD}
 use lib.Dec.{lit≤}
-use Rattle.codec_fields.specs.Fields.{fieldOf, pack, lowBytes, total, Bytes}
-use Rattle.codec_fields.specs.Laws.{low-length}
-use Rattle.codec_slices.specs.Slices.{fieldAt, putFrom, fieldsFrom, Short}
+use Rattle.codec_fields.specs.Fields.{pack, lowBytes, total, Bytes}
+use Rattle.codec_fields.specs.Laws.{bytes-low, low-length}
+use Rattle.codec_slices.specs.Slices.{putFrom, fieldsFrom, Short}
 use Rattle.codec_slices.specs.Round.{fields-are, filled}
 use Rattle.trace_headers.specs.declared.Header.{Header}
 use Rattle.trace_headers.specs.declared.Edition.{Edition}
@@ -80,3 +80,8 @@ module _ (header out : List ℕ) where
       × (headerInto out (otherThan (editionOf header)) (headerOf header) ≡ moveInto header out)
   unfolding moveNumber moveInto moveRefusal
   move-done h l = let e = eq-eqb (lentRefusal header) 0 h in let f = le-ltb _ _ l in (simp (e, f), simp (e, f))
+
+-- a header's bytes are bytes
+pub written-bytes : (e : Edition) (h : Header) → Bytes (headerBytes e h)
+unfolding headerBytes
+written-bytes e h = bytes-low (lengthOf e) (pack (widthsOf e) (valuesIn e h))

@@ -185,7 +185,8 @@ pub fn read_header(trace: &[u8]) -> Header
     }
 }
 
-// A header's first refusal, in document 01's order: 1, 10, 2, 3, 4, 5, 6, 7, 11, 8, 14; 0 for none.
+// A header's first refusal, in document 01's order with 25 directly after 4: 1, 10, 2, 3, 4, 25, 5, 6, 7, 11, 8, 14; 0 for
+// none.
 pub fn header_refusal(header: Header) -> u8
     ensures { λ r. ⌜ r ≡ headerRefusal header ⌝ }
 {
