@@ -3,15 +3,15 @@
 use Prim.Native.Nat.{ℕ, _+_, _*_, _^_, _<_, _≤_}
 use mathlib.Core.Path.{_≡_, refl, sym, ap, ap₂, _∙_, subst}
 use mathlib.Core.List.{List, [], _∷_, _++_}
-use mathlib.Core.Bool.{Bool, true, false, cond}
 use native.Mathlib.Nat.{le-refl}
 use native.Mathlib.Omega.{arith}
-use borrow.Author.Tests.{le-leb, lt-leb, le-ltb, eqb-true}
+use borrow.Author.Tests.{le-leb, lt-leb, le-ltb, ltb-false, eqb-true}
 use borrow.Table.Steps.{cases}
 use lib.ListN.{length, take, drop, getD, length-append, take-append-drop}
 use lib.Seq.{length-take-le, take-at, drop-at, take-all, getD-take}
-use lib.Dec.{T, eqb, leb}
-use Rattle.codec_fields.specs.Fields.{Bytes}
+use lib.Dec.{eqb, ltb}
+use Rattle.codec_fields.specs.Fields.{fieldOf, beFrom, Bytes}
+use Rattle.codec_fields.specs.Laws.{never}
 use Rattle.codec_fields.specs.Stores.{bytes-take}
 use Rattle.settings.specs.declared.Parameters.{Parameters}
 use Rattle.settings.specs.declared.Created.{Created}
@@ -20,9 +20,10 @@ use Rattle.station.specs.declared.Station.{Station}
 use Rattle.trace_headers.specs.declared.Header.{Header}
 use Rattle.trace_headers.specs.declared.Edition.{Edition}
 use Rattle.trace_headers.specs.declared.Edition.the-variants.{First, Second}
-use Rattle.trace_headers.specs.Headers.{secondMark, editionOf, otherThan, lengthOf, headerLength, headerIn, headerOf, headerRefusal}
+use Rattle.trace_headers.specs.Headers.{editionOf, otherThan, lengthOf, headerLength, headerIn, headerOf, headerRefusal, headerBytes, headerInto, lentRefusal, otherLength, moveNumber, moveInto}
+use Rattle.trace_headers.specs.Laws.{move-done}
 use Rattle.trace_headers.specs.Moves.{AcceptedHeader, moved, Moves, header-moves}
-use Rattle.trace.specs.Trace.{settingsOf, hasHeader, settingsAt, longestTrace, TraceStart, Accepted, Refused, startedWith, startOf, Replay, ranOf, replayOn, replayOf}
+use Rattle.trace.specs.Trace.{settingsOf, settingsAt, longestTrace, TraceStart, Accepted, Refused, startedWith, startOf, ranOf, replayOn, replayOf}
 use Rattle.trace.specs.Laws.{start-long, start-refused}
 
 -- What is said.
@@ -134,14 +135,53 @@ start-none h n s e = go (settingsOf h) refl
     go (created.Accepted p) f = settings-none h p f
     go (created.Refused k) f = not-started k (rw f at e)
 
+-- The header that a list begins with, where it has one.
+module _ (trace : List ℕ) (room : headerLength trace ≤ length trace) where
+  own-length : length (take (headerLength trace) trace) ≡ headerLength trace
+  own-length = length-take-le (headerLength trace) trace room
+
+  own-edition : editionOf (take (headerLength trace) trace) ≡ editionOf trace
+  own-edition = same-edition (take (headerLength trace) trace) trace (getD-take (headerLength trace) trace 0 0 (some-byte (editionOf trace)))
+
+  own-whole : length (take (headerLength trace) trace) ≡ headerLength (take (headerLength trace) trace)
+  own-whole = own-length ∙ ap lengthOf (sym own-edition)
+
+  own-header : headerOf trace ≡ headerOf (take (headerLength trace) trace)
+  own-header = ap headerOf (sym (take-append-drop (headerLength trace) trace)) ∙ header-of (take (headerLength trace) trace) (drop (headerLength trace) trace) own-whole
+
+-- a lent header that is taken is there
+lent-there : (lent : List ℕ) → lentRefusal lent ≡ 0 → headerLength lent ≤ length lent
+unfolding lentRefusal
+lent-there lent e = cases (ltb (length lent) (headerLength lent)) (λ t. never 16 (rw t at e)) (λ t. ltb-false (length lent) (headerLength lent) t)
+
+-- what the call for hosts returns and leaves, where the lent header is not refused and has room: the bytes of the other edition, and the
+-- header moved there; what stands behind the header in the lent slice changes nothing
+pub other-edition-writes :
+    (lent out : List ℕ)
+    → lentRefusal lent ≡ 0
+    → otherLength lent ≤ length out
+    → (moveNumber lent (length out) ≡ otherLength lent * 256) × (moveInto lent out ≡ moved (take (headerLength lent) lent) ++ drop (otherLength lent) out)
+unfolding headerInto
+other-edition-writes lent out none room =
+    let done = move-done lent out none room in
+    let here = lent-there lent none in
+    let into : headerInto out (otherThan (editionOf lent)) (headerOf lent) ≡ headerBytes (otherThan (editionOf lent)) (headerOf lent) ++ drop (otherLength lent) out =
+    rw (le-ltb (length out) (otherLength lent) room) in (
+      sym (done .0),
+      sym (done .1)
+          ∙ into
+          ∙ ap (λ (x : Edition). headerBytes (otherThan x) (headerOf lent) ++ drop (otherLength lent) out) (sym (own-edition lent here))
+          ∙ ap (λ (h : Header). headerBytes (otherThan (editionOf (take (headerLength lent) lent))) h ++ drop (otherLength lent) out) (own-header lent here),
+    )
+
 -- the theorem
 pub moves-alike : MovesAlike
 moves-alike trace fresh bytes e =
     record {
-      to-the-other = edition-of (moved header) entries whole-moved ∙ moves .to-the-other ∙ ap otherThan own-edition;
+      to-the-other = edition-of (moved header) entries whole-moved ∙ moves .to-the-other ∙ ap otherThan edition-is;
       as-long =
           ap (λ (n : ℕ). n + headerLength trace) (length-append (moved header) entries)
-          ∙ ap (λ (n : ℕ). n + length entries + headerLength trace) (whole-moved ∙ ap lengthOf (moves .to-the-other ∙ ap otherThan own-edition))
+          ∙ ap (λ (n : ℕ). n + length entries + headerLength trace) (whole-moved ∙ ap lengthOf (moves .to-the-other ∙ ap otherThan edition-is))
           ∙ swapped (lengthOf (otherThan (editionOf trace))) (length entries) (headerLength trace)
           ∙ ap (λ (n : ℕ). n + lengthOf (otherThan (editionOf trace))) (sym long);
       says-the-same = same-header;
@@ -166,17 +206,11 @@ moves-alike trace fresh bytes e =
     room : (headerLength trace ≤ length trace) × (length trace ≤ 2 ^ 32)
     room = start-long trace fresh e
 
-    own-length : length header ≡ headerLength trace
-    own-length = length-take-le (headerLength trace) trace (room .0)
-
-    own-edition : editionOf header ≡ editionOf trace
-    own-edition = same-edition header trace (getD-take (headerLength trace) trace 0 0 (some-byte (editionOf trace)))
-
     whole : length header ≡ headerLength header
-    whole = own-length ∙ ap lengthOf (sym own-edition)
+    whole = own-whole trace (room .0)
 
-    own-header : headerOf trace ≡ headerOf header
-    own-header = ap headerOf (sym parts) ∙ header-of header entries whole
+    edition-is : editionOf header ≡ editionOf trace
+    edition-is = own-edition trace (room .0)
 
     own-start : startOf trace ≡ startedWith (settingsOf (headerOf header)) (headerOf header .applications)
     own-start = ap startOf (sym parts) ∙ starts header entries whole (subst (λ (l : List ℕ). length l ≤ 2 ^ 32) (sym parts) (room .1))
@@ -196,7 +230,7 @@ moves-alike trace fresh bytes e =
     whole-moved = moves .is-accepted .whole
 
     same-header : headerOf (movedTrace trace) ≡ headerOf trace
-    same-header = header-of (moved header) entries whole-moved ∙ moves .says-the-same ∙ sym own-header
+    same-header = header-of (moved header) entries whole-moved ∙ moves .says-the-same ∙ sym (own-header trace (room .0))
 
     same : length (movedTrace trace) ≤ longestTrace → startOf (movedTrace trace) ≡ startOf trace
     same l =
@@ -205,7 +239,21 @@ moves-alike trace fresh bytes e =
         ∙ sym own-start
 
     long : length trace ≡ headerLength trace + length entries
-    long = ap length (sym parts) ∙ length-append header entries ∙ ap (λ (n : ℕ). n + length entries) own-length
+    long = ap length (sym parts) ∙ length-append header entries ∙ ap (λ (n : ℕ). n + length entries) (own-length trace (room .0))
 
     swapped : (a b c : ℕ) → a + b + c ≡ c + b + a
     swapped a b c = omega arith
+
+-- The header of document 01's example 12 in both editions, byte by byte.
+
+-- 050600c800007eb40a7e010b01000000
+abbrev pub exampleFirst : List ℕ
+exampleFirst = 5 ∷ 6 ∷ 0 ∷ 200 ∷ 0 ∷ 0 ∷ 126 ∷ 180 ∷ 10 ∷ 126 ∷ 1 ∷ 11 ∷ 1 ∷ 0 ∷ 0 ∷ 0 ∷ []
+
+-- 820ac0190007eb415f842c000000
+abbrev pub exampleSecond : List ℕ
+exampleSecond = 130 ∷ 10 ∷ 192 ∷ 25 ∷ 0 ∷ 7 ∷ 235 ∷ 65 ∷ 95 ∷ 132 ∷ 44 ∷ 0 ∷ 0 ∷ 0 ∷ []
+
+pub example-moves : (moved exampleFirst ≡ exampleSecond) × (moved exampleSecond ≡ exampleFirst)
+unfolding editionOf otherThan lengthOf headerOf headerIn headerBytes fieldOf beFrom
+example-moves = (refl, refl)

@@ -1,7 +1,6 @@
 -- Document 01's examples 1 to 12 hold, all under one theorem: each row by computing the definitions. Assumes nothing.
 use mathlib.Core.Bool.{true}
 use mathlib.Core.Path.{_≡_, refl, ap, _∙_}
-use mathlib.Core.List.{List}
 use lib.Dec.{eqb}
 use borrow.Author.Tests.{eqb-true}
 use Rattle.bit_times.specs.Times.{baudOf, rounded, timeOf}

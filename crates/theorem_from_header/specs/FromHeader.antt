@@ -1,15 +1,14 @@
 -- From a header to the theorems: the station that a trace's header starts is what `new` gives for settings that `build` made of the
 -- header's fields, and the station after any entries is one that calls make. So what the theorems say of such stations holds inside
 -- every trace.
-use Prim.Native.Nat.{ℕ, _^_}
+use Prim.Native.Nat.{ℕ}
 use mathlib.Core.Path.{_≡_, refl, sym, ap, _∙_, subst}
-use mathlib.Core.Bool.{Bool, true, false, cond, _&&_}
+use mathlib.Core.Bool.{Bool, true, false, cond}
 use mathlib.Core.List.{List, [], _∷_}
 use native.Mathlib.Omega.{arith}
 use borrow.Author.Tests.{eqb-true}
 use borrow.Table.Steps.{cases}
-use lib.ListN.{length}
-use lib.Dec.{eqb, leb}
+use lib.Dec.{eqb}
 use Rattle.settings.specs.declared.Parameters.{Parameters}
 use Rattle.settings.specs.declared.Created.{Created}
 use Rattle.settings.specs.declared.Created.the-variants as created

@@ -2,16 +2,15 @@
 use Prim.Native.Nat.{ℕ, zero, suc, _+_, _-_, _*_, _^_, _<_, _≤_}
 use mathlib.Core.Path.{_≡_, refl, sym, ap, _∙_, subst}
 use mathlib.Core.List.{List, [], _∷_, _++_, append-nil, append-assoc}
-use mathlib.Core.Bool.{Bool, true, false, cond, _&&_}
+use mathlib.Core.Bool.{Bool, true, false, cond}
 use native.Mathlib.Omega.{arith}
 use native.Mathlib.Numerals.{add-one}
 use native.Mathlib.Nat.{add-zero, le-refl, sub-zero, zero-add}
 use borrow.Author.Tests.{lt-ltb, le-ltb, leb-true}
 use borrow.Rule.Slice.PartMut.{putMid}
-use borrow.Table.Steps.{cases}
 use lib.ListN.{length, getD, take, drop, take-append-drop, length-drop, length-append, length-take, drop-of-length-le}
-use lib.Seq.{length-take-le, take-all, drop-drop, drop-cons, paste, length-paste, take-paste, drop-paste}
-use lib.Dec.{T, leb, lit≤}
+use lib.Seq.{take-all, drop-drop, drop-cons, paste, length-paste, take-paste, drop-paste}
+use lib.Dec.{T, lit≤}
 use Rattle.bit_times.specs.Laws.{and-true}
 use Rattle.codec_fields.specs.Fields.{bytesOf, storedOf}
 use Rattle.codec_fields.specs.Stores.{stored-room}
@@ -24,7 +23,7 @@ use Rattle.station.specs.declared.Station.{Station}
 use Rattle.station.specs.declared.Started.{Started}
 use Rattle.station.specs.Parts.{freshStation, newStation}
 use Rattle.station_answer.specs.declared.Polled.{Polled}
-use Rattle.trace.specs.Trace.{settingsOf, settingsAt, TraceStart, Accepted, Refused, startedWith, startOf, Run, ended, answered, runFrom, runOf, came, ranOf, replayOn, replayOf, numberOf, written, bufferOf}
+use Rattle.trace.specs.Trace.{settingsOf, settingsAt, TraceStart, Accepted, Refused, startedWith, startOf, Run, ended, answered, runFrom, runOf, ranOf, replayOn, replayOf, numberOf, written, bufferOf}
 use Rattle.trace.specs.Entries.{recordLength, entryOf}
 use Rattle.trace_headers.specs.declared.Header.{Header}
 use Rattle.trace_headers.specs.Headers.{headerLength, headerOf}
