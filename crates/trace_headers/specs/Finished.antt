@@ -6,7 +6,7 @@ use Rattle.bit_times.specs.Times.{baudOf}
 use Rattle.codec_fields.specs.Fields.{zerosOr14, fieldOf, beFrom, loadOf}
 use Rattle.settings.specs.declared.Parameters.{Parameters}
 use Rattle.settings.specs.declared.Changed.the-variants as changed
-use Rattle.settings.specs.Rules.{refuseBelow, refuseOutside, addressRefusal, baudRefusal, slotBitsRefusal, hsaRefusal, rotationRefusal, roomRefusal, gapWaitRefusal, retryRefusal, minTsdrRefusal, factorsRefusal, applicationsRefusal}
+use Rattle.settings.specs.Rules.{refuseBelow, refuseOutside, addressRefusal, baudRefusal, slotBitsRefusal, hsaRefusal, rotationRefusal, roomRefusal, factorsRefusal, applicationsRefusal}
 use Rattle.settings.specs.RuleLaws.{none-refuses}
 use Rattle.settings_build.specs.Build.{earlyRefusal, firstRefusal, plainOf, finishOf}
 use Rattle.settings_build.specs.Finish.{site, finished-passes}
