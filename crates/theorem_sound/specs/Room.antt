@@ -1,13 +1,13 @@
 -- What rule 25 buys: in accepted settings the end of hold is never before the token time that it is counted from, a gap question due or
 -- not. And what settings without that room came to: with those of document 02's site the hold ended before that time.
-use Prim.Native.Nat.{ℕ, _+_, _-_, _≤_, _<_}
-use mathlib.Core.Path.{_≡_, refl, subst}
+use Prim.Native.Nat.{ℕ, _+_, _-_, _≤_}
+use mathlib.Core.Path.{_≡_, subst}
 use mathlib.Core.List.{List}
 use mathlib.Core.Logic.{_⊎_, inl, inr}
 use native.Mathlib.Omega.{arith}
 use Rattle.bit_times.specs.declared.Micros.{Micros}
 use Rattle.bit_times.specs.Times.{rounded, timeOf}
-use Rattle.bit_times.specs.Laws.{time-bound, time-grows}
+use Rattle.bit_times.specs.Laws.{time-grows}
 use Rattle.settings.specs.declared.Parameters.{Parameters}
 use Rattle.settings.specs.Rules.{applicationsRefusal}
 use Rattle.settings.specs.Settings.{rotationTimeOf}
@@ -16,7 +16,6 @@ use Rattle.settings_build.specs.Passes.{address-low, rotation-top, rotation-roo
 use Rattle.settings_build.specs.Finish.{site}
 use Rattle.ring.specs.declared.GapState.{GapState}
 use Rattle.ring.specs.declared.GapState.the-variants.{Waiting, DoPoll}
-use Rattle.station.specs.declared.Core.{Core}
 use Rattle.station.specs.declared.Station.{Station}
 use Rattle.station.specs.Parts.{freshStation}
 use Rattle.station_hold.specs.Hold.{holdLess, endOf}
