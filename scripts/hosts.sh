@@ -23,7 +23,8 @@ test_c() {
     faults=$(grep -c '^    case [0-9]' hosts/c/faulty.c) || fail "hosts/c/faulty.c has no faults"
     for fault in $(seq "$faults"); do
         "${compile[@]}" -DFAULT="$fault" -c hosts/c/faulty.c -o "$built/faulty.o" || fail "hosts/c/faulty.c does not build"
-        c_host "$built/test-faulty" -Damsulfezd_replay_trace=faulty_replay_trace hosts/c/test.c "$built/faulty.o"
+        c_host "$built/test-faulty" -Damsulfezd_replay_trace=faulty_replay_trace -Damsulfezd_other_edition=faulty_other_edition \
+            hosts/c/test.c "$built/faulty.o"
         ! "${emulator[@]}" "$built/test-faulty" >/dev/null 2>&1 || fail "the C host's test does not find planted fault $fault"
     done
     echo "C host: its test finds each of $faults planted faults"

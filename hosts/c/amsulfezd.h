@@ -1,15 +1,18 @@
 /*
  * Amsulfezd: a proved PROFIBUS FDL active station, for C (C99 and later) and C++ (C++11 and later).
  *
- * A trace is a header of 16 bytes and then entries: commands and poll records. The proved call
- * amsulfezd_replay_trace runs a trace and writes an answer of 8 bytes for each entry. In this file, in this order:
+ * A trace is a header and then entries: commands and poll records. A header has 16 bytes (edition 1), or 14 that begin
+ * with 82h (edition 2, for slow lines). The proved call amsulfezd_replay_trace runs a trace and writes an answer of 8
+ * bytes for each entry; amsulfezd_other_edition moves a header to the other edition. In this file, in this order:
  *
  *   the numbers in traces and answers      enum amsulfezd_..
- *   the call                               amsulfezd_replay_trace, amsulfezd_entries, amsulfezd_ending
+ *   the calls                              amsulfezd_replay_trace, amsulfezd_entries, amsulfezd_ending;
+ *                                          amsulfezd_other_edition, amsulfezd_written, amsulfezd_number
  *   readers of an answer                   amsulfezd_answer, amsulfezd_answer_..
- *   writers of a trace                     amsulfezd_write_header, amsulfezd_write_command, amsulfezd_write_poll
+ *   writers of a trace                     amsulfezd_write_header, amsulfezd_write_header_2, amsulfezd_write_command,
+ *                                          amsulfezd_write_poll
  *
- * example.c uses all four. The field widths are document 01's, "Station" and "Trace".
+ * example.c uses all four. The field widths are document 01's, "Station" and "Trace", and document 02's, P9.
  *
  * Linking. `rt staticlib amsulfezd` proves the library and writes target/staticlib/libamsulfezd.a. From the
  * repository's root:
@@ -22,11 +25,12 @@
  * defined this file has them and not the call.
  *
  * Stack. A call uses at most AMSULFEZD_STACK_BYTES of the caller's stack, its return address included, whatever the
- * trace's length. Measured: 2,153 bytes, with the library of the toolchain rattle-kit-5b. The method: the call runs on
+ * trace's length. Measured: 1,554 bytes, with the library of the toolchain rattle-kit-5b. The method: the call runs on
  * a stack of its own that was filled with a pattern, and the deepest byte that changed is looked for, over all traces
- * of traces/, one of 100,000 entries and 1,000 traces made at random, which reach every state and every kind of send.
- * hosts/c/stack.c does this and is part of the tests, so that a library that uses more than AMSULFEZD_STACK_BYTES is
- * found. The library's code has no recursion, takes no stack by a computed length and calls nothing outside itself.
+ * of traces/, one of 100,000 entries and 1,000 traces made at random, which reach every state and every kind of send;
+ * each is replayed, and its header moved to the other edition. hosts/c/stack.c does this and is part of the tests, so
+ * that a library that uses more than AMSULFEZD_STACK_BYTES is found. The library's code has no recursion, takes no stack
+ * by a computed length and calls nothing outside itself.
  */
 #ifndef AMSULFEZD_H
 #define AMSULFEZD_H
@@ -44,9 +48,13 @@ extern "C" {
 
 /* ---- The numbers in traces and answers --------------------------------------------------------------------------- */
 
-/* The length of a trace's header and of an answer, in bytes. */
+/* The length of a header of edition 1, of one of edition 2, and of an answer, in bytes. */
 #define AMSULFEZD_HEADER_LENGTH 16
+#define AMSULFEZD_HEADER_LENGTH_2 14
 #define AMSULFEZD_ANSWER_LENGTH 8
+
+/* The first byte of a header of edition 2. Any other begins a header of edition 1, where it is the address. */
+#define AMSULFEZD_EDITION_2 0x82
 
 /* The longest entry, in bytes: a byte with the record's length, and the record. */
 #define AMSULFEZD_ENTRY_LENGTH 256
@@ -146,17 +154,17 @@ enum amsulfezd_telegram_kind {
     AMSULFEZD_TELEGRAM_RESPONSE = 3
 };
 
-/* ---- The call ---------------------------------------------------------------------------------------------------- */
+/* ---- The calls --------------------------------------------------------------------------------------------------- */
 
 #ifndef AMSULFEZD_WITHOUT_CALL
 /*
  * Runs a trace from a fresh station and writes an answer for each entry.
  *
- * trace, trace_len      The trace: a header of 16 bytes, then entries. It is read only. A trace above 2^32 bytes is
- *                       refused with 17.
+ * trace, trace_len      The trace: a header of either edition, then entries. It is read only. A trace above 2^32 bytes
+ *                       is refused with 17.
  * answers, answers_len  Where the answers go: the answer to the entry with index i, counted from 0, into the 8 bytes
- *                       from 8 * i on, most significant byte first. A trace of n bytes, n at least 16, has at most
- *                       n - 16 entries, so 8 * (n - 16) bytes are always enough.
+ *                       from 8 * i on, most significant byte first. A trace of n bytes, n at least 14, has at most
+ *                       n - 14 entries, so 8 * (n - 14) bytes are always enough.
  *
  * Returns the number of entries answered, times 256, plus the ending number: 0 if the trace was read to its end, 17
  * if it ends inside its header or an entry or is above 2^32 bytes, 18 if there was no room for an answer, or the number
@@ -178,6 +186,25 @@ enum amsulfezd_telegram_kind {
  * It always returns; its time grows with the number of entries.
  */
 uint64_t amsulfezd_replay_trace(const uint8_t *trace, size_t trace_len, uint8_t *answers, size_t answers_len);
+
+/*
+ * Moves a header to the other edition: one of 16 bytes to 14, one of 14 that begins with 82h to 16. An accepted header
+ * moves there and back to the same bytes, and a trace whose header moved has the same answers.
+ *
+ * header, header_len  The header. Bytes behind it are not looked at, so that a whole trace may be lent. It is read only.
+ * out, out_len        Where the other header goes: its 14 or 16 bytes to the start of `out`.
+ *
+ * Returns the number of bytes written, times 256, plus the refusal number, 0 if nothing was refused. Take it apart with
+ * amsulfezd_written and amsulfezd_number. Refused, in this order: 17 where header_len is less than the length of a header
+ * of its edition (82h first: 14, anything else: 16); the number that a trace with this header ends with (1 to 8, 10, 11,
+ * 14, 25); 18 where `out` has no room for the other header.
+ *
+ * Which bytes change: exactly those of the header that is written. All others of `out` keep their value, and all do where
+ * something is refused.
+ *
+ * What the caller must ensure, ownership and threads: as for amsulfezd_replay_trace. It always returns.
+ */
+uint64_t amsulfezd_other_edition(const uint8_t *header, size_t header_len, uint8_t *out, size_t out_len);
 #endif
 
 /* The number of entries answered, of what amsulfezd_replay_trace returned. */
@@ -190,6 +217,24 @@ static inline uint64_t amsulfezd_entries(uint64_t returned)
 static inline unsigned amsulfezd_ending(uint64_t returned)
 {
     return (unsigned)(returned % 256);
+}
+
+/* The number of bytes written, of what amsulfezd_other_edition returned. */
+static inline uint64_t amsulfezd_written(uint64_t returned)
+{
+    return returned / 256;
+}
+
+/* The refusal number, of what amsulfezd_other_edition returned: see enum amsulfezd_refusal. */
+static inline unsigned amsulfezd_number(uint64_t returned)
+{
+    return (unsigned)(returned % 256);
+}
+
+/* The length of the header that these bytes begin with, by their first byte. They may be fewer. */
+static inline size_t amsulfezd_header_length(const uint8_t *trace, size_t trace_len)
+{
+    return trace_len != 0 && trace[0] == AMSULFEZD_EDITION_2 ? AMSULFEZD_HEADER_LENGTH_2 : AMSULFEZD_HEADER_LENGTH;
 }
 
 /* ---- Readers of an answer ---------------------------------------------------------------------------------------- */
@@ -427,7 +472,7 @@ static inline struct amsulfezd_header amsulfezd_new_header(uint8_t address, uint
     return header;
 }
 
-/* Writes a header: AMSULFEZD_HEADER_LENGTH bytes. */
+/* Writes a header of edition 1: AMSULFEZD_HEADER_LENGTH bytes. */
 static inline size_t amsulfezd_write_header(uint8_t *to, size_t room, const struct amsulfezd_header *header)
 {
     if (room < AMSULFEZD_HEADER_LENGTH) {
@@ -446,6 +491,50 @@ static inline size_t amsulfezd_write_header(uint8_t *to, size_t room, const stru
     to = amsulfezd_store(to, 1, header->factor_2);
     amsulfezd_store(to, 1, 0);
     return AMSULFEZD_HEADER_LENGTH;
+}
+
+/*
+ * For amsulfezd_write_header_2: puts the lowest `width` bits of the value behind the first `at` bits, and returns how many
+ * bits there are then. Eight bits put into a byte push out what stood there.
+ */
+static inline unsigned amsulfezd_put(uint8_t *to, unsigned at, unsigned width, uint64_t value)
+{
+    while (width != 0) {
+        width--;
+        to[at / 8] = (uint8_t)(2 * to[at / 8] + (value >> width & 1));
+        at++;
+    }
+    return at;
+}
+
+/*
+ * Writes a header of edition 2: AMSULFEZD_HEADER_LENGTH_2 bytes. Every header that the call accepts fits; one with more
+ * than 127, 15, 2^25 - 1, 127, 127, 15 as address, baud code, rotation, gap wait, HSA, retry, or without 1 to 8
+ * applications, does not.
+ */
+static inline size_t amsulfezd_write_header_2(uint8_t *to, size_t room, const struct amsulfezd_header *header)
+{
+    unsigned at = 0;
+    if (room < AMSULFEZD_HEADER_LENGTH_2 || !amsulfezd_fits(header->address, 7) || !amsulfezd_fits(header->baud, 4) ||
+        !amsulfezd_fits(header->rotation_bits, 25) || !amsulfezd_fits(header->gap_wait, 7) ||
+        !amsulfezd_fits(header->hsa, 7) || !amsulfezd_fits(header->retry, 4) || header->applications == 0 ||
+        !amsulfezd_fits(header->applications - 1u, 3)) {
+        return 0;
+    }
+    at = amsulfezd_put(to, at, 8, AMSULFEZD_EDITION_2);
+    at = amsulfezd_put(to, at, 7, header->address);
+    at = amsulfezd_put(to, at, 4, header->baud);
+    at = amsulfezd_put(to, at, 16, header->slot_bits);
+    at = amsulfezd_put(to, at, 25, header->rotation_bits);
+    at = amsulfezd_put(to, at, 7, header->gap_wait);
+    at = amsulfezd_put(to, at, 7, header->hsa);
+    at = amsulfezd_put(to, at, 4, header->retry);
+    at = amsulfezd_put(to, at, 8, header->min_tsdr);
+    at = amsulfezd_put(to, at, 3, header->applications - 1u);
+    at = amsulfezd_put(to, at, 8, header->factor_1);
+    at = amsulfezd_put(to, at, 8, header->factor_2);
+    amsulfezd_put(to, at, 7, 0);
+    return AMSULFEZD_HEADER_LENGTH_2;
 }
 
 /* Writes a command, enum amsulfezd_command: 1 byte. */

@@ -1,10 +1,12 @@
 /*
- * That the C test can fail: the proved call with one planted fault, chosen by the number FAULT. hosts.sh builds the test
- * with `-Damsulfezd_replay_trace=faulty_replay_trace` for each fault and expects it to be found.
+ * That the C test can fail: the proved calls with one planted fault, chosen by the number FAULT. hosts.sh builds the test
+ * with `-Damsulfezd_replay_trace=faulty_replay_trace -Damsulfezd_other_edition=faulty_other_edition` for each fault and
+ * expects it to be found.
  */
 #include "amsulfezd.h"
 
 uint64_t faulty_replay_trace(const uint8_t *trace, size_t trace_len, uint8_t *answers, size_t answers_len);
+uint64_t faulty_other_edition(const uint8_t *header, size_t header_len, uint8_t *out, size_t out_len);
 
 uint64_t faulty_replay_trace(const uint8_t *trace, size_t trace_len, uint8_t *answers, size_t answers_len)
 {
@@ -44,6 +46,52 @@ uint64_t faulty_replay_trace(const uint8_t *trace, size_t trace_len, uint8_t *an
             written[0] = 0;
         }
         break;
+    }
+    return returned;
+}
+
+uint64_t faulty_other_edition(const uint8_t *header, size_t header_len, uint8_t *out, size_t out_len)
+{
+    volatile uint8_t *changed = out;
+    uint64_t returned = amsulfezd_other_edition(header, header_len, out, out_len);
+    size_t written = (size_t)amsulfezd_written(returned);
+    switch (FAULT) {
+    case 10: /* a byte past the header, inside the buffer */
+        if (written != 0 && written < out_len) {
+            changed[written] ^= 1;
+        }
+        break;
+    case 11: /* the byte after the buffer */
+        changed[out_len] ^= 1;
+        break;
+    case 12: /* the byte before the buffer */
+        changed[-1] ^= 1;
+        break;
+    case 13: /* the byte after what was lent is read */
+        return returned + 0 * *(volatile const uint8_t *)(header + header_len);
+    case 14: /* what was lent is written to */
+        if (header_len != 0) {
+            *(volatile uint8_t *)(uintptr_t)header ^= 1;
+        }
+        break;
+    case 15: /* a bit of the header is wrong */
+        if (written != 0) {
+            changed[written - 1] ^= 0x40;
+        }
+        break;
+    case 16: /* one byte more than was written */
+        return written != 0 ? returned + 256 : returned;
+    case 17: /* no room is said where the header is refused */
+        return amsulfezd_number(returned) != 0 && out_len < 14 ? (unsigned)AMSULFEZD_REFUSAL_NO_ROOM : returned;
+    case 18: /* a refused header writes */
+        if (written == 0 && out_len != 0) {
+            changed[0] = AMSULFEZD_EDITION_2;
+        }
+        break;
+    case 19: /* a header of edition 2 is asked for 16 bytes */
+        return header_len == 14 && header[0] == AMSULFEZD_EDITION_2 ? (unsigned)AMSULFEZD_REFUSAL_CUT : returned;
+    case 20: /* with bytes behind the header nothing is moved */
+        return header_len > 16 ? (unsigned)AMSULFEZD_REFUSAL_CUT : returned;
     }
     return returned;
 }

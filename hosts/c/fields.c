@@ -1,6 +1,6 @@
 /*
- * Tests the readers and writers of amsulfezd.h against bytes that are stated here by hand, from document 01: its
- * example 12 and the trace and answers of docs/QUALIFICATION.md, part 5. It calls nothing of the library, and it is C99
+ * Tests the readers and writers of amsulfezd.h against bytes that are stated here by hand, from document 01, its
+ * example 12 and the trace and answers of docs/QUALIFICATION.md, part 5, and from document 02, P9. It calls nothing of the library, and it is C99
  * and C++11 at once, so that it shows that the header is both. hosts.sh plants faults in the header, each of which it
  * must find.
  *
@@ -244,6 +244,99 @@ static void test_header(void)
     wrote(amsulfezd_write_header(to, 17, &header), "7d 0a 1234 56789abc 64 7e 0f 0b 08 f1 f2 00", "each field");
 }
 
+/* A header that does not fit into edition 2. */
+static void refuses_header_2(const struct amsulfezd_header *header, const char *name)
+{
+    fill();
+    wrote(amsulfezd_write_header_2(to, 20, header), "", name);
+}
+
+/* Edition 2: the fields' bits one after the other, as document 02 lists them, and the same bits as bytes. */
+static void test_header_2(void)
+{
+    static const struct {
+        const char *bits, *digits, *name;
+    } second[] = {
+        /* 82h, 5, 6, 200, 32,436, 10, 126, 1, 11, 1 - 1, 0 and 0, zero */
+        {"10000010 0000101 0110 0000000011001000 0000000000111111010110100 0001010 1111110 0001 00001011 000 "
+         "00000000 00000000 0000000",
+         "82 0a c0 19 00 07 eb 41 5f 84 2c 00 00 00", "example 12's header in edition 2"},
+        /* 82h, 125, 10, 1,000, 16,777,960, 100, 126, 15, 255, 8 - 1, 255 and 255, zero */
+        {"10000010 1111101 1010 0000001111101000 1000000000000001011101000 1100100 1111110 1111 11111111 111 "
+         "11111111 11111111 0000000",
+         "82 fb 40 7d 10 00 2e 8c 9f bf ff ff ff 80", "the limits in edition 2"},
+        /* 82h, 2, 0, 65,535, 65,636, 1, 3, 5, 60, 4 - 1, 4 and 250, zero */
+        {"10000010 0000010 0000 1111111111111111 0000000010000000001100100 0000001 0000011 0101 00111100 011 "
+         "00000100 11111010 0000000",
+         "82 04 1f ff e0 10 06 40 20 d4 f1 82 7d 00", "no two fields alike in edition 2"},
+        /* 82h and the largest values that fit: 127, 15, 65,535, 2^25 - 1, 127, 127, 15, 255, 8 - 1, 255 and 255, zero */
+        {"10000010 1111111 1111 1111111111111111 1111111111111111111111111 1111111 1111111 1111 11111111 111 "
+         "11111111 11111111 0000000",
+         "82 ff ff ff ff ff ff ff ff ff ff ff ff 80", "the largest values that fit into edition 2"},
+    };
+    struct amsulfezd_header headers[4], header;
+    uint8_t packed[AMSULFEZD_HEADER_LENGTH_2], bytes[AMSULFEZD_HEADER_LENGTH_2];
+    size_t i, room;
+    headers[0] = amsulfezd_new_header(5, 6, 1);
+    headers[1] = amsulfezd_new_header(125, 10, 8);
+    headers[1].slot_bits = 1000;
+    headers[1].rotation_bits = 16777960;
+    headers[1].gap_wait = 100;
+    headers[1].retry = 15;
+    headers[1].min_tsdr = headers[1].factor_1 = headers[1].factor_2 = 255;
+    headers[2] = amsulfezd_new_header(2, 0, 4);
+    headers[2].slot_bits = 65535;
+    headers[2].rotation_bits = 65636;
+    headers[2].gap_wait = 1;
+    headers[2].hsa = 3;
+    headers[2].retry = 5;
+    headers[2].min_tsdr = 60;
+    headers[2].factor_1 = 4;
+    headers[2].factor_2 = 250;
+    headers[3] = headers[1];
+    headers[3].address = headers[3].gap_wait = headers[3].hsa = 127;
+    headers[3].baud = 15;
+    headers[3].slot_bits = 65535;
+    headers[3].rotation_bits = 33554431;
+    for (i = 0; i < 4; i++) {
+        check(bytes_of(second[i].bits, 2, packed) == AMSULFEZD_HEADER_LENGTH_2, "not 14 bytes", second[i].name);
+        check(bytes_of(second[i].digits, 16, bytes) == AMSULFEZD_HEADER_LENGTH_2, "not 14 bytes", second[i].name);
+        check(memcmp(packed, bytes, sizeof bytes) == 0, "not the bits' bytes", second[i].name);
+        for (room = 0; room < 14; room++) {
+            fill();
+            wrote(amsulfezd_write_header_2(to, room, &headers[i]), "", "a header of edition 2 without room");
+        }
+        fill();
+        wrote(amsulfezd_write_header_2(to, 14, &headers[i]), second[i].digits, second[i].name);
+        memset(to, 0, 14);
+        wrote(amsulfezd_write_header_2(to, 14, &headers[i]), second[i].digits, second[i].name);
+    }
+
+    /* A value that is one too large for its field, in turn, and no application. */
+#define UNFIT_2(field, value) \
+    header = headers[3]; \
+    header.field = value; \
+    refuses_header_2(&header, #field);
+    UNFIT_2(address, 128)
+    UNFIT_2(baud, 16)
+    UNFIT_2(rotation_bits, 33554432)
+    UNFIT_2(gap_wait, 128)
+    UNFIT_2(hsa, 128)
+    UNFIT_2(retry, 16)
+    UNFIT_2(applications, 0)
+    UNFIT_2(applications, 9)
+
+    /* Which edition a trace has. */
+    check(AMSULFEZD_EDITION_2 == 130, "the first byte of edition 2", "82h");
+    for (i = 0; i < 256; i++) {
+        bytes[0] = (uint8_t)i;
+        check(amsulfezd_header_length(bytes, 1) == (i == 130 ? 14u : 16u), "the length of a header", "its first byte");
+        check(amsulfezd_header_length(bytes, 0) == 16, "the length of a header", "no byte");
+    }
+    check(amsulfezd_written(14 * 256 + 25) == 14, "bytes written", "14 * 256 + 25");
+    check(amsulfezd_number(14 * 256 + 25) == 25, "refusal number", "14 * 256 + 25");
+}
+
 static void test_commands(void)
 {
     unsigned command;
@@ -392,6 +485,7 @@ int main(int count, char **words)
     test_readers();
     test_numbers();
     test_header();
+    test_header_2();
     test_commands();
     test_polls();
     test_unfit();

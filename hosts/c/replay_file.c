@@ -65,7 +65,7 @@ static struct content read_file(const char *name)
 static size_t count_entries(struct content trace)
 {
     size_t entries = 0;
-    for (size_t at = AMSULFEZD_HEADER_LENGTH; at < trace.length; entries++) {
+    for (size_t at = amsulfezd_header_length(trace.bytes, trace.length); at < trace.length; entries++) {
         at += trace.bytes[at] < 3 ? 1 : (size_t)trace.bytes[at] + 1;
     }
     return entries;

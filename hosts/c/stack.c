@@ -1,8 +1,9 @@
 /*
- * Measures the stack that the proved call uses, and holds it to AMSULFEZD_STACK_BYTES. The call runs on a stack of its
+ * Measures the stack that the proved calls use, and holds it to AMSULFEZD_STACK_BYTES. A call runs on a stack of its
  * own that is filled with a pattern; afterwards the deepest byte that changed is looked for. The traces: those of the
- * files named, example 12's header with 100,000 times online, and as many made at random as are asked for; each state
- * and each kind of send must have been seen. Built with -DFAULT the call takes more, which must be found.
+ * files named, example 12's header with 100,000 times online, and as many made at random as are asked for, with headers
+ * of both editions; each is replayed, and its header moved to the other edition; each state and each kind of send, and
+ * moves both ways, must have been seen. Built with -DFAULT the call takes more, which must be found.
  *
  * usage: stack TRACES FILE..
  */
@@ -23,7 +24,14 @@ enum { RANDOM_ENTRIES = 250, LONG = 100000 };
 static uint8_t stack[STACK] __attribute__((aligned(16)));
 static ucontext_t here, there;
 
-/* The call's arguments and what it returned: a context's function takes no pointers. */
+/* The moves of a header that are to be seen: to edition 1 and to edition 2. */
+enum { TO_FIRST = 1, TO_SECOND = 2 };
+
+/* The calls that are measured. */
+typedef uint64_t measured(const uint8_t *lent, size_t length, uint8_t *buffer, size_t room);
+
+/* The call, its arguments and what it returned: a context's function takes no pointers. */
+static measured *call;
 static const uint8_t *trace;
 static size_t trace_len;
 static uint8_t *answers;
@@ -33,7 +41,7 @@ static uint64_t returned;
 /* The first byte above the call's stack, its return address included. */
 static uintptr_t above;
 
-static unsigned states_seen, sent_seen;
+static unsigned states_seen, sent_seen, moves_seen;
 static size_t deepest;
 
 static void fail(const char *why, const char *what)
@@ -52,11 +60,11 @@ static void *take(size_t size)
 }
 
 /* Takes as much stack as the call may, and then calls. */
-static __attribute__((noinline)) uint64_t greedy_replay_trace(void)
+static __attribute__((noinline)) uint64_t greedy_call(void)
 {
     volatile uint8_t taken[AMSULFEZD_STACK_BYTES];
     taken[0] = 0;
-    return amsulfezd_replay_trace(trace, trace_len, answers, answers_len) + taken[0];
+    return call(trace, trace_len, answers, answers_len) + taken[0];
 }
 
 /* What runs on the stack of its own. At the call the stack pointer is at or below this frame's address. */
@@ -64,15 +72,15 @@ static void on_stack(void)
 {
     above = (uintptr_t)__builtin_frame_address(0);
 #ifdef FAULT
-    returned = greedy_replay_trace();
+    returned = greedy_call();
 #else
-    (void)greedy_replay_trace;
-    returned = amsulfezd_replay_trace(trace, trace_len, answers, answers_len);
+    (void)greedy_call;
+    returned = call(trace, trace_len, answers, answers_len);
 #endif
 }
 
 /* Runs the call on the stack of its own. */
-static void run(void)
+static void run_on_stack(void)
 {
     memset(stack, PATTERN, sizeof stack);
     if (getcontext(&there) != 0) {
@@ -87,17 +95,12 @@ static void run(void)
     }
 }
 
-/* Runs the call on a trace and notes how deep its stack went and what it answered. */
-static void measure(const uint8_t *bytes, size_t length, const char *name)
+/* Runs a call on the stack of its own, and notes how deep that went. */
+static void run(measured *which, const char *name)
 {
     size_t low = 0;
-    uint64_t i;
-    trace = bytes;
-    trace_len = length;
-    run();
-    if (amsulfezd_ending(returned) == AMSULFEZD_REFUSAL_NO_ROOM) {
-        fail("there was not room enough for the answers", name);
-    }
+    call = which;
+    run_on_stack();
     while (low < sizeof stack && stack[low] == PATTERN) {
         low++;
     }
@@ -107,10 +110,26 @@ static void measure(const uint8_t *bytes, size_t length, const char *name)
     if (above - ((uintptr_t)stack + low) > deepest) {
         deepest = above - ((uintptr_t)stack + low);
     }
+}
+
+/* Replays a trace and moves its header, and notes what came. */
+static void measure(const uint8_t *bytes, size_t length, const char *name)
+{
+    uint64_t i;
+    trace = bytes;
+    trace_len = length;
+    run(amsulfezd_replay_trace, name);
+    if (amsulfezd_ending(returned) == AMSULFEZD_REFUSAL_NO_ROOM) {
+        fail("there was not room enough for the answers", name);
+    }
     for (i = 0; i < amsulfezd_entries(returned); i++) {
         uint64_t answer = amsulfezd_answer(answers + AMSULFEZD_ANSWER_LENGTH * i);
         states_seen |= 1u << amsulfezd_answer_state(answer);
         sent_seen |= 1u << amsulfezd_answer_sent(answer);
+    }
+    run(amsulfezd_other_edition, name);
+    if (amsulfezd_written(returned) != 0) {
+        moves_seen |= amsulfezd_written(returned) == AMSULFEZD_HEADER_LENGTH ? TO_FIRST : TO_SECOND;
     }
 }
 
@@ -166,7 +185,7 @@ static size_t make(uint8_t *to, size_t room)
     size_t length, entries = below(RANDOM_ENTRIES), i;
     uint64_t clock = 1000;
     header.hsa = 126;
-    length = amsulfezd_write_header(to, room, &header);
+    length = below(2) == 0 ? amsulfezd_write_header(to, room, &header) : amsulfezd_write_header_2(to, room, &header);
     length += amsulfezd_write_command(to + length, room - length, AMSULFEZD_COMMAND_ONLINE);
     for (; entries != 0; entries--) {
         struct amsulfezd_decisions decisions[8];
@@ -227,8 +246,8 @@ int main(int count, char **words)
     for (i = 0; i < traces; i++) {
         measure(bytes, make(bytes, room), "a trace made at random");
     }
-    if (states_seen != all_states || sent_seen != all_sent) {
-        fail("not every state and every kind of send was reached", "the traces");
+    if (states_seen != all_states || sent_seen != all_sent || moves_seen != (TO_FIRST | TO_SECOND)) {
+        fail("not every state, every kind of send and both moves were reached", "the traces");
     }
     if (deepest > AMSULFEZD_STACK_BYTES) {
         fprintf(stderr, "stack: a call used %zu bytes of stack, more than the %d that amsulfezd.h names\n", deepest,

@@ -1,7 +1,7 @@
 /*
- * Answers traces by the proved call, for the comparison on machines that run the library but cannot link it: reads calls
- * from standard input and writes what each left to standard output, in the form that oracle/src/comparison/program.rs
- * states, until its input ends.
+ * Makes the proved calls, for the comparison on machines that run the library but cannot link it: reads calls from standard
+ * input and writes what each left to standard output, in the form that oracle/src/comparison/program.rs states, until its
+ * input ends.
  */
 #include "amsulfezd.h"
 
@@ -57,36 +57,45 @@ static uint64_t number_of(const uint8_t *bytes)
     return number;
 }
 
+/* A call that is lent bytes to read and a buffer to write. */
+typedef uint64_t call(const uint8_t *lent, size_t length, uint8_t *buffer, size_t room);
+
+/* The calls by the numbers that the comparison gives them. */
+static call *const calls[] = {amsulfezd_replay_trace, amsulfezd_other_edition};
+
+/* The number of calls. */
+#define CALLS (sizeof calls / sizeof calls[0])
+
 int main(void)
 {
     for (;;) {
-        uint8_t head[16]; /* the two lengths, and later the number and whether all else was kept */
-        size_t count = fread(head, 1, 16, stdin);
+        uint8_t head[17]; /* which call and the two lengths, and later the number and whether all else was kept */
+        size_t count = fread(head, 1, 17, stdin);
         if (count == 0 && feof(stdin)) {
             return EXIT_SUCCESS;
         }
-        if (count != 16) {
-            fail("the input ends inside a call");
+        if (count != 17 || head[0] >= CALLS) {
+            fail("the input ends inside a call, or there is no such call");
         }
-        size_t trace_length = number_of(head), room = number_of(head + 8);
-        uint8_t *trace = guarded(trace_length, 0x3c), *answers = guarded(room, 0xc3);
-        read_all(trace, trace_length);
-        read_all(answers, room);
-        uint8_t *given = guarded(trace_length, 0);
-        memcpy(given, trace, trace_length);
+        size_t length = number_of(head + 1), room = number_of(head + 9);
+        uint8_t *lent = guarded(length, 0x3c), *buffer = guarded(room, 0xc3);
+        read_all(lent, length);
+        read_all(buffer, room);
+        uint8_t *given = guarded(length, 0);
+        memcpy(given, lent, length);
 
-        uint64_t returned = amsulfezd_replay_trace(trace, trace_length, answers, room);
+        uint64_t returned = calls[head[0]](lent, length, buffer, room);
 
-        int others = kept(trace, trace_length, 0x3c) && kept(answers, room, 0xc3);
+        int others = kept(lent, length, 0x3c) && kept(buffer, room, 0xc3);
         for (int i = 0; i < 8; i++) {
             head[i] = (uint8_t)(returned >> (56 - 8 * i));
         }
-        head[8] = others && memcmp(given, trace, trace_length) == 0;
-        if (fwrite(head, 1, 9, stdout) != 9 || fwrite(answers, 1, room, stdout) != room || fflush(stdout) != 0) {
+        head[8] = others && memcmp(given, lent, length) == 0;
+        if (fwrite(head, 1, 9, stdout) != 9 || fwrite(buffer, 1, room, stdout) != room || fflush(stdout) != 0) {
             fail("standard output cannot be written");
         }
         free(given - AROUND);
-        free(answers - AROUND);
-        free(trace - AROUND);
+        free(buffer - AROUND);
+        free(lent - AROUND);
     }
 }

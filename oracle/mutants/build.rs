@@ -14,7 +14,7 @@ use std::path::Path;
 /// Files that lean on nothing of the crate: copied only where the error stands in them.
 const ALONE: [&str; 3] = ["records", "ring", "dp"];
 /// Files that lean on each other: copied for each error.
-const TOGETHER: [&str; 6] = ["time", "baud", "fdl", "phy", "port", "trace"];
+const TOGETHER: [&str; 7] = ["time", "baud", "fdl", "phy", "port", "editions", "trace"];
 
 fn read(path: &str) -> String {
     println!("cargo:rerun-if-changed={}", path);
@@ -69,7 +69,12 @@ fn main() {
         std::fs::write(folder.join("mod.rs"), root).expect("a file can be written");
         writeln!(index, "#[path = \"{}/mod.rs\"]\nmod {};", name, name).expect("text");
         let table = if asked { format!("{}::settings_table::table", name) } else { "String::new".to_string() };
-        writeln!(runs, "    crate::Runs {{ traces: {}::trace::replay_trace, table: {} }},", name, table).expect("text");
+        writeln!(
+            runs,
+            "    crate::Runs {{ traces: {0}::trace::replay_trace, moves: {0}::editions::other_edition, table: {1} }},",
+            name, table
+        )
+        .expect("text");
     }
     std::fs::write(Path::new(&out).join("index.rs"), index + &runs + "];\n").expect("a file can be written");
 }

@@ -4,6 +4,8 @@
 #[derive(Debug, Clone, Copy, PartialEq, Eq)]
 pub enum By {
     Traces,
+    /// The moves of their headers to the other edition, which no trace replayed shows.
+    Moves,
     SettingsTable,
     /// None can, and why.
     Nothing(&'static str),
@@ -28,6 +30,11 @@ const fn planted(file: &'static str, old: &'static str, new: &'static str) -> Pl
 /// An error of the published settings that the settings table has to find.
 const fn settings(old: &'static str, new: &'static str) -> Planted {
     Planted { file: "parameters", old, new, by: By::SettingsTable }
+}
+
+/// An error that generated headers, moved to the other edition, have to find.
+const fn moved(old: &'static str, new: &'static str) -> Planted {
+    Planted { file: "editions", old, new, by: By::Moves }
 }
 
 /// An error that no trace can show, and why.
@@ -444,7 +451,6 @@ pub const PLANTED: &[Planted] = &[
     planted("trace", "        if room.len() < ANSWER {", "        if room.len() <= ANSWER {"),
     planted("trace", "            return (answered, 18);", "            return (answered, 17);"),
     planted("trace", "return self.answer(16)", "return self.answer(12)"),
-    planted("trace", "trace.len() < HEADER {", "trace.len() <= HEADER {"),
     hidden("trace",
         "trace.len() as u64 > LONGEST",
         "trace.len() as u64 > LONGEST + 1",
@@ -454,6 +460,46 @@ pub const PLANTED: &[Planted] = &[
     planted("trace",
         "(11, self.applications < 1 || self.applications > 8),\n            (8, (self.factors.0 == 0) != (self.factors.1 == 0)),",
         "(8, (self.factors.0 == 0) != (self.factors.1 == 0)),\n            (11, self.applications < 1 || self.applications > 8),"),
+    // The editions of a header: reading.
+    planted("editions", "let bytes = trace.get(..edition.length())?;", "let bytes = trace.get(..edition.length()).filter(|b| b.len() < trace.len())?;"),
+    planted("editions", "pub const SECOND: u8 = 0x82;", "pub const SECOND: u8 = 0x83;"),
+    planted("editions", "            Some(&SECOND) => Edition::Second,\n", "            Some(first) if *first >= SECOND => Edition::Second,\n"),
+    planted("editions", "            Some(&SECOND) => Edition::Second,\n", "            Some(first) if *first > 125 => Edition::Second,\n"),
+    planted("editions", "            Some(&SECOND) => Edition::Second,\n", "            Some(&SECOND) if trace.len() >= 16 => Edition::Second,\n"),
+    planted("editions",
+        "        let bytes = trace.get(..edition.length())?;\n",
+        "        let bytes = trace.get(..16).and(trace.get(..edition.length()))?;\n"),
+    planted("editions",
+        "        let bytes = trace.get(..edition.length())?;\n",
+        "        let bytes = trace.get(..14).and(if trace[0] > 125 { Some(&[200; 16][..]) } else { None }.filter(|_| edition == Edition::First).or(trace.get(..edition.length())))?;\n"),
+    planted("editions", "            Edition::Second => 14,", "            Edition::Second => 16,"),
+    planted("editions", "[8, 7, 4, 16, 25, 7, 7, 4, 8, 3, 8, 8, 7]", "[8, 8, 4, 16, 25, 7, 7, 4, 8, 3, 8, 8, 6]"),
+    planted("editions", "[8, 7, 4, 16, 25, 7, 7, 4, 8, 3, 8, 8, 7]", "[8, 7, 4, 16, 24, 7, 7, 4, 8, 3, 8, 8, 8]"),
+    planted("editions", "[8, 7, 4, 16, 25, 7, 7, 4, 8, 3, 8, 8, 7]", "[8, 7, 4, 16, 26, 6, 7, 4, 8, 3, 8, 8, 7]"),
+    planted("editions", "[8, 7, 4, 16, 25, 7, 7, 4, 8, 3, 8, 8, 7]", "[8, 7, 4, 16, 25, 7, 7, 4, 8, 4, 8, 8, 6]"),
+    planted("editions", "min_tsdr, less_one + 1, f1, f2, zero]\n", "min_tsdr, less_one, f1, f2, zero]\n"),
+    planted("editions", "min_tsdr, less_one + 1, f1, f2, zero]\n", "min_tsdr, less_one + 1, f1, f2, 0]\n"),
+    planted("editions", "min_tsdr, less_one + 1, f1, f2, zero]\n", "min_tsdr, less_one + 1, f1, f2, zero % 64]\n"),
+    planted("editions", "                [address, baud, slot, rotation, gap", "                [address % 126, baud, slot, rotation, gap"),
+    planted("editions", "                [address, baud, slot, rotation, gap", "                [address, baud, slot, rotation.min(16_777_960), gap"),
+    planted("trace", "    let mut rest = &trace[Edition::of(trace).length()..];", "    let mut rest = &trace[trace.len().min(16)..];"),
+    // The editions of a header: moving.
+    moved("SECOND.into(), applications - 1)", "SECOND.into(), applications % 8)"),
+    moved("(SECOND.into(), applications - 1)", "(0x80, applications - 1)"),
+    moved("retry, min_tsdr, less_one, f1, f2, zero];", "retry, min_tsdr, less_one, f2, f1, zero];"),
+    moved("[first, address, baud, slot, rotation, gap, hsa,", "[first, address, baud, slot, rotation, hsa, gap,"),
+    moved("        return (0, number);\n", "        return (0, if out.len() < 14 { 18 } else { number });\n"),
+    moved("    if out.len() < bytes.len() {", "    if out.len() < 16 {"),
+    moved("    if out.len() < bytes.len() {", "    if out.len() <= bytes.len() {"),
+    moved("        return (0, 18);", "        return (0, 17);"),
+    moved("        return (0, 18);", "        let room = out.len(); out.copy_from_slice(&bytes[..room]); return (0, 18);"),
+    moved("        None => return (0, 17),", "        None => return (0, 1),"),
+    moved("    out[..bytes.len()].copy_from_slice(&bytes);\n", "    out[..bytes.len()].copy_from_slice(&bytes);\n    out[bytes.len()..].fill(0);\n"),
+    moved("    let given = match Header::read(header) {", "    if header.len() > 16 {\n        return (0, 17);\n    }\n    let given = match Header::read(header) {"),
+    moved("given.write_as(Edition::of(header).other())", "given.write_as(Edition::of(header))"),
+    moved("    (bytes.len(), 0)", "    (16, 0)"),
+    moved("    if let Some(number) = given.refusal() {", "    if let Some(number) = given.refusal().filter(|number| *number != 14) {"),
+    moved("    if let Some(number) = given.refusal() {", "    if let Some(number) = given.refusal().filter(|number| *number != 25) {"),
     // The port and the applications.
     planted("port", "i + 1 == pending.len()", "i == 0"),
     planted("port",

@@ -1,4 +1,4 @@
-//! The published Rust with document 01's helpers, and what holds another `replay_trace` to it by running.
+//! The published Rust with document 01's helpers, and what holds other calls to it by running.
 //!
 //! Each folder leans on those before it: `helpers` (with the published text), then `generator` and `coverage`, which do not
 //! know each other, then `comparison`, then the programs.
@@ -11,6 +11,7 @@ extern crate self as log;
 mod helpers {
     pub mod baud;
     pub mod dp;
+    pub mod editions;
     pub mod fdl;
     mod log;
     pub mod phy;
@@ -43,13 +44,14 @@ pub mod generator {
 pub mod coverage {
     mod events;
     mod met;
+    pub mod moves;
     mod points;
     mod poll;
     mod refusals;
     pub use met::Met;
 }
 
-/// Holding another `replay_trace` to the oracle's.
+/// Holding other calls to the oracle's.
 pub mod comparison {
     pub mod compare;
     pub mod program;
@@ -67,7 +69,7 @@ pub mod settings_table;
 pub mod watchdog_lines;
 
 // The published files find these names at the root.
-pub use helpers::{baud, baud::Baudrate, dp, fdl, phy, port, records, ring, time, trace};
+pub use helpers::{baud, baud::Baudrate, dp, editions, fdl, phy, port, records, ring, time, trace};
 
 /// A station's address, as the published files name it.
 pub type Address = u8;

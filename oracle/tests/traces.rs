@@ -3,7 +3,8 @@
 
 use oracle::baud::{Baudrate, BAUDRATES};
 use oracle::comparison::compare::compare_traces;
-use oracle::comparison::{hex, run::Replay};
+use oracle::comparison::hex;
+use oracle::comparison::run::{Call, Calls, ORACLE};
 use oracle::fdl::{FdlActiveStation, FdlApplication};
 use oracle::generator::trace;
 use oracle::port::{RecordApplication, RecordPort};
@@ -296,7 +297,7 @@ fn a_buffer_keeps_what_is_not_an_answer() {
 
 #[test]
 fn the_oracle_agrees_with_itself_and_too_few_traces_miss_something() {
-    let (said, held) = compare_traces(&replay_trace, 5, 300);
+    let (said, held) = compare_traces(ORACLE, 5, 300);
     assert!(held, "{}", said);
     assert!(said.contains("never reached: "), "{}", said);
     assert!(said.ends_with(", 0 differ\n"), "{}", said);
@@ -325,9 +326,9 @@ fn wrong_calls_are_found() {
     };
     let refuses = |_: &[u8], _: &mut [u8]| 17;
     let panics = |_: &[u8], _: &mut [u8]| -> u64 { panic!("planted") };
-    let wrong: [Replay; 5] = [&counts, &tail, &same, &refuses, &panics];
+    let wrong: [Call; 5] = [&counts, &tail, &same, &refuses, &panics];
     for (i, call) in wrong.iter().enumerate() {
-        let (said, held) = compare_traces(*call, 5, 300);
+        let (said, held) = compare_traces(Calls { replay_trace: *call, ..ORACLE }, 5, 300);
         assert!(!held, "{}: {}", i, said);
         for part in ["seed 5, trace ", "the shortest trace found", "the oracle:  ", "the other:   "] {
             assert!(said.contains(part), "{}: {}", i, said);

@@ -1,8 +1,9 @@
 // The library for hosts: every call that C and Rust programs make of it, each thin over the crate that does the work. Their
-// names carry the prefix amsulfezd_, as a C library's names do. hosts/c/amsulfezd.h declares them. It leans on trace.
+// names carry the prefix amsulfezd_, as a C library's names do. hosts/c/amsulfezd.h declares them. It leans on trace and trace_headers.
 ghost use mathlib.Core.Path.{_≡_};
 ghost use lib.ListN.{length};
 ghost use Rattle.trace.specs.Trace.{replayOf, numberOf, bufferOf};
+ghost use Rattle.trace_headers.specs.Headers.{moveNumber, moveInto};
 
 // Replays a trace and returns the entries answered × 256 + the ending number. Each entry's answer stands in the next eight
 // bytes of `answers`; the bytes past them stay as they were.
@@ -12,4 +13,15 @@ pub extern "C" fn amsulfezd_replay_trace(trace: &[u8], answers: &mut [u8]) -> u6
     ensures { λ _. ⌜ now (answers .exit) ≡ bufferOf (replayOf (now (trace .entry)) (length (now (answers .entry)))) (now (answers .entry)) ⌝ }
 {
     trace::replay_trace(trace, answers)
+}
+
+// Writes the header that `header` begins with in the other edition into the first bytes of `out`, and returns the bytes written
+// × 256. Refused with 17, the header's numbers, or 18 where `out` is too short: then the number is returned and nothing is
+// written.
+#[no_mangle]
+pub extern "C" fn amsulfezd_other_edition(header: &[u8], out: &mut [u8]) -> u64
+    ensures { λ r. ⌜ r ≡ moveNumber (now (header .entry)) (length (now (out .entry))) ⌝ }
+    ensures { λ _. ⌜ now (out .exit) ≡ moveInto (now (header .entry)) (now (out .entry)) ⌝ }
+{
+    trace_headers::other_edition(header, out)
 }

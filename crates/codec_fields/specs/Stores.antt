@@ -77,13 +77,13 @@ unfolding loadOf
 load-room s at count c h = rw (room-is (length s) at count c h)
 
 -- bytes from a place on
-bytes-drop : (n : ℕ) (s : List ℕ) → Bytes s → Bytes (drop n s)
+pub bytes-drop : (n : ℕ) (s : List ℕ) → Bytes s → Bytes (drop n s)
 bytes-drop zero s h = h
 bytes-drop (suc n) [] h = h
 bytes-drop (suc n) (b ∷ s) h = bytes-drop n s (h .1)
 
 -- bytes up to a place
-bytes-take : (n : ℕ) (s : List ℕ) → Bytes s → Bytes (take n s)
+pub bytes-take : (n : ℕ) (s : List ℕ) → Bytes s → Bytes (take n s)
 bytes-take zero s h = tt
 bytes-take (suc n) [] h = tt
 bytes-take (suc n) (b ∷ s) h = (h .0, bytes-take n s (h .1))

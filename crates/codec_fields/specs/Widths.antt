@@ -84,11 +84,14 @@ put-whole word width value h l =
 pub grown : (k width word value : ℕ) → word < 2 ^ k → value < 2 ^ width → word * 2 ^ width + value < 2 ^ (k + width)
 grown k width word value hn hv = rw pow-add (digits-lt hn hv)
 
+-- a value's lowest bits below a number, where nothing falls away
+pub put-low : (k width word value : ℕ) → word < 2 ^ k → k + width ≤ 64 → putOf word width value ≡ word * 2 ^ width + value % 2 ^ width
+unfolding putOf
+put-low k width word value h l = mod-eq-of-lt (lt-of-lt-of-le (grown k width word (value % 2 ^ width) h (mod-lt value (pow-pos width))) (pow-mono l))
+
 -- a value within its width, where nothing falls away
 pub put-plain : (k width word value : ℕ) → word < 2 ^ k → value < 2 ^ width → k + width ≤ 64 → putOf word width value ≡ word * 2 ^ width + value
-unfolding putOf
-put-plain k width word value hn hv l =
-    ap (λ (n : ℕ). (word * 2 ^ width + n) % 2 ^ 64) (mod-eq-of-lt hv) ∙ mod-eq-of-lt (lt-of-lt-of-le (grown k width word value hn hv) (pow-mono l))
+put-plain k width word value hn hv l = put-low k width word value hn l ∙ ap (λ (n : ℕ). word * 2 ^ width + n) (mod-eq-of-lt hv)
 
 -- one more byte at the end
 beFrom-snoc : (acc : ℕ) (xs : List ℕ) (b : ℕ) → beFrom acc (xs ++ (b ∷ [])) ≡ beFrom acc xs * 2 ^ 8 + b

@@ -8,6 +8,7 @@ pub mod SettingsBuild
 pub mod RingAddresses
 pub mod Ring
 pub mod CodecFields
+pub mod CodecSlices
 pub mod CodecTelegrams
 pub mod CodecDecisions
 pub mod CodecRecords

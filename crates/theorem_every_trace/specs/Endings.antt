@@ -1,10 +1,9 @@
 -- A header's refusal is a number of document 01's table, at most 17, or document 02's 25. Assumes nothing.
-use Prim.Native.Nat.{ℕ, _+_, _^_, _≤_}
+use Prim.Native.Nat.{ℕ, _+_, _≤_}
 use mathlib.Core.Bool.{_&&_}
 use mathlib.Core.Logic.{inl, inr}
 use mathlib.Core.Path.{refl}
 use mathlib.Core.List.{List, [], _∷_}
-use lib.ListN.{length}
 use lib.Dec.{leb, eqb, lit≤}
 use Rattle.bit_times.specs.declared.Coded.{Coded}
 use Rattle.bit_times.specs.declared.Coded.the-variants.{Rate, Unknown}
@@ -19,7 +18,7 @@ use Rattle.settings_build.specs.Build.{earlyRefusal, firstRefusal, builtAt, bui
 use Rattle.theorem_sound.specs.Keeps.{either}
 use Rattle.trace_headers.specs.declared.Header.{Header}
 use Rattle.trace_headers.specs.Headers.{headerOf, headerRefusal}
-use Rattle.trace.specs.Trace.{settingsOf, settingsAt, TraceStart, Accepted, Refused, startedWith, startOf}
+use Rattle.trace.specs.Trace.{settingsOf, hasHeader, settingsAt, TraceStart, Accepted, Refused, startedWith, startOf}
 use Rattle.theorem_every_trace.specs.Statement.{HeaderNumber}
 
 -- a number of document 01's table is one
@@ -118,7 +117,7 @@ settings-of-small h = either SmallBuilt (eqb (headerRefusal h) 0) _ _ (build-sma
 
 settings-at-small : (trace : List ℕ) → SmallBuilt (settingsAt trace)
 unfolding settingsAt
-settings-at-small trace = either SmallBuilt (leb 16 (length trace) && leb (length trace) (2 ^ 32)) _ _ (settings-of-small (headerOf trace)) (number (lit≤ tt))
+settings-at-small trace = either SmallBuilt (hasHeader trace) _ _ (settings-of-small (headerOf trace)) (number (lit≤ tt))
 
 started-small : (x : Created) (n : ℕ) → SmallBuilt x → Small (startedWith x n)
 unfolding startedWith

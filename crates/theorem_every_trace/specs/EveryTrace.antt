@@ -11,6 +11,7 @@ use lib.Seq.{take-at, drop-at}
 use lib.Pow.{high, low}
 use lib.Dec.{eqb}
 use Rattle.station.specs.declared.Station.{Station}
+use Rattle.trace_headers.specs.Headers.{headerLength}
 use Rattle.theorem_sound.specs.Unchanged.{poll-unchanged, passive-unchanged, online-refusal, offline-refusal}
 use Rattle.trace.specs.Trace.{TraceStart, Accepted, Refused, startOf, answered, runOf, ranOf, replayOn, replayOf, numberOf, written, bufferOf}
 use Rattle.trace.specs.Entries.{entryOf}
@@ -53,7 +54,7 @@ longer-trace-begins-alike s part rest room e = run-on s part rest room e
 -- the answers of a started run, or of none, have room
 replay-room : (x : TraceStart) (trace : List ℕ) (room : ℕ) → 8 * length (replayOn x trace room .answers) ≤ room
 unfolding replayOn ranOf
-replay-room (Accepted s) trace room = run-ends (length (drop 16 trace)) s (drop 16 trace) room .fits
+replay-room (Accepted s) trace room = run-ends (length (drop (headerLength trace) trace)) s (drop (headerLength trace) trace) room .fits
 replay-room (Refused n) trace room = omega arith
 
 -- the answers of a replay have room in the buffer
@@ -100,7 +101,7 @@ each-entry-is-answered s (e ∷ es) room w h =
 -- a replay ends with a number below 256: at most 18 after a header that was taken, and else the header's refusal, at most 25
 replay-ending : (x : TraceStart) (trace : List ℕ) (room : ℕ) → Small x → replayOn x trace room .ending < 256
 unfolding replayOn ranOf
-replay-ending (Accepted s) trace room h = omega (arith, run-ends (length (drop 16 trace)) s (drop 16 trace) room .number)
+replay-ending (Accepted s) trace room h = omega (arith, run-ends (length (drop (headerLength trace) trace)) s (drop (headerLength trace) trace) room .number)
 replay-ending (Refused n) trace room (inl h) = omega (arith, h)
 replay-ending (Refused n) trace room (inr h) = omega (arith, h)
 

@@ -7,6 +7,7 @@ use native.Mathlib.Nat.{sub-zero}
 use lib.ListN.{length, take, drop, length-append}
 use lib.Seq.{length-take-le, take-at, drop-at}
 use Rattle.station.specs.declared.Station.{Station}
+use Rattle.trace_headers.specs.Headers.{headerLength}
 use Rattle.trace.specs.Entries.{recordLength}
 use Rattle.theorem_every_trace.specs.Statement.{Entry, Whole, laid, Stops, empty, cut, full, Answered}
 use Rattle.theorem_every_trace.specs.Theorem.{ending-tells}
@@ -83,8 +84,8 @@ answered-once {trace = trace} {before = before} a b =
       one-end = one-ending (subst (λ (es : List Entry). Stops (length before - 8 * length es) (b .rest) (a .ending)) (same .same-entries) (subst (λ (x : List ℕ). Stops (length before - 8 * length (a .entries)) x (a .ending)) (same .same-rest) (a .stops))) (b .stops);
     }
   where
-    behind : (l : List ℕ) → trace ≡ take 16 trace ++ l → drop 16 trace ≡ l
-    behind l e = ap (drop 16) e ∙ drop-at (take 16 trace) l 16 (length-take-le 16 trace (a .header))
+    behind : (l : List ℕ) → trace ≡ take (headerLength trace) trace ++ l → drop (headerLength trace) trace ≡ l
+    behind l e = ap (drop (headerLength trace)) e ∙ drop-at (take (headerLength trace) trace) l (headerLength trace) (length-take-le (headerLength trace) trace (a .header))
 
     same : SameParts (a .entries) (b .entries) (a .rest) (b .rest)
     same =

@@ -6,6 +6,7 @@ use mathlib.Core.List.{List, [], _∷_, _++_}
 use mathlib.Core.Logic.{_↔_, _⊎_}
 use lib.ListN.{length, take, drop}
 use Rattle.station.specs.declared.Station.{Station}
+use Rattle.trace_headers.specs.Headers.{headerLength}
 use Rattle.trace.specs.Entries.{recordLength, entryOf}
 use Rattle.trace.specs.Trace.{Accepted, Refused, startOf, Run, ended, answered, replayOf, numberOf, written, bufferOf}
 
@@ -61,10 +62,10 @@ pub record Answered (fresh : Station) (trace before : List ℕ) (returned : ℕ)
   -- the entries that are answered, and the bytes that are left
   pub entries : List Entry
   pub rest : List ℕ
-  -- the trace's bytes are the header's 16, those of the entries, each of them whole, and the rest
-  pub header : 16 ≤ length trace
+  -- the trace's bytes are the header's, as many as its edition has, those of the entries, each of them whole, and the rest
+  pub header : headerLength trace ≤ length trace
   pub whole : Whole entries
-  pub bytes : trace ≡ take 16 trace ++ (laid entries ++ rest)
+  pub bytes : trace ≡ take (headerLength trace) trace ++ (laid entries ++ rest)
   -- the entries' answers have room
   pub room : 8 * length entries ≤ length before
   -- the ending is 0, 17 or 18 as the rest says

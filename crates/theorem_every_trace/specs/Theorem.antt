@@ -8,6 +8,7 @@ use lib.ListN.{length, take, drop, take-append-drop}
 use lib.Seq.{length-take-le}
 use Rattle.codec_answers.specs.declared.Answer.{Answer}
 use Rattle.station.specs.declared.Station.{Station}
+use Rattle.trace_headers.specs.Headers.{headerLength}
 use Rattle.station_answer.specs.declared.Polled.{Polled}
 use Rattle.trace.specs.Entries.{recordLength, entryOf}
 use Rattle.trace.specs.Trace.{TraceStart, Accepted, Refused, startOf, Run, runFrom, runOf, ranOf, replayOf, numberOf, bufferOf}
@@ -125,16 +126,16 @@ started-answered trace before fresh e =
       rest = t .rest;
       header = start-long trace fresh e .0;
       whole = t .whole;
-      bytes = sym (take-append-drop 16 trace) ∙ ap (λ (l : List ℕ). take 16 trace ++ l) (t .bytes);
+      bytes = sym (take-append-drop (headerLength trace) trace) ∙ ap (λ (l : List ℕ). take (headerLength trace) trace ++ l) (t .bytes);
       room = t .fits;
-      ending = runOf fresh (drop 16 trace) (length before) .ending;
+      ending = runOf fresh (drop (headerLength trace) trace) (length before) .ending;
       stops = t .stops;
       number = rw (t .given, along-length fresh (t .entries));
       buffer = rw (t .given, along-length fresh (t .entries));
     })
   where
-    t : Taken fresh (drop 16 trace) (length before) (runOf fresh (drop 16 trace) (length before))
-    t = taken fresh (drop 16 trace) (length before)
+    t : Taken fresh (drop (headerLength trace) trace) (length before) (runOf fresh (drop (headerLength trace) trace) (length before))
+    t = taken fresh (drop (headerLength trace) trace) (length before)
 
 -- a trace that starts a station or none
 replayed :

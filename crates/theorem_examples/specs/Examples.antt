@@ -1,7 +1,6 @@
 -- Document 01's examples 1 to 12 hold, all under one theorem: each row by computing the definitions. Assumes nothing.
 use mathlib.Core.Bool.{true}
 use mathlib.Core.Path.{_≡_, refl, ap, _∙_}
-use mathlib.Core.List.{List}
 use lib.Dec.{eqb}
 use borrow.Author.Tests.{eqb-true}
 use Rattle.bit_times.specs.Times.{baudOf, rounded, timeOf}
@@ -30,7 +29,7 @@ use Rattle.station_check_pass.specs.CheckPass.{resendOf, checkReceived, checkTo
 use Rattle.station_poll.specs.Poll.{connectedOf, dispatchOf, pollOnline, pollInner, acceptedAfter, acceptedPoll, pollOf}
 use Rattle.station_answer.specs.Answer.{stepAnswer, polledOf, refusedPoll}
 use Rattle.station_command.specs.Command.{onlineOf, offlineOf, passiveOf}
-use Rattle.trace_headers.specs.Headers.{headerAt, headerOf, headerRefusal}
+use Rattle.trace_headers.specs.Headers.{editionOf, lengthOf, headerIn, headerOf, headerRefusal}
 use Rattle.trace.specs.Trace.{TraceStart, Accepted, settingsOf, settingsAt, startedWith, startOf, runFrom, ranOf, replayOn, replayOf, numberOf, written, bufferOf}
 use Rattle.trace.specs.Entries.{recordLength, entryOf}
 use Rattle.ring.specs.declared.Ring.{Ring}
@@ -56,7 +55,7 @@ left-by trace fresh left start after = ap (λ (x : TraceStart). leftOn x (trace 
 
 -- the three stations that traces leave
 stations-left : (leftBy example9 ≡ Accepted aloneStation) × (leftBy example10 ≡ Accepted neighbourStation) × (leftBy example11 ≡ Accepted collidedOnce)
-unfolding baudOf rounded timeOf refuseBelow refuseOutside addressRefusal baudRefusal slotBitsRefusal hsaRefusal rotationRefusal roomRefusal gapWaitRefusal retryRefusal minTsdrRefusal watchdogRefusal factorsRefusal applicationsRefusal earlyRefusal firstRefusal pairOf builtAt buildOf plainOf slotTimeOf tokenLostOf rotationTimeOf has make claimOf others nextOf freshOf passed witnessOf polls gapOf walk nearest betweenOf addTo takeOut keeps sameSet roundOf lapsOf candidateOf bitOf wordOf hasIn fieldOf beFrom loadOf responseStateOf telegramOf zerosOr14 telegramRefusal decisionOf lengthRefusal decisionRefusal headOf decisionAt telegramAt entryRefusal wordsRefusal recordRefusal withActivity withGap withPending withTokenTimes withNextApplication withOnline freshCore freshStation withTokenTime knownAt elapsedOf markedAt busyOf ongoingOf waitedOf pauseOf sentAt busActivityOf rxOf slotExpiredOf tokenLostWaitOf doneOf transmitOf claimNext claimTokenOf declinesOn declinesAt usePassOf appTransmitOf firstOr turnOf askedFrom askedOf holdLess capped endOf holdEndOf holdsOf useAppsAfter useAppsOf useTokenTimed useTokenOf validResponse receivedOf awaitDataOf heardOf collided listenHeard listenTelegram activeCollided tokenWitnessed tokenHeard activeHeard handleTelegram heardTelegram heardAll receivedAll consumedAll listenTokenOn handleLostToken listenTokenOf activeIdleOn activeIdleOf gapAdvanced passSentOn passSend passPollOn passPoll passTokenOf awaitStatusOf connectedOf dispatchOf pollOnline pollInner polledOf acceptedAfter acceptedPoll pollOf onlineOf headerAt headerOf headerRefusal settingsOf settingsAt startedWith startOf entryOf
+unfolding baudOf rounded timeOf refuseBelow refuseOutside addressRefusal baudRefusal slotBitsRefusal hsaRefusal rotationRefusal roomRefusal gapWaitRefusal retryRefusal minTsdrRefusal watchdogRefusal factorsRefusal applicationsRefusal earlyRefusal firstRefusal pairOf builtAt buildOf plainOf slotTimeOf tokenLostOf rotationTimeOf has make claimOf others nextOf freshOf passed witnessOf polls gapOf walk nearest betweenOf addTo takeOut keeps sameSet roundOf lapsOf candidateOf bitOf wordOf hasIn fieldOf beFrom loadOf responseStateOf telegramOf zerosOr14 telegramRefusal decisionOf lengthRefusal decisionRefusal headOf decisionAt telegramAt entryRefusal wordsRefusal recordRefusal withActivity withGap withPending withTokenTimes withNextApplication withOnline freshCore freshStation withTokenTime knownAt elapsedOf markedAt busyOf ongoingOf waitedOf pauseOf sentAt busActivityOf rxOf slotExpiredOf tokenLostWaitOf doneOf transmitOf claimNext claimTokenOf declinesOn declinesAt usePassOf appTransmitOf firstOr turnOf askedFrom askedOf holdLess capped endOf holdEndOf holdsOf useAppsAfter useAppsOf useTokenTimed useTokenOf validResponse receivedOf awaitDataOf heardOf collided listenHeard listenTelegram activeCollided tokenWitnessed tokenHeard activeHeard handleTelegram heardTelegram heardAll receivedAll consumedAll listenTokenOn handleLostToken listenTokenOf activeIdleOn activeIdleOf gapAdvanced passSentOn passSend passPollOn passPoll passTokenOf awaitStatusOf connectedOf dispatchOf pollOnline pollInner polledOf acceptedAfter acceptedPoll pollOf onlineOf editionOf lengthOf headerIn headerOf headerRefusal settingsOf settingsAt startedWith startOf entryOf
 stations-left = (
   let fresh = freshStation (example 10) 1 in
       let after = afterEntries fresh (example9 .entries) in
@@ -71,5 +70,5 @@ stations-left = (
 
 -- every row of the table holds
 pub examples-1-to-12 : AllHold table
-unfolding baudOf rounded timeOf refuseBelow refuseOutside trial factorsOf newAt unless slotBitsOf hsaOf rotationOf gapWaitOf retryOf minTsdrOf withWatchdog watchdogAt watchdogOf slotCheckOf addressRefusal baudRefusal slotBitsRefusal hsaRefusal rotationRefusal roomRefusal gapWaitRefusal retryRefusal minTsdrRefusal watchdogRefusal factorsRefusal applicationsRefusal earlyRefusal firstRefusal pairOf builtAt buildOf plainOf slotTimeOf minTsdrTimeOf tokenLostOf rotationTimeOf watchdogTimeOf newOf has make claimOf others nextOf prevOf freshOf addOf removeOf passed witnessOf polls gapOf walk nearest betweenOf addTo takeOut keeps sameSet roundOf lapsOf candidateOf bitOf wordOf hasIn fieldOf putOf beFrom loadOf overOf storedOf responseStateOf telegramOf zerosOr14 telegramRefusal telegramWord decisionOf lengthRefusal decisionRefusal decisionWord headOf decisionAt telegramAt entryRefusal wordsRefusal recordRefusal outcomeOf sentFields sentFrom noticeFields noticeFrom refusedAnswer answerWord fullOf answerOf refusalKnown sentMeant meant unpackOf withActivity withGap withPending withTokenTimes withNextApplication withOnline freshCore freshStation withTokenTime knownAt elapsedOf markedAt busyOf ongoingOf waitedOf pauseOf sentAt busActivityOf rxOf slotExpiredOf tokenLostWaitOf doneOf transmitOf claimNext claimTokenOf declinesOn declinesAt usePassOf appTransmitOf firstOr turnOf askedFrom askedOf holdLess capped endOf holdEndOf holdsOf useAppsAfter useAppsOf useTokenTimed useTokenOf validResponse receivedOf withNotice timeoutOf awaitDataOf heardOf responseState listenAnswered listenResponse collided lastRequestToUs listened listenHeard listenTelegram activeCollided remembers acceptedOf tokenToUs tokenWitnessed tokenHeard activeRequested activeHeard handleTelegram heardTelegram heardAll receivedAll consumedAll listenTokenOn handleLostToken listenTokenOf activeResponse activeIdleOn activeIdleOf gapAdvanced passSentOn passSend passPollOn passPoll passTokenOf statusRingOn statusRing statusAnswered statusUnexpected statusReceived awaitStatusOf resendOf checkReceived checkTokenPassOf connectedOf dispatchOf pollOnline pollInner stepAnswer polledOf refusedPoll acceptedAfter acceptedPoll pollOf onlineOf offlineOf passiveOf headerAt headerOf headerRefusal settingsOf settingsAt startedWith startOf recordLength entryOf runFrom ranOf replayOn replayOf numberOf written bufferOf
+unfolding baudOf rounded timeOf refuseBelow refuseOutside trial factorsOf newAt unless slotBitsOf hsaOf rotationOf gapWaitOf retryOf minTsdrOf withWatchdog watchdogAt watchdogOf slotCheckOf addressRefusal baudRefusal slotBitsRefusal hsaRefusal rotationRefusal roomRefusal gapWaitRefusal retryRefusal minTsdrRefusal watchdogRefusal factorsRefusal applicationsRefusal earlyRefusal firstRefusal pairOf builtAt buildOf plainOf slotTimeOf minTsdrTimeOf tokenLostOf rotationTimeOf watchdogTimeOf newOf has make claimOf others nextOf prevOf freshOf addOf removeOf passed witnessOf polls gapOf walk nearest betweenOf addTo takeOut keeps sameSet roundOf lapsOf candidateOf bitOf wordOf hasIn fieldOf putOf beFrom loadOf overOf storedOf responseStateOf telegramOf zerosOr14 telegramRefusal telegramWord decisionOf lengthRefusal decisionRefusal decisionWord headOf decisionAt telegramAt entryRefusal wordsRefusal recordRefusal outcomeOf sentFields sentFrom noticeFields noticeFrom refusedAnswer answerWord fullOf answerOf refusalKnown sentMeant meant unpackOf withActivity withGap withPending withTokenTimes withNextApplication withOnline freshCore freshStation withTokenTime knownAt elapsedOf markedAt busyOf ongoingOf waitedOf pauseOf sentAt busActivityOf rxOf slotExpiredOf tokenLostWaitOf doneOf transmitOf claimNext claimTokenOf declinesOn declinesAt usePassOf appTransmitOf firstOr turnOf askedFrom askedOf holdLess capped endOf holdEndOf holdsOf useAppsAfter useAppsOf useTokenTimed useTokenOf validResponse receivedOf withNotice timeoutOf awaitDataOf heardOf responseState listenAnswered listenResponse collided lastRequestToUs listened listenHeard listenTelegram activeCollided remembers acceptedOf tokenToUs tokenWitnessed tokenHeard activeRequested activeHeard handleTelegram heardTelegram heardAll receivedAll consumedAll listenTokenOn handleLostToken listenTokenOf activeResponse activeIdleOn activeIdleOf gapAdvanced passSentOn passSend passPollOn passPoll passTokenOf statusRingOn statusRing statusAnswered statusUnexpected statusReceived awaitStatusOf resendOf checkReceived checkTokenPassOf connectedOf dispatchOf pollOnline pollInner stepAnswer polledOf refusedPoll acceptedAfter acceptedPoll pollOf onlineOf offlineOf passiveOf editionOf lengthOf headerIn headerOf headerRefusal settingsOf settingsAt startedWith startOf recordLength entryOf runFrom ranOf replayOn replayOf numberOf written bufferOf
 examples-1-to-12 = (refl, (refl, (refl, (refl, (refl, (refl, (refl, (refl, (refl, (refl, (refl, ((refl, refl), ((refl, refl), ((refl, refl), ((stations-left .0, refl), ((stations-left .1, refl), ((stations-left .2, refl), ((stations-left .2, refl), ((refl, refl, refl), tt)))))))))))))))))))

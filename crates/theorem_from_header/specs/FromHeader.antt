@@ -1,15 +1,14 @@
 -- From a header to the theorems: the station that a trace's header starts is what `new` gives for settings that `build` made of the
 -- header's fields, and the station after any entries is one that calls make. So what the theorems say of such stations holds inside
 -- every trace.
-use Prim.Native.Nat.{ℕ, _^_}
+use Prim.Native.Nat.{ℕ}
 use mathlib.Core.Path.{_≡_, refl, sym, ap, _∙_, subst}
-use mathlib.Core.Bool.{Bool, true, false, cond, _&&_}
+use mathlib.Core.Bool.{Bool, true, false, cond}
 use mathlib.Core.List.{List, [], _∷_}
 use native.Mathlib.Omega.{arith}
 use borrow.Author.Tests.{eqb-true}
 use borrow.Table.Steps.{cases}
-use lib.ListN.{length}
-use lib.Dec.{eqb, leb}
+use lib.Dec.{eqb}
 use Rattle.settings.specs.declared.Parameters.{Parameters}
 use Rattle.settings.specs.declared.Created.{Created}
 use Rattle.settings.specs.declared.Created.the-variants as created
@@ -28,7 +27,7 @@ use Rattle.station_poll.specs.Poll.{acceptedAfter, acceptedPoll, pollOf}
 use Rattle.trace_headers.specs.declared.Header.{Header}
 use Rattle.trace_headers.specs.Headers.{headerOf, headerRefusal}
 use Rattle.trace.specs.Entries.{entryOf}
-use Rattle.trace.specs.Trace.{settingsOf, settingsAt, Accepted, startedWith, startOf, runOf}
+use Rattle.trace.specs.Trace.{settingsOf, hasHeader, settingsAt, Accepted, startedWith, startOf, runOf}
 use Rattle.theorem_sound.specs.Sound.{Call, poll, online, offline, passive, after, run, SoundStation}
 use Rattle.theorem_sound.specs.Fits.{answerTo}
 use Rattle.theorem_silence.specs.Silence.{gapDue, Start, AllQuiet, Silence}
@@ -85,7 +84,7 @@ header-applies h e =
 started-by : (trace : List ℕ) (fresh : Station) (x : Created) → settingsAt trace ≡ x → startedWith x (headerOf trace .applications) ≡ Accepted fresh → StartedByHeader trace fresh
 unfolding settingsAt settingsOf startedWith
 started-by trace fresh (created.Accepted p) b e =
-    let long = chosen (leb 16 (length trace) && leb (length trace) (2 ^ 32)) _ 17 p b in
+    let long = chosen (hasHeader trace) _ 17 p b in
     let good = chosen (eqb (headerRefusal (headerOf trace)) 0) _ _ p (long .1) in
     record {
       settings = p;

@@ -87,15 +87,19 @@ settings =
     }
 
 starts : startOf trace ≡ Accepted (freshStation settings 1)
-unfolding fieldOf beFrom loadOf headers.headerAt headers.headerOf headers.headerRefusal rules.refuseBelow rules.refuseOutside rules.addressRefusal rules.baudRefusal rules.slotBitsRefusal rules.hsaRefusal rules.rotationRefusal rules.roomRefusal rules.gapWaitRefusal rules.retryRefusal rules.minTsdrRefusal rules.factorsRefusal rules.applicationsRefusal earlyRefusal firstRefusal pairOf builtAt buildOf baudOf settingsOf settingsAt startedWith startOf zerosOr14
+unfolding fieldOf beFrom headers.editionOf headers.lengthOf headers.headerIn headers.headerOf headers.headerRefusal rules.refuseBelow rules.refuseOutside rules.addressRefusal rules.baudRefusal rules.slotBitsRefusal rules.hsaRefusal rules.rotationRefusal rules.roomRefusal rules.gapWaitRefusal rules.retryRefusal rules.minTsdrRefusal rules.factorsRefusal rules.applicationsRefusal earlyRefusal firstRefusal pairOf builtAt buildOf baudOf settingsOf settingsAt startedWith startOf zerosOr14
 starts = refl
 
 one-application : headers.headerOf trace .applications ≡ 1
-unfolding fieldOf beFrom loadOf headers.headerAt headers.headerOf
+unfolding fieldOf beFrom headers.editionOf headers.lengthOf headers.headerIn headers.headerOf
 one-application = refl
 
+all-of-it : length header ≡ headers.headerLength trace
+unfolding headers.editionOf headers.lengthOf
+all-of-it = refl
+
 own-address : headers.headerOf trace .settings .address ≡ 5
-unfolding fieldOf beFrom loadOf headers.headerAt headers.headerOf
+unfolding fieldOf beFrom headers.editionOf headers.lengthOf headers.headerIn headers.headerOf
 own-address = refl
 
 -- the station that the entries leave
@@ -134,7 +138,7 @@ silent-trace =
       earlier = earlier;
       records = silent-records;
       more = [];
-      sixteen = refl;
+      whole-header = all-of-it;
       whole = worked .whole;
       bytes = refl;
       room = omega arith;

@@ -24,7 +24,7 @@ use Rattle.codec_answers.specs.Answers.{unpackOf}
 use Rattle.station.specs.declared.PassTokenAttempt.the-variants.{First}
 use Rattle.station.specs.declared.State.the-variants.{PassToken}
 use Rattle.station.specs.declared.Station.{Station}
-use Rattle.trace_headers.specs.Headers.{headerOf}
+use Rattle.trace_headers.specs.Headers.{headerLength, headerOf}
 use Rattle.trace.specs.Trace.{Accepted, startOf, replayOf, bufferOf}
 use Rattle.theorem_silence.specs.Silence.{online, gapDue, AllQuiet, until, told, countedIn, tokens}
 use Rattle.theorem_every_trace.specs.Statement.{Entry, Whole, laid, along}
@@ -76,12 +76,12 @@ pollEntries (bytes ∷ later) = record { kind = length bytes; bytes = bytes } �
 
 -- a trace in which a station passes its token into silence, and a buffer for its answers
 pub record SilentTrace (trace before : List ℕ) : Type 0 where
-  -- its bytes: the header's 16, those of whole entries, those of polls with these records, and whatever follows
+  -- its bytes: the header's, as many as its edition has, those of whole entries, those of polls with these records, and whatever follows
   pub header : List ℕ
   pub earlier : List Entry
   pub records : List (List ℕ)
   pub more : List ℕ
-  pub sixteen : length header ≡ 16
+  pub whole-header : length header ≡ headerLength trace
   pub whole : Whole earlier
   pub bytes : trace ≡ header ++ (laid earlier ++ (laid (pollEntries records) ++ more))
   -- the buffer has room for the answers to these entries and polls

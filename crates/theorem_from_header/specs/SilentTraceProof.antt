@@ -28,7 +28,7 @@ use Rattle.station.specs.Parts.{stateNumber}
 use Rattle.station_answer.specs.declared.Polled.{Polled}
 use Rattle.station_answer.specs.Answer.{stepAnswer, polledOf, refusedPoll}
 use Rattle.station_poll.specs.Poll.{acceptedAfter, acceptedPoll, pollOf}
-use Rattle.trace_headers.specs.Headers.{headerOf}
+use Rattle.trace_headers.specs.Headers.{headerLength, headerOf}
 use Rattle.trace.specs.Entries.{recordLength, entryOf}
 use Rattle.trace.specs.Trace.{Run, runOf, ranOf, replayOf, written, bufferOf}
 use Rattle.trace.specs.Laws.{replay-started}
@@ -252,14 +252,14 @@ module _ (trace before : List ℕ) (t : SilentTrace trace before) where
   abbrev all-entries : List Entry
   all-entries = t .earlier ++ pollEntries (t .records)
 
-  after-header : drop 16 trace ≡ laid all-entries ++ t .more
+  after-header : drop (headerLength trace) trace ≡ laid all-entries ++ t .more
   after-header =
-      ap (drop 16) (t .bytes)
-      ∙ drop-at (t .header) (laid (t .earlier) ++ (laid (pollEntries (t .records)) ++ t .more)) 16 (t .sixteen)
+      ap (drop (headerLength trace)) (t .bytes)
+      ∙ drop-at (t .header) (laid (t .earlier) ++ (laid (pollEntries (t .records)) ++ t .more)) (headerLength trace) (t .whole-header)
       ∙ sym (append-assoc (laid (t .earlier)) (laid (pollEntries (t .records))) (t .more))
       ∙ ap (λ (l : List ℕ). l ++ t .more) (sym (laid-append (t .earlier) (pollEntries (t .records))))
 
-  begins : Begins (t .fresh) all-entries (runOf (t .fresh) (drop 16 trace) (length before))
+  begins : Begins (t .fresh) all-entries (runOf (t .fresh) (drop (headerLength trace) trace) (length before))
   begins =
       rw after-header
       (run-begins (t .fresh) all-entries (t .more) (length before)
@@ -268,7 +268,7 @@ module _ (trace before : List ℕ) (t : SilentTrace trace before) where
 
   -- the buffer: the answers to the entries so far, those to the silent pollEntries, others, and what was there
   abbrev old : List ℕ
-  old = drop (8 * length (runOf (t .fresh) (drop 16 trace) (length before) .answers)) before
+  old = drop (8 * length (runOf (t .fresh) (drop (headerLength trace) trace) (length before) .answers)) before
 
   abbrev left : List ℕ
   left = bufferOf (replayOf trace (length before)) before

@@ -2,16 +2,15 @@
 use Prim.Native.Nat.{ℕ, zero, suc, _+_, _-_, _*_, _^_, _<_, _≤_}
 use mathlib.Core.Path.{_≡_, refl, sym, ap, _∙_, subst}
 use mathlib.Core.List.{List, [], _∷_, _++_, append-nil, append-assoc}
-use mathlib.Core.Bool.{Bool, true, false, cond, _&&_}
+use mathlib.Core.Bool.{Bool, true, false, cond}
 use native.Mathlib.Omega.{arith}
 use native.Mathlib.Numerals.{add-one}
 use native.Mathlib.Nat.{add-zero, le-refl, sub-zero, zero-add}
 use borrow.Author.Tests.{lt-ltb, le-ltb, leb-true}
 use borrow.Rule.Slice.PartMut.{putMid}
-use borrow.Table.Steps.{cases}
 use lib.ListN.{length, getD, take, drop, take-append-drop, length-drop, length-append, length-take, drop-of-length-le}
-use lib.Seq.{length-take-le, take-all, drop-drop, drop-cons, paste, length-paste, take-paste, drop-paste}
-use lib.Dec.{T, leb, lit≤}
+use lib.Seq.{take-all, drop-drop, drop-cons, paste, length-paste, take-paste, drop-paste}
+use lib.Dec.{T, lit≤}
 use Rattle.bit_times.specs.Laws.{and-true}
 use Rattle.codec_fields.specs.Fields.{bytesOf, storedOf}
 use Rattle.codec_fields.specs.Stores.{stored-room}
@@ -24,10 +23,10 @@ use Rattle.station.specs.declared.Station.{Station}
 use Rattle.station.specs.declared.Started.{Started}
 use Rattle.station.specs.Parts.{freshStation, newStation}
 use Rattle.station_answer.specs.declared.Polled.{Polled}
-use Rattle.trace.specs.Trace.{settingsOf, settingsAt, TraceStart, Accepted, Refused, startedWith, startOf, Run, ended, answered, runFrom, runOf, came, ranOf, replayOn, replayOf, numberOf, written, bufferOf}
+use Rattle.trace.specs.Trace.{settingsOf, settingsAt, TraceStart, Accepted, Refused, startedWith, startOf, Run, ended, answered, runFrom, runOf, ranOf, replayOn, replayOf, numberOf, written, bufferOf}
 use Rattle.trace.specs.Entries.{recordLength, entryOf}
 use Rattle.trace_headers.specs.declared.Header.{Header}
-use Rattle.trace_headers.specs.Headers.{headerOf}
+use Rattle.trace_headers.specs.Headers.{headerLength, headerOf}
 
 -- answers given before, and then those of a run
 abbrev pub precededBy : List Answer → Run → Run
@@ -71,7 +70,7 @@ test-passed true x p e = refl
 test-passed false x p e = absurd (subst T (ap isAccepted (sym e)) tt)
 
 -- settings come only of a trace that has its header and no more than 2^32 bytes
-pub settings-long : (trace : List ℕ) (p : Parameters) → settingsAt trace ≡ created.Accepted p → (16 ≤ length trace) × (length trace ≤ 2 ^ 32)
+pub settings-long : (trace : List ℕ) (p : Parameters) → settingsAt trace ≡ created.Accepted p → (headerLength trace ≤ length trace) × (length trace ≤ 2 ^ 32)
 unfolding settingsAt
 settings-long trace p e =
     let h = and-true _ _ (test-passed _ (settingsOf (headerOf trace)) p e) in
@@ -93,10 +92,10 @@ isStarted (Accepted s) = true
 isStarted (Refused n) = false
 
 -- a station starts only from a trace that has its header and no more than 2^32 bytes
-pub start-long : (trace : List ℕ) (s : Station) → startOf trace ≡ Accepted s → (16 ≤ length trace) × (length trace ≤ 2 ^ 32)
+pub start-long : (trace : List ℕ) (s : Station) → startOf trace ≡ Accepted s → (headerLength trace ≤ length trace) × (length trace ≤ 2 ^ 32)
 start-long trace s e = go (settingsAt trace) refl
   where
-    go : (x : Created) → settingsAt trace ≡ x → (16 ≤ length trace) × (length trace ≤ 2 ^ 32)
+    go : (x : Created) → settingsAt trace ≡ x → (headerLength trace ≤ length trace) × (length trace ≤ 2 ^ 32)
     go (created.Accepted p) f = settings-long trace p f
     go (created.Refused n) f = absurd (subst T (ap isStarted (sym e ∙ start-refused trace n f)) tt)
 
@@ -127,7 +126,7 @@ tail-back out k l bs =
 -- where the loop stands: the run of the whole is that of what is left, after the answers given, which stand in the buffer
 pub record Going (fresh : Station) (trace before answers : List ℕ) (station : Station) (at out entries : ℕ) : Type 0 where
   pub small : length trace ≤ 2 ^ 32
-  pub begun : 16 + entries ≤ at
+  pub begun : headerLength trace + entries ≤ at
   pub within : at ≤ length trace
   pub place : out ≡ 8 * entries
   pub room : out ≤ length answers
@@ -136,10 +135,10 @@ pub record Going (fresh : Station) (trace before answers : List ℕ) (station : 
   pub given : List Answer
   pub many : length given ≡ entries
   pub stand : written given ≡ take out answers
-  pub run : runOf fresh (drop 16 trace) (length before) ≡ precededBy given (runFrom (length trace - 16 - entries) station (drop at trace) (length before - out))
+  pub run : runOf fresh (drop (headerLength trace) trace) (length before) ≡ precededBy given (runFrom (length trace - headerLength trace - entries) station (drop at trace) (length before - out))
 
 -- before the first entry
-pub begins : (fresh : Station) (trace before : List ℕ) → 16 ≤ length trace → length trace ≤ 2 ^ 32 → Going fresh trace before before fresh 16 0 0
+pub begins : (fresh : Station) (trace before : List ℕ) → headerLength trace ≤ length trace → length trace ≤ 2 ^ 32 → Going fresh trace before before fresh (headerLength trace) 0 0
 unfolding written
 begins fresh trace before h small =
     record {
@@ -153,24 +152,24 @@ begins fresh trace before h small =
       given = [];
       many = refl;
       stand = refl;
-      run = rw (length-drop, sub-zero (length trace - 16), sub-zero (length before));
+      run = rw (length-drop, sub-zero (length trace - headerLength trace), sub-zero (length before));
     }
 
 module _ {fresh : Station} {trace before answers : List ℕ} {station : Station} {at out entries : ℕ} (g : Going fresh trace before answers station at out entries) where
   -- where the run ends: what is returned, and what is left in the buffer
   pub over :
       (s : Station) (n : ℕ)
-      → runFrom (length trace - 16 - entries) station (drop at trace) (length before - out) ≡ ended s n
+      → runFrom (length trace - headerLength trace - entries) station (drop at trace) (length before - out) ≡ ended s n
       → (entries * 256 + n ≡ numberOf (ranOf fresh trace (length before))) × (answers ≡ bufferOf (ranOf fresh trace (length before)) before)
   unfolding ranOf numberOf bufferOf
   over s n e =
-      let whole : runOf fresh (drop 16 trace) (length before) ≡ precededBy (g .given) (ended s n) = g .run ∙ ap (precededBy (g .given)) e in
+      let whole : runOf fresh (drop (headerLength trace) trace) (length before) ≡ precededBy (g .given) (ended s n) = g .run ∙ ap (precededBy (g .given)) e in
       let place : 8 * entries ≡ out = sym (g .place) in
       rw (whole, append-nil, g .many, place, g .stand, ← g .kept, take-append-drop) (refl, refl)
 
   module _ (some : at < length trace) where
     -- one entry is counted off
-    fuel : length trace - 16 - entries ≡ suc (length trace - 16 - (entries + 1))
+    fuel : length trace - headerLength trace - entries ≡ suc (length trace - headerLength trace - (entries + 1))
     fuel = omega (arith, g .begun)
 
     -- the entry's first byte, and what follows it
@@ -233,9 +232,9 @@ module _ {fresh : Station} {trace before answers : List ℕ} {station : Station}
         long' = length-paste answers out bs 8 (omega (arith, f)) (lit≤ tt)
 
         more :
-            runFrom (length trace - 16 - entries) station (drop at trace) (length before - out)
+            runFrom (length trace - headerLength trace - entries) station (drop at trace) (length before - out)
             ≡ answered (polled .answer)
-            (runFrom (length trace - 16 - (entries + 1)) (polled .station) (drop (at + 1 + n) trace) (length before - (out + 8)))
+            (runFrom (length trace - headerLength trace - (entries + 1)) (polled .station) (drop (at + 1 + n) trace) (length before - (out + 8)))
         more =
             let a : at + 1 + n - (at + 1) ≡ n = omega arith in
             let b : length before - out - 8 ≡ length before - (out + 8) = omega arith in

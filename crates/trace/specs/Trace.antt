@@ -2,7 +2,7 @@
 -- Assumes nothing.
 use Prim.Native.Nat.{ℕ, zero, suc, _+_, _-_, _*_, _^_}
 use mathlib.Core.List.{List, [], _∷_, _++_}
-use mathlib.Core.Bool.{cond, _&&_}
+use mathlib.Core.Bool.{Bool, cond, _&&_}
 use lib.ListN.{length, take, drop}
 use lib.Dec.{eqb, leb, ltb}
 use Rattle.codec_fields.specs.Fields.{bytesOf}
@@ -14,26 +14,27 @@ use Rattle.codec_answers.specs.Answers.{answerWord}
 use Rattle.station.specs.declared.Station.{Station}
 use Rattle.station.specs.Parts.{freshStation}
 use Rattle.trace_headers.specs.declared.Header.{Header}
-use Rattle.trace_headers.specs.Headers.{headerOf, headerRefusal}
+use Rattle.trace_headers.specs.Headers.{headerLength, headerOf, headerRefusal}
 use Rattle.trace.specs.Entries.{recordLength, entryOf}
 
 -- the settings that a header gives, each field as given; or its first refusal
 unfoldable pub settingsOf : Header → Created
 settingsOf h = cond (eqb (headerRefusal h) 0) (buildOf (h .settings)) (created.Refused (headerRefusal h))
 
--- document 01, "Trace": the bytes of a header, of an answer, and the most bytes of a trace
-abbrev pub headerLength : ℕ
-headerLength = 16
-
+-- document 01, "Trace": the bytes of an answer, and the most bytes of a trace
 abbrev pub answerLength : ℕ
 answerLength = 8
 
 abbrev pub longestTrace : ℕ
 longestTrace = 2 ^ 32
 
+-- whether a trace has its header, by the edition's own length, and no more than 2^32 bytes
+abbrev pub hasHeader : List ℕ → Bool
+hasHeader trace = leb (headerLength trace) (length trace) && leb (length trace) longestTrace
+
 -- the settings of a trace: 17 where it ends inside its header or has more than 2^32 bytes, before all else
 unfoldable pub settingsAt : List ℕ → Created
-settingsAt trace = cond (leb headerLength (length trace) && leb (length trace) longestTrace) (settingsOf (headerOf trace)) (created.Refused 17)
+settingsAt trace = cond (hasHeader trace) (settingsOf (headerOf trace)) (created.Refused 17)
 
 -- the station that is started, or the refusal's number and no station
 pub data TraceStart : Type 0 where
@@ -90,7 +91,7 @@ came run = record { answers = run .answers; ending = run .ending }
 
 -- the run over what follows a trace's header
 unfoldable pub ranOf : Station → List ℕ → ℕ → Replay
-ranOf s trace room = came (runOf s (drop headerLength trace) room)
+ranOf s trace room = came (runOf s (drop (headerLength trace) trace) room)
 
 -- a refused header gives no answer; else the run over what follows it
 unfoldable pub replayOn : TraceStart → List ℕ → ℕ → Replay

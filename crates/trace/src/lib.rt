@@ -1,9 +1,10 @@
-// A trace of document 01, replayed: a header of 16 bytes, then entries, each a command or a poll record, and each entry's
+// A trace of document 01, replayed: a header of either edition, then entries, each a command or a poll record, and each entry's
 // answer into the next eight bytes of the caller's buffer. It leans on trace_headers and settings_build for the header, on
 // station_command and station_poll for the entries, on codec_answers and codec_fields for the bytes.
 ghost use mathlib.Core.Path.{_≡_};
 ghost use Prim.Native.Nat.{_+_, _*_, _≤_, _^_};
 ghost use lib.ListN.{length};
+ghost use Rattle.trace_headers.specs.Headers.{headerLength};
 ghost use Rattle.trace.specs.Entries.{recordLength, entryOf};
 ghost use Rattle.trace.specs.Trace.{settingsOf, settingsAt, ranOf, replayOf, numberOf, bufferOf};
 use codec_fields::store;
@@ -24,11 +25,11 @@ fn header_settings(header: Header) -> Created
     Created::Refused(refusal)
 }
 
-// The settings of a trace. Refusal 17 where it has fewer than 16 bytes or more than 2 to the 32.
+// The settings of a trace. Refusal 17 where it has fewer bytes than its edition's header or more than 2 to the 32.
 fn trace_settings(trace: &[u8]) -> Created
     ensures { λ r. ⌜ r ≡ settingsAt (now (trace .entry)) ⌝ }
 {
-    if trace.len() < 16 {
+    if trace.len() < trace_headers::header_length(trace) {
         return Created::Refused(17);
     }
     if 4294967296 < trace.len() {
@@ -66,12 +67,12 @@ pub fn answer_entry(station: Station, kind: u8, bytes: &[u8]) -> Polled
 // Answers the entries after the header one by one, from a fresh station: the tail of the buffer past the answers given is
 // handed on, and the next answer is written at its head.
 fn run(fresh: Station, trace: &[u8], answers: &mut [u8]) -> u64
-    requires { ⌜ (16 ≤ length (now trace)) × (length (now trace) ≤ 2 ^ 32) ⌝ }
+    requires { ⌜ (headerLength (now trace) ≤ length (now trace)) × (length (now trace) ≤ 2 ^ 32) ⌝ }
     ensures { λ r. ⌜ r ≡ numberOf (ranOf fresh (now (trace .entry)) (length (now (answers .entry)))) ⌝ }
     ensures { λ _. ⌜ now (answers .exit) ≡ bufferOf (ranOf fresh (now (trace .entry)) (length (now (answers .entry)))) (now (answers .entry)) ⌝ }
 {
     let mut station = fresh;
-    let mut at: usize = 16;
+    let mut at = trace_headers::header_length(trace);
     let mut out: usize = 0;
     let mut entries: u64 = 0;
     while at < trace.len() {

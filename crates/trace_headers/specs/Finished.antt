@@ -3,7 +3,7 @@ use Prim.Native.Nat.{ℕ}
 use mathlib.Core.Path.{_≡_, refl}
 use mathlib.Core.List.{List, [], _∷_}
 use Rattle.bit_times.specs.Times.{baudOf}
-use Rattle.codec_fields.specs.Fields.{zerosOr14, fieldOf, beFrom, loadOf}
+use Rattle.codec_fields.specs.Fields.{zerosOr14, fieldOf, beFrom}
 use Rattle.settings.specs.declared.Parameters.{Parameters}
 use Rattle.settings.specs.declared.Changed.the-variants as changed
 use Rattle.settings.specs.Rules.{refuseBelow, refuseOutside, addressRefusal, baudRefusal, slotBitsRefusal, hsaRefusal, rotationRefusal, roomRefusal, factorsRefusal, applicationsRefusal}
@@ -11,7 +11,7 @@ use Rattle.settings.specs.RuleLaws.{none-refuses}
 use Rattle.settings_build.specs.Build.{earlyRefusal, firstRefusal, plainOf, finishOf}
 use Rattle.settings_build.specs.Finish.{site, finished-passes}
 use Rattle.trace_headers.specs.declared.Header.{Header}
-use Rattle.trace_headers.specs.Headers.{headerAt, headerOf, headerRefusal}
+use Rattle.trace_headers.specs.Headers.{editionOf, lengthOf, headerIn, headerOf, headerRefusal}
 
 -- the header with these settings and so many applications, its last byte zero
 abbrev pub headerWith : Parameters → ℕ → Header
@@ -31,5 +31,5 @@ siteHeader = 5 ∷ 6 ∷ 0 ∷ 200 ∷ 0 ∷ 0 ∷ 1 ∷ 0 ∷ 1 ∷ 126 ∷ 1 �
 
 -- it has the site's settings, and is refused with 25
 pub site-header-refused : (headerOf siteHeader ≡ headerWith site 1) × (headerRefusal (headerOf siteHeader) ≡ 25)
-unfolding headerOf headerAt headerRefusal loadOf fieldOf beFrom plainOf earlyRefusal refuseBelow refuseOutside addressRefusal baudRefusal slotBitsRefusal hsaRefusal rotationRefusal roomRefusal baudOf
+unfolding headerOf editionOf lengthOf headerIn headerRefusal fieldOf beFrom plainOf earlyRefusal refuseBelow refuseOutside addressRefusal baudRefusal slotBitsRefusal hsaRefusal rotationRefusal roomRefusal baudOf
 site-header-refused = (refl, refl)

@@ -1,9 +1,11 @@
-//! The proved `replay_trace` as a Rust host calls it. This is the one place with unsafe code.
+//! The proved calls as a Rust host makes them. This is the one place with unsafe code.
 
 mod proved {
     extern "C" {
         /// The call of the static library; its contract is document 01's "Trace".
         pub fn amsulfezd_replay_trace(trace: *const u8, trace_len: usize, answers: *mut u8, answers_len: usize) -> u64;
+        /// The call that moves a header to the other edition: document 02's P9.
+        pub fn amsulfezd_other_edition(header: *const u8, header_len: usize, out: *mut u8, out_len: usize) -> u64;
     }
 }
 
@@ -11,6 +13,12 @@ mod proved {
 pub fn replay_trace(trace: &[u8], answers: &mut [u8]) -> u64 {
     // Safety: both are whole slices, and the call keeps to the two lengths that it is given.
     unsafe { proved::amsulfezd_replay_trace(trace.as_ptr(), trace.len(), answers.as_mut_ptr(), answers.len()) }
+}
+
+/// Moves a header to the other edition by the proved call.
+pub fn other_edition(header: &[u8], out: &mut [u8]) -> u64 {
+    // Safety: as above.
+    unsafe { proved::amsulfezd_other_edition(header.as_ptr(), header.len(), out.as_mut_ptr(), out.len()) }
 }
 
 /// A trace of zero bytes but for its first ones, whose pages the machine has to hand out only when they

@@ -1,5 +1,5 @@
-//! Runs generated traces through the oracle and through a copy of it for each planted error, the settings table where the
-//! list says so, and prints for each error which run shows it. Status 0: each is shown by the run that the list names.
+//! Runs generated traces through the oracle and through a copy of it for each planted error, their headers through the call
+//! that moves them, the settings table where the list says so, and prints for each error which run shows it. Status 0: each is shown by the run that the list names.
 #![forbid(unsafe_code)]
 
 /// The published text writes `log::warn!`.
@@ -15,15 +15,17 @@ mod copies {
 }
 
 use list::{By, PLANTED};
-use oracle::comparison::run::{first_difference, run, Left};
+use oracle::comparison::run::{first_difference, moves_otherwise, run, Left};
 use oracle::comparison::shorten::shorten;
 use oracle::generator::trace;
 use oracle::settings_table::table;
 use oracle::trace::replay_trace;
 
-/// What is run of a copy: its trace call, and its settings table where the error can stand in that.
+/// What is run of a copy: its trace call, the call that moves a header, and its settings table where the error can stand in
+/// that.
 pub struct Runs {
     traces: fn(&[u8], &mut [u8]) -> u64,
+    moves: fn(&[u8], &mut [u8]) -> u64,
     table: fn() -> String,
 }
 
@@ -51,19 +53,30 @@ fn kind_of(expected: &Left, got: &Left) -> &'static str {
     }
 }
 
-/// For each error the trace that shows it, in words, and how many entries the shortened one has.
-fn shown_by_traces() -> Vec<Option<(String, usize)>> {
+/// For each error that traces or moves may show, the trace that does, in words, and how many entries the shortened one has or
+/// how many bytes were lent.
+fn shown_by_traces() -> Vec<Option<(String, String)>> {
     let mut shown = vec![None; PLANTED.len()];
     let mut left: Vec<usize> = (0..PLANTED.len()).filter(|i| PLANTED[*i].by != By::SettingsTable).collect();
     for index in 0..TRACES {
         let made = trace(SEED, index);
         let expected = run(&replay_trace, &made);
         left.retain(|i| {
-            let call = &copies::RUNS[*i].traces;
-            let got = run(call, &made);
-            if let Some(entry) = first_difference(&expected, &got) {
-                let words = format!("trace {}, entry {}: {}", index, entry, kind_of(&expected, &got));
-                shown[*i] = Some((words, shorten(call, &made).entries.len()));
+            let copy = &copies::RUNS[*i];
+            if PLANTED[*i].by != By::Moves {
+                let got = run(&copy.traces, &made);
+                if let Some(entry) = first_difference(&expected, &got) {
+                    let words = format!("trace {}, entry {}: {}", index, entry, kind_of(&expected, &got));
+                    let shortest = shorten(&copy.traces, &made).entries.len();
+                    shown[*i] = Some((words, format!("{} entries", shortest)));
+                }
+            }
+            if PLANTED[*i].by != By::Traces {
+                if let Some(found) = moves_otherwise(&copy.moves, &made) {
+                    let kind = kind_of(&found.expected, &found.got).replace("answers", "writes");
+                    let words = format!("trace {}, room for {}: {}", index, found.expected.buffer.len(), kind);
+                    shown[*i] = Some((words, format!("{} bytes lent", found.lent.len())));
+                }
             }
             shown[*i].is_none()
         });
@@ -85,7 +98,7 @@ fn main() {
     }
     std::panic::set_hook(Box::new(|_| {}));
     let table = table();
-    let (mut by_traces, mut by_table, mut explained, mut missed) = (0, 0, 0, 0);
+    let (mut by_traces, mut by_moves, mut by_table, mut explained, mut missed) = (0, 0, 0, 0, 0);
     println!("| No. | File | Text | Planted | Run | Shown by | Shortest |");
     println!("|---|---|---|---|---|---|---|");
     for (i, (error, shown)) in PLANTED.iter().zip(shown_by_traces()).enumerate() {
@@ -96,7 +109,11 @@ fn main() {
         let cells = match (error.by, shown) {
             (By::Traces, Some((words, shortest))) => {
                 by_traces += 1;
-                format!("traces | {} | {} entries", words, shortest)
+                format!("traces | {} | {}", words, shortest)
+            }
+            (By::Moves, Some((words, shortest))) => {
+                by_moves += 1;
+                format!("moves | {} | {}", words, shortest)
             }
             (By::SettingsTable, _) => match shown_by_table(&table, &copies::RUNS[i]) {
                 Some(line) => {
@@ -110,16 +127,18 @@ fn main() {
                 format!("none | {} |", why)
             }
             (By::Traces, None) => missing("NOT FOUND by traces".to_string()),
+            (By::Moves, None) => missing("NOT FOUND by moves".to_string()),
             (By::Nothing(_), Some((words, _))) => missing(format!("{}, though said to be hidden", words)),
         };
         println!("| {} | `{}.rs` | {} | {} | {} |", i + 1, error.file, cell(error.old), cell(error.new), cells);
     }
     println!();
     println!(
-        "{} planted errors: {} found by traces of seed {}, {} by the settings table, {} explained, {} missed.",
+        "{} planted errors: {} found by traces of seed {}, {} by moves of their headers, {} by the settings table, {} explained, {} missed.",
         PLANTED.len(),
         by_traces,
         SEED,
+        by_moves,
         by_table,
         explained,
         missed

@@ -1,12 +1,12 @@
-//! Compares a program that answers traces with the oracle, or, without one, the oracle with itself, which shows what
+//! Compares a program that makes the calls with the oracle, or, without one, the oracle with itself, which shows what
 //! generated traces reach. `--show SEED INDEX` prints one trace in hex, for `replay_oracle --hex`; `--serve` is such a
 //! program: it answers traces by the oracle.
 #![forbid(unsafe_code)]
 
 use oracle::comparison::program::{serve, Program};
+use oracle::comparison::run::{Calls, ORACLE};
 use oracle::comparison::{compare, hex};
 use oracle::generator::trace;
-use oracle::trace::replay_trace;
 
 const USAGE: &str = "compare_traces: usage: compare_traces SEED COUNT [-- PROGRAM [ARGUMENT..]], two whole numbers, \
                      COUNT above 0; or --show SEED INDEX; or --serve";
@@ -23,8 +23,10 @@ fn status(words: &[String]) -> i32 {
         [seed, count, dashes, program @ ..] if dashes == "--" => {
             return match Program::start(program) {
                 Ok(program) => {
-                    let call = |trace: &[u8], answers: &mut [u8]| program.replay_trace(trace, answers);
-                    compare::main(USAGE, &call, &[seed.clone(), count.clone()])
+                    let replay_trace = |trace: &[u8], answers: &mut [u8]| program.replay_trace(trace, answers);
+                    let other_edition = |header: &[u8], out: &mut [u8]| program.other_edition(header, out);
+                    let calls = Calls { replay_trace: &replay_trace, other_edition: &other_edition };
+                    compare::main(USAGE, calls, &[seed.clone(), count.clone()])
                 }
                 Err(error) => {
                     eprintln!("compare_traces: the program cannot be started: {}", error);
@@ -34,7 +36,7 @@ fn status(words: &[String]) -> i32 {
         }
         _ => {}
     }
-    compare::main(USAGE, &replay_trace, words)
+    compare::main(USAGE, ORACLE, words)
 }
 
 fn main() {

@@ -1,7 +1,7 @@
-//! Runs generated traces through the oracle and through another `replay_trace` and holds the number and every byte of the
-//! answer buffer to each other.
+//! Runs generated traces through the oracle and through another `replay_trace`, and their headers through `other_edition` of
+//! both, and holds the number and every byte of the buffer to each other.
 
-use super::run::{first_difference, parts_from_oracle, run, Replay};
+use super::run::{first_difference, moves_otherwise, parts_from_oracle, run, Call, Calls, Move};
 use super::shorten::shorten;
 use super::words;
 use crate::coverage::Met;
@@ -9,7 +9,7 @@ use crate::generator::trace;
 use crate::trace::{replay_trace, Trace};
 
 /// Both answers in words, on a trace that differs.
-fn describe(replay: Replay, trace: &Trace) -> String {
+fn describe(replay: Call, trace: &Trace) -> String {
     let (expected, got) = (run(&replay_trace, trace), run(replay, trace));
     let entry = first_difference(&expected, &got).unwrap_or(1);
     format!(
@@ -34,6 +34,24 @@ fn describe(replay: Replay, trace: &Trace) -> String {
     )
 }
 
+/// What both calls left, on a header that is moved otherwise.
+fn describe_move(found: &Move) -> String {
+    format!(
+        "  lent, {} bytes:
+    {}
+  a buffer of {} bytes filled with {:02x}; left in it and returned:
+    the oracle:  {}
+    the other:   {}
+",
+        found.lent.len(),
+        words::hex(&found.lent),
+        found.expected.buffer.len(),
+        found.fill,
+        words::moved(&found.expected),
+        words::moved(&found.got),
+    )
+}
+
 /// At most this many points that were never reached are named.
 const NAMED: usize = 20;
 
@@ -41,7 +59,8 @@ const NAMED: usize = 20;
 pub const ENOUGH: u64 = 20_000;
 
 /// Compares `count` traces of the seed; gives the text to print and whether all of it held.
-pub fn compare_traces(replay: Replay, seed: u64, count: u64) -> (String, bool) {
+pub fn compare_traces(calls: Calls, seed: u64, count: u64) -> (String, bool) {
+    let replay = calls.replay_trace;
     let mut met = Met::default();
     for index in 0..count {
         let made = trace(seed, index);
@@ -49,6 +68,10 @@ pub fn compare_traces(replay: Replay, seed: u64, count: u64) -> (String, bool) {
             let shortest = describe(replay, &shorten(replay, &made));
             let at = format!("seed {}, trace {}, entry {}", seed, index, entry);
             return (format!("traces: {}: the answers differ\n{}", at, shortest), false);
+        }
+        if let Some(found) = moves_otherwise(calls.other_edition, &made) {
+            let at = format!("seed {}, trace {}", seed, index);
+            return (format!("traces: {}: the header moves otherwise\n{}", at, describe_move(&found)), false);
         }
         met.see(&made);
     }
@@ -64,17 +87,18 @@ pub fn compare_traces(replay: Replay, seed: u64, count: u64) -> (String, bool) {
     if missed.is_empty() {
         say(format!("all {} coverage points reached", points.size()));
     }
+    say(format!("their headers moved to the other edition and back, {} calls, 0 differ", met.moves));
     say(format!("seed {}, {} traces, {} entries, 0 differ", seed, met.traces, met.entries));
     let reached = missed.is_empty() || count < ENOUGH;
     (said, reached && points.unnamed().is_empty())
 }
 
 /// The whole program: `SEED COUNT`. Gives its exit status.
-pub fn main(usage: &str, replay: Replay, words: &[String]) -> i32 {
+pub fn main(usage: &str, calls: Calls, words: &[String]) -> i32 {
     let numbers: Vec<Option<u64>> = words.iter().map(|word| word.parse().ok()).collect();
     match numbers.as_slice() {
         [Some(seed), Some(count)] if *count > 0 => {
-            let (said, held) = compare_traces(replay, *seed, *count);
+            let (said, held) = compare_traces(calls, *seed, *count);
             print!("{}", said);
             i32::from(!held)
         }

@@ -1,13 +1,19 @@
-//! A `replay_trace` in another process: a program that reads calls from its standard input and writes what each left to
-//! its standard output. So the proved library is compared where this machine cannot link it but can run it.
+//! The calls in another process: a program that reads calls from its standard input and writes what each left to its
+//! standard output. So the proved library is compared where this machine cannot link it but can run it.
 //!
-//! A call is the trace's length and the buffer's, 8 bytes each, most significant first, then the trace and the buffer.
-//! What it left is the number, 8 bytes, a byte that is 1 if nothing but the buffer was changed, and the buffer.
+//! A call is a byte that says which, 0 for `replay_trace` and 1 for `other_edition`, the lengths of the bytes that are lent
+//! and of the buffer, 8 bytes each, most significant first, then these bytes and the buffer. What it left is the number, 8 bytes, a byte that is 1 if nothing but the buffer was changed, and the buffer.
 
+use crate::editions::other_edition;
+use crate::trace::replay_trace;
 use std::cell::RefCell;
 use std::io::{Error, ErrorKind, Read, Result, Write};
 use std::panic::resume_unwind;
 use std::process::{Child, Command, Stdio};
+
+/// Which call is made.
+const REPLAY_TRACE: u8 = 0;
+const OTHER_EDITION: u8 = 1;
 
 /// A program with its arguments, and the process that runs it. After a failure it is started anew, so that a trace that
 /// ends it can be made short.
@@ -23,11 +29,21 @@ impl Program {
         Ok(Program { words: words.to_vec(), running })
     }
 
-    /// Has the program make the call. That it does not answer is a panic, which the comparison counts as a difference.
+    /// Has the program replay a trace.
     pub fn replay_trace(&self, trace: &[u8], answers: &mut [u8]) -> u64 {
+        self.make(REPLAY_TRACE, trace, answers)
+    }
+
+    /// Has the program move a header.
+    pub fn other_edition(&self, header: &[u8], out: &mut [u8]) -> u64 {
+        self.make(OTHER_EDITION, header, out)
+    }
+
+    /// Has the program make the call. That it does not answer is a panic, which the comparison counts as a difference.
+    fn make(&self, which: u8, lent: &[u8], buffer: &mut [u8]) -> u64 {
         let mut running = self.running.borrow_mut();
         let mut child = running.take().unwrap_or_else(|| start(&self.words).expect("it started before"));
-        match call(&mut child, trace, answers) {
+        match call(&mut child, which, lent, buffer) {
             Ok(number) => {
                 *running = Some(child);
                 number
@@ -60,15 +76,15 @@ fn end(mut child: Child) {
     let _ = child.wait();
 }
 
-fn call(child: &mut Child, trace: &[u8], answers: &mut [u8]) -> Result<u64> {
-    let lengths = [trace.len(), answers.len()].map(|length| (length as u64).to_be_bytes());
-    let said = [&lengths.concat()[..], trace, answers].concat();
+fn call(child: &mut Child, which: u8, lent: &[u8], buffer: &mut [u8]) -> Result<u64> {
+    let lengths = [lent.len(), buffer.len()].map(|length| (length as u64).to_be_bytes());
+    let said = [&[which], &lengths.concat()[..], lent, buffer].concat();
     child.stdin.as_mut().expect("its input").write_all(&said)?;
     let output = child.stdout.as_mut().expect("its output");
     let (mut number, mut kept) = ([0; 8], [0]);
     output.read_exact(&mut number)?;
     output.read_exact(&mut kept)?;
-    output.read_exact(answers)?;
+    output.read_exact(buffer)?;
     if kept != [1] {
         return Err(Error::new(ErrorKind::Other, "bytes outside of the buffer were changed"));
     }
@@ -78,14 +94,19 @@ fn call(child: &mut Child, trace: &[u8], answers: &mut [u8]) -> Result<u64> {
 /// Answers calls from standard input by the oracle until it ends: what such a program does.
 pub fn serve() -> Result<()> {
     let (mut input, mut output) = (std::io::stdin().lock(), std::io::stdout().lock());
-    let mut lengths = [0; 16];
-    while input.read_exact(&mut lengths).is_ok() {
+    let mut head = [0; 17];
+    while input.read_exact(&mut head).is_ok() {
+        let (which, lengths) = (head[0], &head[1..]);
         let length = |half: &[u8]| u64::from_be_bytes(half.try_into().expect("8 bytes")) as usize;
-        let (mut trace, mut answers) = (vec![0; length(&lengths[..8])], vec![0; length(&lengths[8..])]);
-        input.read_exact(&mut trace)?;
-        input.read_exact(&mut answers)?;
-        let number = crate::trace::replay_trace(&trace, &mut answers);
-        output.write_all(&[&number.to_be_bytes()[..], &[1], &answers].concat())?;
+        let (mut lent, mut buffer) = (vec![0; length(&lengths[..8])], vec![0; length(&lengths[8..])]);
+        input.read_exact(&mut lent)?;
+        input.read_exact(&mut buffer)?;
+        let number = match which {
+            REPLAY_TRACE => replay_trace(&lent, &mut buffer),
+            OTHER_EDITION => other_edition(&lent, &mut buffer),
+            _ => return Err(Error::new(ErrorKind::Other, "there is no such call")),
+        };
+        output.write_all(&[&number.to_be_bytes()[..], &[1], &buffer].concat())?;
         output.flush()?;
     }
     Ok(())

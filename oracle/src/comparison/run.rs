@@ -1,35 +1,51 @@
-//! Makes a call on a trace, and finds where what it left parts from what the oracle's call left.
+//! Makes a call on a trace or a header, and finds where what it left parts from what the oracle's call left.
 
+use crate::coverage::moves::{lent, ROOMS};
+use crate::editions::other_edition;
 use crate::trace::{replay_trace, Trace, ANSWER};
 use std::panic::{catch_unwind, AssertUnwindSafe};
 
-/// A call like `replay_trace`.
-pub type Replay<'a> = &'a dyn Fn(&[u8], &mut [u8]) -> u64;
+/// A call that is lent bytes to read and a buffer to write.
+pub type Call<'a> = &'a dyn Fn(&[u8], &mut [u8]) -> u64;
+
+/// The calls that are compared.
+#[derive(Clone, Copy)]
+pub struct Calls<'a> {
+    pub replay_trace: Call<'a>,
+    pub other_edition: Call<'a>,
+}
+
+/// The oracle's own.
+pub const ORACLE: Calls = Calls { replay_trace: &replay_trace, other_edition: &other_edition };
 
 /// What a call left: the number it returned, `None` if it panicked, and the whole buffer.
 #[derive(Debug, Clone, PartialEq, Eq)]
 pub struct Left {
     pub number: Option<u64>,
     pub buffer: Vec<u8>,
-    /// Whether the bytes around the buffer and the trace itself are as they were.
+    /// Whether the bytes around the buffer and those lent to be read are as they were.
     pub outside_kept: bool,
 }
 
 /// So many bytes before and after the buffer are watched.
 const AROUND: usize = 64;
 
-/// Makes the call on a trace with the buffer that belongs to it.
-pub fn run(replay: Replay, trace: &Trace) -> Left {
-    let given = trace.bytes();
-    let bytes = given.clone();
-    let mut space = vec![!trace.fill; trace.room + 2 * AROUND];
-    let end = AROUND + trace.room;
-    space[AROUND..end].fill(trace.fill);
+/// Makes the call on these bytes, with a buffer of this length filled with this byte.
+fn run_on(call: Call, given: &[u8], room: usize, fill: u8) -> Left {
+    let bytes = given.to_vec();
+    let mut space = vec![!fill; room + 2 * AROUND];
+    let end = AROUND + room;
+    space[AROUND..end].fill(fill);
     let buffer = &mut space[AROUND..end];
-    let number = catch_unwind(AssertUnwindSafe(|| replay(&bytes, buffer))).ok();
+    let number = catch_unwind(AssertUnwindSafe(|| call(&bytes, buffer))).ok();
     let around = space[..AROUND].iter().chain(&space[end..]);
-    let outside_kept = bytes == given && around.copied().all(|byte| byte == !trace.fill);
+    let outside_kept = bytes == given && around.copied().all(|byte| byte == !fill);
     Left { number, buffer: space[AROUND..end].to_vec(), outside_kept }
+}
+
+/// Makes the call on a trace with the buffer that belongs to it.
+pub fn run(replay: Call, trace: &Trace) -> Left {
+    run_on(replay, &trace.bytes(), trace.room, trace.fill)
 }
 
 /// The entry of the first difference, counted from 1; `None` if the two are the same. A number or a
@@ -47,6 +63,28 @@ pub fn first_difference(expected: &Left, got: &Left) -> Option<usize> {
 }
 
 /// The entry at which a call parts from the oracle on this trace, if it does.
-pub fn parts_from_oracle(replay: Replay, trace: &Trace) -> Option<usize> {
+pub fn parts_from_oracle(replay: Call, trace: &Trace) -> Option<usize> {
     first_difference(&run(&replay_trace, trace), &run(replay, trace))
+}
+
+/// A move of a header to the other edition on which a call parts from the oracle.
+pub struct Move {
+    pub lent: Vec<u8>,
+    pub fill: u8,
+    pub expected: Left,
+    pub got: Left,
+}
+
+/// The first move of this trace's header on which a call parts from the oracle, if it does.
+pub fn moves_otherwise(call: Call, trace: &Trace) -> Option<Move> {
+    for lent in lent(trace) {
+        for room in ROOMS {
+            let expected = run_on(&other_edition, &lent, room, trace.fill);
+            let got = run_on(call, &lent, room, trace.fill);
+            if expected != got {
+                return Some(Move { lent, fill: trace.fill, expected, got });
+            }
+        }
+    }
+    None
 }

@@ -1,16 +1,17 @@
 //! Entries per second of two calls on one long ordinary trace, in one process.
 
-use super::run::Replay;
+use super::run::Call;
+use crate::editions::Edition;
 use crate::generator::ordinary::{header, ordinary_trace};
 use crate::records::{PollRecord, Sent};
-use crate::trace::{Entry, Runner, ANSWER, HEADER};
+use crate::trace::{Entry, Runner, ANSWER};
 use std::time::Instant;
 
 /// How often each call is run.
 const RUNS: usize = 3;
 
 /// Entries per second of one run, and the answers it left.
-fn once(replay: Replay, trace: &[u8], entries: usize) -> (f64, u64, Vec<u8>) {
+fn once(replay: Call, trace: &[u8], entries: usize) -> (f64, u64, Vec<u8>) {
     let mut answers = vec![0; ANSWER * entries];
     let started = Instant::now();
     let number = replay(trace, &mut answers);
@@ -21,7 +22,7 @@ fn once(replay: Replay, trace: &[u8], entries: usize) -> (f64, u64, Vec<u8>) {
 /// its time is the published station's.
 fn station_alone(trace: &[u8]) -> f64 {
     let header = header();
-    let mut rest = &trace[HEADER..];
+    let mut rest = &trace[Edition::of(trace).length()..];
     let mut records = Vec::new();
     while let Some((entry, after)) = Entry::first(rest) {
         if let Entry::Poll(bytes) = entry {
@@ -48,7 +49,7 @@ fn middle_and_spread(runs: &[f64]) -> (f64, f64) {
 }
 
 /// Runs both calls in turn and says how fast each is. `Err` if their answers differ.
-pub fn speed(names: [&str; 2], calls: [Replay; 2], entries: usize) -> Result<String, String> {
+pub fn speed(names: [&str; 2], calls: [Call; 2], entries: usize) -> Result<String, String> {
     let (trace, _) = ordinary_trace(entries);
     let mut runs = [Vec::new(), Vec::new()];
     for _ in 0..RUNS {
@@ -86,7 +87,7 @@ pub fn speed(names: [&str; 2], calls: [Replay; 2], entries: usize) -> Result<Str
 }
 
 /// The whole program: `ENTRIES`, at least a million by default. Gives its exit status.
-pub fn main(names: [&str; 2], calls: [Replay; 2], words: &[String]) -> i32 {
+pub fn main(names: [&str; 2], calls: [Call; 2], words: &[String]) -> i32 {
     let entries = match words {
         [] => Some(2_000_000),
         [word] => word.parse().ok().filter(|entries| *entries > 0),

@@ -43,8 +43,18 @@ pub fn answer(left: &Left, entry: usize) -> String {
 
 /// How the call ended.
 pub fn end(left: &Left) -> String {
+    returned(left, "entries, ending")
+}
+
+/// What a call that moves a header left.
+pub fn moved(left: &Left) -> String {
+    format!("{}: {}", hex(&left.buffer), returned(left, "bytes written, number"))
+}
+
+/// The number that the call returned, in its two parts with these words between them.
+fn returned(left: &Left, between: &str) -> String {
     let number = match left.number {
-        Some(number) => format!("{} entries, ending {}", number / 256, number % 256),
+        Some(number) => format!("{} {} {}", number / 256, between, number % 256),
         None => "nothing: it ended without an answer, or changed bytes outside of its buffer".to_string(),
     };
     number + if left.outside_kept { "" } else { ", and bytes outside of the buffer were changed" }

@@ -2,12 +2,14 @@
 //! did. What traces have to reach is named here; a pair of states that is said to be out of reach and is met is an error.
 
 use super::events::{events, EVENTS};
+use super::moves;
 use super::points::Points;
 use super::poll::{Poll, WALKS_ALONE, WITNESSED};
 use super::refusals;
+use crate::editions::Edition;
 use crate::records::{state::*, Answer, Notice, PollRecord, Sent, Telegram, LAST_CLOCK};
 use crate::ring::Next;
-use crate::trace::{Entry, Header, Runner, Trace, ANSWER, HEADER};
+use crate::trace::{Entry, Header, Runner, Trace, ANSWER};
 
 /// The states by document 01's numbers.
 const STATES: [&str; 9] = [
@@ -162,9 +164,10 @@ fn pairs<A: ToString, B: ToString>(first: &[A], link: &str, second: &[B]) -> Vec
 /// What was met.
 pub struct Met {
     points: Points,
-    /// Traces and entries walked.
+    /// Traces and entries walked, and calls that move a header.
     pub traces: u64,
     pub entries: u64,
+    pub moves: u64,
 }
 
 impl Default for Met {
@@ -185,6 +188,8 @@ impl Default for Met {
         points.group("refused entry", pairs(&[12, 13, 14, 15, 16], " in ", &STATES));
         points.group("command or transmitting", pairs(&["online", "offline", "transmitting"], " in ", &STATES));
         refusals::name_points(&mut points);
+        moves::name_points(&mut points);
+        points.group("entries behind", ["16 bytes", "14 bytes"]);
         points.group("ending", ENDINGS);
         points.group("answer buffer", ["all used", "bytes left over", "eight or more left over"]);
         let codes: Vec<usize> = (0..11).collect();
@@ -207,7 +212,7 @@ impl Default for Met {
         points.group("gap walk alone", WALKS_ALONE);
         points.group("reply to a gap question alone", pairs(&STATION_TYPES, ", ", &OK));
         points.group("event", CLOCKS.iter().chain(&EVENTS));
-        Met { points, traces: 0, entries: 0 }
+        Met { points, traces: 0, entries: 0, moves: 0 }
     }
 }
 
@@ -216,22 +221,25 @@ impl Met {
     pub fn see(&mut self, trace: &Trace) {
         self.traces += 1;
         let bytes = trace.bytes();
-        if bytes.len() < HEADER {
-            self.points.hit("refused header", 17);
-            return self.points.hit("ending", if bytes.is_empty() { "17: empty trace" } else { "17: in the header" });
-        }
-        let (head, mut rest) = bytes.split_at(HEADER);
-        let header = Header::read(head.try_into().expect("16 bytes"));
-        refusals::see_header(&mut self.points, &header);
-        if header.refusal().is_some() {
-            return;
-        }
+        self.moves += moves::see(&mut self.points, trace);
+        refusals::see_start(&mut self.points, &bytes);
+        let header = match Header::read(&bytes) {
+            Some(header) if header.refusal().is_some() => return,
+            Some(header) => header,
+            None => {
+                let ending = if bytes.is_empty() { "17: empty trace" } else { "17: in the header" };
+                return self.points.hit("ending", ending);
+            }
+        };
+        let edition = Edition::of(&bytes);
+        let mut rest = &bytes[edition.length()..];
         self.points.hit("applications", header.applications);
         let mut runner = Runner::new(&header);
         let (mut room, mut clock, mut company) = (trace.room, None, Company::default());
         if rest.is_empty() {
             return self.points.hit("ending", "0: no entry");
         }
+        self.points.hit("entries behind", if edition == Edition::First { "16 bytes" } else { "14 bytes" });
         while !rest.is_empty() {
             let mut ends = |condition: bool, ending| {
                 if condition {

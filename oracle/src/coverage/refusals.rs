@@ -2,14 +2,33 @@
 
 use super::points::Points;
 use crate::baud::LEAST_SLOT_BITS;
+use crate::editions::{Edition, SECOND};
 use crate::records::{split, Decision, Place, PollRecord, Telegram, DECISION, TELEGRAM};
 use crate::trace::Header;
 
+/// The groups of headers of an edition: refused ones, those at an edge, those with two faults, and those with a rotation at the
+/// edge of its room for a gap poll.
+fn header_groups(edition: Edition) -> [&'static str; 4] {
+    match edition {
+        Edition::First => ["refused header", "header at an edge", "header with two faults", "room for a gap poll"],
+        Edition::Second => [
+            "refused header of edition 2",
+            "header of edition 2 at an edge",
+            "header of edition 2 with two faults",
+            "room for a gap poll in edition 2",
+        ],
+    }
+}
+
 /// Headers at and just outside the edges of each field's range; after the colon the number of the refusal.
-const HEADER_EDGES: [&str; 37] = [
+const HEADER_EDGES: [&str; 41] = [
     "address 0",
     "address 125",
     "address 126: 1",
+    "address 127: 1",
+    "address 128: 1",
+    "address 129: 1",
+    "address 131: 1",
     "address 255: 1",
     "baud 10",
     "baud 11: 10",
@@ -46,9 +65,76 @@ const HEADER_EDGES: [&str; 37] = [
     "last byte 255: 14",
 ];
 
+/// The same in edition 2, where a field can be no larger than its bits: a retry of 16 and no application cannot be written.
+const SECOND_EDGES: [&str; 48] = [
+    "address 0",
+    "address 125",
+    "address 126: 1",
+    "address 127: 1",
+    "baud 0",
+    "baud 10",
+    "baud 11: 10",
+    "baud 15: 10",
+    "slot 65535",
+    "slot 0: 2",
+    "HSA own + 1",
+    "HSA 126",
+    "HSA 0: 3",
+    "HSA own: 3",
+    "HSA 127: 3",
+    "rotation 256",
+    "rotation 16777960",
+    "rotation 0: 4",
+    "rotation 255: 4",
+    "rotation 16777961: 4",
+    "rotation 33554431: 4",
+    "gap 1",
+    "gap 100",
+    "gap 0: 5",
+    "gap 101: 5",
+    "gap 127: 5",
+    "retry 1",
+    "retry 15",
+    "retry 0: 6",
+    "min Tsdr 11",
+    "min Tsdr 255",
+    "min Tsdr 0: 7",
+    "min Tsdr 10: 7",
+    "applications 1",
+    "applications 2",
+    "applications 3",
+    "applications 4",
+    "applications 5",
+    "applications 6",
+    "applications 7",
+    "applications 8",
+    "factors none",
+    "factors 255, 255",
+    "factors 0, 1: 8",
+    "factors 1, 0: 8",
+    "last bits 1: 14",
+    "last bits 64: 14",
+    "last bits 127: 14",
+];
+
 /// Two faults in one header: the first of document 01's order gives the number.
 const TWO_FAULTS: [(u8, u8); 10] =
     [(1, 10), (10, 3), (2, 3), (3, 4), (4, 5), (5, 6), (6, 7), (7, 11), (11, 8), (8, 14)];
+
+/// The same in edition 2, which has no 11.
+const SECOND_TWO_FAULTS: [(u8, u8); 9] = [(1, 10), (10, 3), (2, 3), (3, 4), (4, 5), (5, 6), (6, 7), (7, 8), (8, 14)];
+
+/// Neighbours of an edition's order.
+fn neighbours(edition: Edition) -> &'static [(u8, u8)] {
+    match edition {
+        Edition::First => &TWO_FAULTS,
+        Edition::Second => &SECOND_TWO_FAULTS,
+    }
+}
+
+/// What the first byte of a trace can be, and how many bytes there are.
+const FIRST_BYTES: [&str; 4] = ["82h", "0 to 125", "126 or 127", "128 to 255 but 82h"];
+const LENGTHS: [&str; 6] = ["under 13", "13", "14", "15", "16", "more"];
 
 /// Document 02's 25 with one other fault and no third: it comes "directly after 4".
 const WITHOUT_ROOM: [(u8, u8); 11] =
@@ -94,13 +180,23 @@ const STRAY: [(&str, &[&str]); 4] = [
 ];
 
 pub fn name_points(points: &mut Points) {
-    points.group("refused header", [1, 10, 2, 3, 4, 25, 5, 6, 7, 11, 8, 14, 17]);
     let slots = (0..LEAST_SLOT_BITS.len())
         .flat_map(|code| [format!("least slot at code {}", code), format!("one slot bit too few at code {}: 2", code)]);
-    points.group("header at an edge", HEADER_EDGES.iter().map(|edge| edge.to_string()).chain(slots));
-    let two_faults = TWO_FAULTS.iter().chain(&WITHOUT_ROOM);
-    points.group("header with two faults", two_faults.map(|(first, second)| format!("{} before {}", first, second)));
-    points.group("room for a gap poll", ROOM_EDGES);
+    for edition in [Edition::First, Edition::Second] {
+        let [refused, at_edge, two_faults, room] = header_groups(edition);
+        // edition 2 cannot say that there is no application
+        let said = |number: u8| edition == Edition::First || number != 11;
+        let numbers = [1, 10, 2, 3, 4, 25, 5, 6, 7, 11, 8, 14, 17].into_iter();
+        points.group(refused, numbers.filter(|number| said(*number)));
+        let edges = if edition == Edition::First { &HEADER_EDGES[..] } else { &SECOND_EDGES };
+        points.group(at_edge, edges.iter().map(|edge| edge.to_string()).chain(slots.clone()));
+        let pairs =
+            neighbours(edition).iter().chain(&WITHOUT_ROOM).filter(|(first, second)| said(*first) && said(*second));
+        points.group(two_faults, pairs.map(|(first, second)| format!("{} before {}", first, second)));
+        points.group(room, ROOM_EDGES);
+    }
+    let with_lengths = |first| LENGTHS.map(|length| format!("{}, {} bytes", first, length));
+    points.group("first byte and length", FIRST_BYTES.iter().flat_map(with_lengths));
     let in_decisions = (0..16).flat_map(|i| [(14, Place::Decision(i)), (15, Place::Decision(i))]);
     let in_telegrams = (0..8).map(|i| (14, Place::Telegram(i)));
     let others = [(12, Place::Head), (12, Place::Length), (13, Place::Count)];
@@ -120,7 +216,27 @@ fn stray_name(kind: &str, field: &str) -> String {
     format!("{}: {}", kind, field)
 }
 
-pub fn see_header(points: &mut Points, h: &Header) {
+/// A trace's first byte and its length, and its header, if it has one.
+pub fn see_start(points: &mut Points, trace: &[u8]) {
+    let first = match trace.first() {
+        None => return points.hit(header_groups(Edition::First)[0], 17),
+        Some(&SECOND) => 0,
+        Some(0..=125) => 1,
+        Some(126 | 127) => 2,
+        Some(_) => 3,
+    };
+    let length = LENGTHS[trace.len().clamp(12, 17) - 12];
+    points.hit("first byte and length", format_args!("{}, {} bytes", FIRST_BYTES[first], length));
+    let edition = Edition::of(trace);
+    match Header::read(trace) {
+        Some(header) => see_header(points, edition, &header),
+        None => points.hit(header_groups(edition)[0], 17),
+    }
+}
+
+fn see_header(points: &mut Points, edition: Edition, h: &Header) {
+    let [refused, at_edge, two_faults, _] = header_groups(edition);
+    let last = if edition == Edition::First { "last byte" } else { "last bits" };
     let faults = h.faults();
     let value = |name: &str, value: u32| format!("{} {}", name, value);
     let hsa = match u32::from(h.hsa).checked_sub(h.address.into()) {
@@ -143,7 +259,7 @@ pub fn see_header(points: &mut Points, h: &Header) {
         (7, value("min Tsdr", h.min_tsdr.into())),
         (11, value("applications", h.applications.into())),
         (8, factors),
-        (14, value("last byte", h.zero.into())),
+        (14, value(last, h.zero.into())),
     ];
     match LEAST_SLOT_BITS.get(usize::from(h.baud)) {
         Some(least) if h.slot == *least => values.push((2, value("least slot at code", h.baud.into()))),
@@ -152,25 +268,26 @@ pub fn see_header(points: &mut Points, h: &Header) {
     }
     for (number, point) in values {
         if faults.is_empty() {
-            points.hit_if_named("header at an edge", point);
+            points.hit_if_named(at_edge, point);
         } else if faults == [number] || (number == 1 && faults == [1, 3]) || (number == 4 && faults == [4, 25]) {
             // no HSA is above an address of 126 or more, and few slots leave a rotation below 256 its room
-            points.hit_if_named("header at an edge", format_args!("{}: {}", point, number));
+            points.hit_if_named(at_edge, format_args!("{}: {}", point, number));
         }
     }
-    see_room(points, h, &faults);
+    see_room(points, edition, h, &faults);
     if let Some(number) = faults.first() {
-        points.hit("refused header", number);
+        points.hit(refused, number);
     }
-    for (first, second) in TWO_FAULTS {
-        if faults.starts_with(&[first, second]) {
-            points.hit("header with two faults", format_args!("{} before {}", first, second));
+    for (first, second) in neighbours(edition) {
+        if faults.starts_with(&[*first, *second]) {
+            points.hit(two_faults, format_args!("{} before {}", first, second));
         }
     }
 }
 
 /// The rotation's room for a gap poll: at its edges, and where there is too little and one fault more.
-fn see_room(points: &mut Points, h: &Header, faults: &[u8]) {
+fn see_room(points: &mut Points, edition: Edition, h: &Header, faults: &[u8]) {
+    let [_, _, two_faults, room] = header_groups(edition);
     let refused = match faults {
         [] => "",
         [25] => ": 25",
@@ -178,14 +295,14 @@ fn see_room(points: &mut Points, h: &Header, faults: &[u8]) {
             // no HSA is above an address of 126 or more
             let pair = if faults == [1, 3, 25] { &[1, 25] } else { faults };
             if let Some((first, second)) = WITHOUT_ROOM.iter().find(|(first, second)| pair == [*first, *second]) {
-                points.hit("header with two faults", format_args!("{} before {}", first, second));
+                points.hit(two_faults, format_args!("{} before {}", first, second));
             }
             return;
         }
     };
-    points.hit_if_named("room for a gap poll", format_args!("slot {}, rotation {}{}", h.slot, h.rotation, refused));
+    points.hit_if_named(room, format_args!("slot {}, rotation {}{}", h.slot, h.rotation, refused));
     let more = i64::from(h.rotation) - i64::from(h.slot);
-    points.hit_if_named("room for a gap poll", format_args!("any slot, rotation slot + {}{}", more, refused));
+    points.hit_if_named(room, format_args!("any slot, rotation slot + {}{}", more, refused));
 }
 
 /// A record that is refused.

@@ -2,6 +2,7 @@
 
 use super::seed::Seed;
 use crate::baud::LEAST_SLOT_BITS;
+use crate::editions::Edition;
 use crate::ring::LAST;
 use crate::trace::{least_rotation, Header};
 
@@ -53,29 +54,50 @@ fn shortest_rotation(slot: u16) -> u32 {
     least_rotation(slot).max(256)
 }
 
-/// The number of fields, and the places of slot and rotation among them, in the order in which document 01 checks them.
+/// The number of fields, and the places of some among them, in the order in which document 01 checks them.
 const FIELDS: u64 = 11;
 const SLOT: u64 = 2;
 const ROTATION: u64 = 4;
+const APPLICATIONS: u64 = 8;
 
 /// Puts one field at or beyond the edge of its range, or two neighbouring ones beyond theirs, or the rotation at or below the
 /// edge of its room for a gap poll.
-pub fn edge_header(seed: &mut Seed, header: &mut Header) {
-    match seed.below(5) {
-        0 | 1 => {
+pub fn edge_header(seed: &mut Seed, edition: Edition, header: &mut Header) {
+    match seed.below(6) {
+        0..=2 => {
             // the slot has an edge for each baud code
             let field = if seed.one_in(3) { SLOT } else { seed.below(FIELDS) };
             let beyond = seed.coin();
             edge_field(seed, header, field, beyond);
         }
-        2 | 3 => {
+        3 | 4 => {
             let first = seed.below(FIELDS - 1);
             // without a baud rate there is no least slot
             let second = if first + 1 == SLOT { SLOT + 1 } else { first + 1 };
+            // edition 2 has no number of applications that is bad
+            let second = if edition == Edition::Second && second == APPLICATIONS { second + 1 } else { second };
             edge_field(seed, header, first, true);
             edge_field(seed, header, second, true);
         }
         _ => edge_room(seed, header),
+    }
+    if edition == Edition::Second {
+        *header = fitted(header);
+    }
+}
+
+/// The header with no field above what edition 2 has bits for: the largest of these in its place, and 0 for a retry.
+fn fitted(header: &Header) -> Header {
+    Header {
+        address: header.address.min(127),
+        baud: header.baud.min(15),
+        rotation: header.rotation.min((1 << 25) - 1),
+        gap: header.gap.min(127),
+        hsa: header.hsa.min(127),
+        retry: if header.retry > 15 { 0 } else { header.retry },
+        applications: header.applications.clamp(1, 8),
+        zero: header.zero.min(127),
+        ..*header
     }
 }
 
@@ -121,7 +143,7 @@ fn edge_field(seed: &mut Seed, header: &mut Header, field: u64, beyond: bool) {
     let own = u32::from(header.address);
     match field {
         0 => {
-            header.address = of(&[0, 125], &[126, 127, 128, 255]) as u8;
+            header.address = of(&[0, 125], &[126, 127, 128, 129, 131, 255]) as u8;
             if !beyond {
                 header.hsa = 126;
             }
@@ -146,11 +168,11 @@ fn edge_field(seed: &mut Seed, header: &mut Header, field: u64, beyond: bool) {
         5 => header.gap = of(&[1, 100], &[0, 101, 255]) as u8,
         6 => header.retry = of(&[1, 15], &[0, 16, 255]) as u8,
         7 => header.min_tsdr = of(&[11, 255], &[0, 10]) as u8,
-        8 => header.applications = of(&[1, 8], &[0, 9, 255]) as u8,
+        APPLICATIONS => header.applications = of(&[1, 8], &[0, 9, 255]) as u8,
         9 => {
             let factors = of(&[0x0000, 0x01ff, 0xffff], &[0x0001, 0x0100, 0x00ff, 0xff00]);
             header.factors = ((factors / 256) as u8, (factors % 256) as u8);
         }
-        _ => header.zero = of(&[0], &[1, 128, 255]) as u8,
+        _ => header.zero = of(&[0], &[1, 64, 128, 255]) as u8,
     }
 }

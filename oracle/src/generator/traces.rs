@@ -3,7 +3,8 @@
 use super::entries::Maker;
 use super::headers::{edge_header, good_header};
 use super::seed::Seed;
-use crate::trace::{Trace, ANSWER, HEADER};
+use crate::editions::{Edition, SECOND};
+use crate::trace::{Trace, ANSWER};
 
 /// What kinds of traces are made.
 #[derive(Debug, Clone, Copy, PartialEq, Eq)]
@@ -18,6 +19,8 @@ enum Kind {
     Edge,
     /// An answer buffer that is too small, or just large enough.
     Small,
+    /// A header under the first byte of the other edition, or under one that no header has.
+    Mixed,
 }
 
 /// The trace with this index. The seed gives the same traces on every machine.
@@ -27,12 +30,14 @@ pub fn trace(seed: u64, index: u64) -> Trace {
         0 => Kind::Cut,
         1 => Kind::Damaged,
         2 => Kind::Small,
-        3..=6 => Kind::Edge,
+        3..=7 => Kind::Edge,
+        8 => Kind::Mixed,
         _ => Kind::Whole,
     };
+    let edition = if seed.coin() { Edition::Second } else { Edition::First };
     let mut header = good_header(&mut seed);
     if kind == Kind::Edge {
-        edge_header(&mut seed, &mut header);
+        edge_header(&mut seed, edition, &mut header);
     }
     // few addresses below HSA, so that the gap walk of a lone station comes to its end
     if kind == Kind::Whole && index % 64 == 63 {
@@ -42,7 +47,7 @@ pub fn trace(seed: u64, index: u64) -> Trace {
     }
     let length = if kind == Kind::Whole { seed.pick(&[20, 60, 100, 150]) } else { seed.between(0, 30) };
     let fill = seed.pick(&[0x00, 0xff, 0xa5, 0x5a]);
-    let mut made = Trace { header: header.write(), entries: Vec::new(), room: 0, fill };
+    let mut made = Trace { header: header.write_as(edition), entries: Vec::new(), room: 0, fill };
     if header.refusal().is_none() {
         let mut maker = Maker::new(seed, header);
         made.entries = (0..length).map(|_| maker.next_entry()).collect();
@@ -54,6 +59,7 @@ pub fn trace(seed: u64, index: u64) -> Trace {
         Kind::Cut => cut(&mut seed, &mut made),
         Kind::Damaged => (0..seed.between(1, 3)).for_each(|_| damage(&mut seed, &mut made)),
         Kind::Small => made.room = seed.below((full + ANSWER) as u64) as usize,
+        Kind::Mixed => mix(&mut seed, &mut made),
         Kind::Whole | Kind::Edge => {}
     }
     made
@@ -62,7 +68,7 @@ pub fn trace(seed: u64, index: u64) -> Trace {
 /// Cuts the trace off: in the header, or in or between entries.
 fn cut(seed: &mut Seed, made: &mut Trace) {
     if seed.one_in(4) || made.entries.is_empty() {
-        made.header.truncate(seed.below(HEADER as u64) as usize);
+        made.header.truncate(seed.below(made.header.len() as u64) as usize);
         made.entries.clear();
         return;
     }
@@ -78,6 +84,22 @@ fn cut(seed: &mut Seed, made: &mut Trace) {
     }
     if seed.one_in(8) {
         made.room = seed.below((ANSWER * left) as u64) as usize;
+    }
+}
+
+/// Gives the trace another first byte: that of edition 2, one of edition 1, or one that no header has. Half of the traces then
+/// end near the lengths of the two editions' headers.
+fn mix(seed: &mut Seed, made: &mut Trace) {
+    made.header[0] = match seed.below(5) {
+        0 => SECOND,
+        1 => seed.below(126) as u8,
+        2 => seed.pick(&[126, 127]),
+        3 => seed.pick(&[128, 129, 131, 255]),
+        _ => seed.between(128, 255) as u8,
+    };
+    if seed.coin() {
+        made.entries.clear();
+        made.header.resize(seed.between(12, 17) as usize, seed.below(4) as u8);
     }
 }
 
@@ -119,7 +141,10 @@ mod tests {
     fn generated_headers_are_accepted() {
         let mut seed = Seed::new(2);
         for _ in 0..1000 {
-            assert!(Header::accepted(&good_header(&mut seed).write()).is_some());
+            let header = good_header(&mut seed);
+            for edition in [Edition::First, Edition::Second] {
+                assert_eq!(Header::accepted(&header.write_as(edition)), Some(header));
+            }
         }
     }
 }

@@ -1,13 +1,11 @@
 //! Document 01, "Trace": the header, the entries, and the call that replays them.
 
 use crate::baud::{Baudrate, LEAST_SLOT_BITS};
+use crate::editions::Edition;
 use crate::fdl::{FdlActiveStation, FdlApplication, Parameters, ParametersBuilder};
 use crate::port::{RecordApplication, RecordPort};
 use crate::records::{Answer, Notice, PollRecord, Sent};
 use crate::time::Instant;
-
-/// The header's length in bytes.
-pub const HEADER: usize = 16;
 
 /// The longest trace: "is above 2^32 bytes" is refused.
 pub const LONGEST: u64 = 1 << 32;
@@ -15,8 +13,7 @@ pub const LONGEST: u64 = 1 << 32;
 /// The bytes of one answer.
 pub const ANSWER: usize = 8;
 
-/// The header's fields as given: "address 8, baud 8, slot 16, rotation 32, gap 8, HSA 8, retry 8, min
-/// Tsdr 8, applications 8, factors 8 + 8 (both zero or neither), zero 8".
+/// The header's fields as given, in either edition.
 #[derive(Debug, Clone, Copy, PartialEq, Eq)]
 pub struct Header {
     pub address: u8,
@@ -48,25 +45,9 @@ impl Header {
         zero: 0,
     };
 
-    pub fn read(bytes: &[u8; HEADER]) -> Header {
-        let [address, baud, s0, s1, r0, r1, r2, r3, gap, hsa, retry, min_tsdr, applications, f1, f2, zero] = *bytes;
-        let (slot, rotation) = (u16::from_be_bytes([s0, s1]), u32::from_be_bytes([r0, r1, r2, r3]));
-        let factors = (f1, f2);
-        Header { address, baud, slot, rotation, gap, hsa, retry, min_tsdr, applications, factors, zero }
-    }
-
-    pub fn write(&self) -> Vec<u8> {
-        let (f1, f2) = self.factors;
-        let mut bytes = vec![self.address, self.baud];
-        bytes.extend(self.slot.to_be_bytes());
-        bytes.extend(self.rotation.to_be_bytes());
-        bytes.extend([self.gap, self.hsa, self.retry, self.min_tsdr, self.applications, f1, f2, self.zero]);
-        bytes
-    }
-
     /// The header that a trace starts with, if it has one that is accepted.
     pub fn accepted(trace: &[u8]) -> Option<Header> {
-        let header = Header::read(trace.get(..HEADER)?.try_into().ok()?);
+        let header = Header::read(trace)?;
         header.refusal().is_none().then_some(header)
     }
 
@@ -243,15 +224,18 @@ pub fn replay_trace(trace: &[u8], answers: &mut [u8]) -> u64 {
 
 /// The entries answered, and the ending number.
 fn replay(trace: &[u8], answers: &mut [u8]) -> (u64, u8) {
-    if trace.len() as u64 > LONGEST || trace.len() < HEADER {
+    if trace.len() as u64 > LONGEST {
         return (0, 17);
     }
-    let (head, mut rest) = trace.split_at(HEADER);
-    let header = Header::read(head.try_into().expect("16 bytes"));
+    let header = match Header::read(trace) {
+        Some(header) => header,
+        None => return (0, 17),
+    };
     if let Some(number) = header.refusal() {
         return (0, number);
     }
     let mut runner = Runner::new(&header);
+    let mut rest = &trace[Edition::of(trace).length()..];
     let mut room = answers;
     let mut answered = 0;
     while !rest.is_empty() {

@@ -19,9 +19,14 @@ Inv-loop trace answers₀ station₀ at₀ out₀ entries₀ answers station at 
 abbrev μ-loop : tie.MeasureT-loop
 μ-loop trace answers₀ station₀ at₀ out₀ entries₀ answers station at out entries = length trace - at
 
+header-length-requires : tie.Need-header-length-requires Inv-loop μ-loop
+header-length-requires c κs = search needs
+
 -- src/lib.rt:201:5
 loop-holds : tie.Need-loop-holds Inv-loop μ-loop
-loop-holds c = begins _ _ _ (c .before .before .pre .0) (c .before .before .pre .1)
+loop-holds c =
+    let start = c .before .before .before in
+    rw (c .header-length .ensures .0) (begins _ _ _ (start .pre .0) (start .pre .1))
 
 -- src/lib.rt:202:20
 shared-slice-read-kind : tie.Need-shared-slice-read-kind Inv-loop μ-loop
@@ -160,6 +165,7 @@ run-spec =
     (tie.spec
     Inv-loop
     μ-loop
+    header-length-requires
     loop-holds
     shared-slice-read-kind
     record-length-requires

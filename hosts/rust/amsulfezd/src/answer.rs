@@ -1,6 +1,6 @@
 //! Document 01, "Answer, 64 bits", and document 02 (P5) for the next station.
 
-use crate::bits::{word_of, Reader, Writer};
+use crate::bits::{Reader, Writer};
 use crate::number::{unknown, with_number, UnknownNumber};
 use crate::record::StationType;
 use crate::refusal::Refusal;
@@ -269,7 +269,7 @@ impl TryFrom<u64> for Answer {
 
     /// What 64 bits say, if an answer has them: every number known, every field without a meaning zero.
     fn try_from(bits: u64) -> Result<Answer, NotAnAnswer> {
-        let mut word = Reader::new(bits, 64);
+        let mut word = Reader::new(bits);
         let refusal = word.take_byte(5);
         let outcome = word.take_byte(3);
         let state = word.take_byte(4);
@@ -377,6 +377,7 @@ impl<'a> Iterator for Answers<'a> {
 
     fn next(&mut self) -> Option<Result<Answer, NotAnAnswer>> {
         let chunk = self.chunks.next()?;
-        Some(Answer::try_from(word_of(chunk)))
+        let bytes = chunk.try_into().expect("chunks of 8 bytes");
+        Some(Answer::try_from(u64::from_be_bytes(bytes)))
     }
 }

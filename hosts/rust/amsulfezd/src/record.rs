@@ -393,7 +393,7 @@ impl fmt::Display for Unfit {
 impl std::error::Error for Unfit {}
 
 /// Says which value does not fit into a field of this width.
-fn fits(name: &'static str, value: u64, width: u32) -> Result<(), Unfit> {
+pub(crate) fn fits(name: &'static str, value: u64, width: u32) -> Result<(), Unfit> {
     if value >> width == 0 {
         Ok(())
     } else {

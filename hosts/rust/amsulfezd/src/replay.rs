@@ -1,6 +1,7 @@
-//! The proved call, safe. Only where the static library is linked (see `build.rs`).
+//! The proved calls, safe. Only where the static library is linked (see `build.rs`).
 
 use crate::answer::{Answer, ANSWER_LENGTH};
+use crate::refusal::Refusal;
 use crate::run::{from_buffer, Run};
 use crate::trace::entries;
 
@@ -11,6 +12,14 @@ extern "C" {
         trace_len: usize,
         answers: *mut u8,
         answers_len: usize,
+    ) -> u64;
+
+    /// The proved call as `hosts/c/amsulfezd.h` documents it.
+    fn amsulfezd_other_edition(
+        header: *const u8,
+        header_len: usize,
+        out: *mut u8,
+        out_len: usize,
     ) -> u64;
 }
 
@@ -73,4 +82,33 @@ pub fn replay_whole(trace: &[u8]) -> (Run, Vec<Answer>) {
     let run = replay(trace, &mut buffer);
     let answers = from_buffer(&buffer, &run).expect("the call is proved to write answers");
     (run, answers)
+}
+
+/// Moves the header at the start of `header`, which may be a whole trace, to the other edition: 14 bytes for 16, 16 for 14.
+/// They go to the start of `out`, and their number is given; all other bytes of `out` keep their value, and so do all where the
+/// header is refused. Refused: [`Refusal::Cut`] where the slice is shorter than a header of its edition, then the header's own
+/// number, then [`Refusal::NoRoom`].
+///
+/// ```
+/// use amsulfezd::replay::other_edition;
+/// use amsulfezd::trace::{Edition, Header};
+///
+/// let header = Header::new(5, 6, 1);
+/// let (mut second, mut first) = ([0; 14], [0; 16]);
+/// assert_eq!(other_edition(&header.to_bytes(), &mut second), Ok(14));
+/// assert_eq!(second[..], header.to_edition(Edition::Second)?);
+/// assert_eq!(other_edition(&second, &mut first), Ok(16));
+/// assert_eq!(first, header.to_bytes());
+/// # Ok::<(), amsulfezd::record::Unfit>(())
+/// ```
+pub fn other_edition(header: &[u8], out: &mut [u8]) -> Result<usize, Refusal> {
+    // SAFETY: as for `replay`.
+    let returned = unsafe {
+        amsulfezd_other_edition(header.as_ptr(), header.len(), out.as_mut_ptr(), out.len())
+    };
+    match returned % 256 {
+        0 => Ok((returned / 256) as usize),
+        number => Err(Refusal::try_from(number as u8)
+            .expect("the call is proved to return one of its refusal numbers")),
+    }
 }

@@ -1,6 +1,6 @@
 //! Numbers and settings in words, as all texts about a trace have them.
 
-use crate::trace::{Header, BAUD_RATES};
+use crate::trace::{Edition, Header, BAUD_RATES};
 
 /// A number with a comma before each group of three digits.
 pub fn thousands(number: u64) -> String {
@@ -15,8 +15,8 @@ pub fn thousands(number: u64) -> String {
     grouped
 }
 
-/// The settings in words, on one line.
-pub fn settings(header: &Header) -> String {
+/// The settings in words, on one line. That a header is of edition 1 goes without saying.
+pub fn settings(header: &Header, edition: Edition) -> String {
     let rate = match BAUD_RATES.get(usize::from(header.baud)) {
         Some(&rate) => format!("{} bits a second", thousands(u64::from(rate))),
         None => "unknown".to_string(),
@@ -27,11 +27,18 @@ pub fn settings(header: &Header) -> String {
     };
     let zero = match header.zero {
         0 => String::new(),
-        number => format!(", last byte {}", number),
+        number => match edition {
+            Edition::First => format!(", last byte {}", number),
+            Edition::Second => format!(", last bits {}", number),
+        },
+    };
+    let edition = match edition {
+        Edition::First => "",
+        Edition::Second => "; header of edition 2",
     };
     format!(
         "Station {}, baud code {} ({}), slot {} bits, rotation {} bits, gap wait {}, HSA {}, retry {}, min Tsdr {}, \
-         {}, {}{}",
+         {}, {}{}{}",
         header.address,
         header.baud,
         rate,
@@ -43,7 +50,8 @@ pub fn settings(header: &Header) -> String {
         header.min_tsdr,
         counted(usize::from(header.applications), "application"),
         watchdog,
-        zero
+        zero,
+        edition
     )
 }
 

@@ -1,4 +1,4 @@
-//! The proved call, where it is linked: it answers as the stories of traces/ say.
+//! The proved calls, where they are linked: they answer as the stories of traces/ say.
 
 #![allow(unknown_lints, unexpected_cfgs)]
 #![cfg(linked)]
@@ -7,8 +7,9 @@ mod stored;
 
 use amsulfezd::answer::{answers, Answer};
 use amsulfezd::refusal::Refusal;
-use amsulfezd::replay::{replay, replay_whole};
+use amsulfezd::replay::{other_edition, replay, replay_whole};
 use amsulfezd::run::{from_text, to_text};
+use amsulfezd::trace::{in_other_edition, Edition};
 use stored::{files, traces};
 
 #[test]
@@ -73,4 +74,50 @@ fn several_threads_may_call() {
             assert_eq!(again, once);
         }
     }
+}
+
+/// Each stored trace's header moves to the other edition and back, or is refused as its story says, with every room from none
+/// to some to spare; no other byte changes. The moved trace has the same answers.
+#[test]
+fn headers_move_and_their_traces_are_answered_alike() {
+    let mut moved = [0, 0];
+    for path in files(&traces(), "trace") {
+        let trace = std::fs::read(&path).expect("the trace");
+        let (run, answers) = replay_whole(&trace);
+        // a run that reads entries or the end has an accepted header
+        let cut = trace.len() < Edition::of(&trace).header_length();
+        let refused = match run.ending {
+            Some(Refusal::Cut) if !cut => None,
+            ending => ending,
+        };
+        let other = if refused.is_none() {
+            let other = in_other_edition(&trace).expect("an accepted header fits");
+            assert_eq!(replay_whole(&other), (run, answers), "{}", path.display());
+            moved[usize::from(Edition::of(&trace) == Edition::Second)] += 1;
+            other
+        } else {
+            Vec::new()
+        };
+        let length = Edition::of(&trace).other().header_length();
+        for room in 0..20 {
+            let mut out = vec![0xa5; room];
+            let mut expected = out.clone();
+            let returned = match refused {
+                Some(refusal) => Err(refusal),
+                None if room < length => Err(Refusal::NoRoom),
+                None => {
+                    expected[..length].copy_from_slice(&other[..length]);
+                    Ok(length)
+                }
+            };
+            assert_eq!(
+                other_edition(&trace, &mut out),
+                returned,
+                "{}",
+                path.display()
+            );
+            assert_eq!(out, expected, "{}, room {}", path.display(), room);
+        }
+    }
+    assert!(moved[0] > 10 && moved[1] > 3, "{:?}", moved);
 }

@@ -27,7 +27,7 @@ fn claims(story: &mut Story) {
 }
 
 /// Three applications take turns.
-fn several_applications() -> Story {
+pub fn several_applications() -> Story {
     let mut story = Story::new(
         "applications",
         Header::new(5, 6, 3),

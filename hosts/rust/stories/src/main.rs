@@ -6,6 +6,7 @@ mod alone;
 mod applications;
 mod bus;
 mod collisions;
+mod editions;
 mod fine_points;
 mod gap_room;
 mod night;
@@ -50,6 +51,7 @@ fn stories() -> Vec<Story> {
     all.push(gap_room::story());
     all.extend(refusals::stories());
     all.extend(gap_room::headers());
+    all.extend(editions::stories());
     all
 }
 

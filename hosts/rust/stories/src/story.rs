@@ -6,7 +6,7 @@ use amsulfezd::answer::{Answer, NextStation, Notice, Outcome, Sent, State};
 use amsulfezd::record::{Poll, StationType, Telegram};
 use amsulfezd::refusal::Refusal;
 use amsulfezd::run::{to_text, Run};
-use amsulfezd::trace::{Header, TraceBuilder};
+use amsulfezd::trace::{Edition, Header, TraceBuilder, HEADER_LENGTH};
 use amsulfezd::words::{settings, thousands};
 
 /// The program `replay` reads no more.
@@ -149,6 +149,8 @@ pub struct Story {
     title: &'static str,
     tale: &'static str,
     header: Header,
+    /// The header's fields in edition 2, each as its bits, stated by hand; none in edition 1.
+    bits: Option<[&'static str; 13]>,
     trace: TraceBuilder,
     answers: Vec<Answer>,
     lines: Vec<String>,
@@ -175,6 +177,7 @@ impl Story {
             title,
             tale,
             header,
+            bits: None,
             trace: TraceBuilder::new(header),
             answers: Vec::new(),
             lines: Vec::new(),
@@ -185,6 +188,30 @@ impl Story {
             next_application: 0,
             next_station: NextStation::Nobody,
         }
+    }
+
+    /// The story with its header in edition 2, whose fields are these bits: 82h, address, baud code, slot, rotation, gap wait,
+    /// HSA, retry, min Tsdr, applications less one, the two factors, zero.
+    pub fn edition_2(mut self, bits: [&'static str; 13]) -> Story {
+        let widths = bits.map(str::len);
+        assert_eq!(widths, [8, 7, 4, 16, 25, 7, 7, 4, 8, 3, 8, 8, 7]);
+        assert_eq!(
+            Header::from_bytes(&bytes_of(&bits.concat())),
+            Some(self.header),
+            "{}: the bits do not say what the words say",
+            self.name
+        );
+        self.bits = Some(bits);
+        self
+    }
+
+    /// The same entries and answers under another name, without notes.
+    pub fn retold(mut self, name: &'static str, title: &'static str, tale: &'static str) -> Story {
+        self.name = name;
+        self.title = title;
+        self.tale = tale;
+        self.notes.clear();
+        self
     }
 
     /// From the next entry on, answers carry this next station.
@@ -319,6 +346,9 @@ impl Story {
     /// The bytes of the trace.
     pub fn trace(&self) -> Vec<u8> {
         let mut bytes = self.trace.clone().into_bytes();
+        if let Some(bits) = self.bits {
+            bytes.splice(..HEADER_LENGTH, bytes_of(&bits.concat()));
+        }
         bytes.truncate(bytes.len() - self.cut);
         assert!(bytes.len() <= LARGEST, "{} is too long", self.name);
         bytes
@@ -344,7 +374,14 @@ impl Story {
     /// The story in words.
     pub fn text(&self) -> String {
         let mut text = format!("{}\n\n{}\n\n", self.title, self.tale.trim());
-        text.push_str(&format!("{}.\n\n", settings(&self.header)));
+        let edition = match self.bits {
+            Some(_) => Edition::Second,
+            None => Edition::First,
+        };
+        text.push_str(&format!("{}.\n\n", settings(&self.header, edition)));
+        if let Some(bits) = self.bits {
+            text.push_str(&working(&bits));
+        }
         if !self.lines.is_empty() {
             text.push_str(
                 "Entry by entry: what happens, why, and the answer that the documents and the Rust ask for. The first word\n\
@@ -368,6 +405,43 @@ impl Story {
         ));
         text
     }
+}
+
+/// The bytes of these bits, eight by eight.
+fn bytes_of(bits: &str) -> Vec<u8> {
+    let value = |byte: &[u8]| byte.iter().fold(0, |value, bit| 2 * value + (bit - b'0'));
+    bits.as_bytes().chunks(8).map(value).collect()
+}
+
+/// A header of edition 2, worked out: its fields' bits one after the other, and the same bits eight by eight.
+fn working(bits: &[&'static str; 13]) -> String {
+    let fields = [
+        "82h",
+        "address",
+        "baud code",
+        "slot",
+        "rotation",
+        "gap wait",
+        "HSA",
+        "retry",
+        "min Tsdr",
+        "applications less one",
+        "watchdog factor 1",
+        "watchdog factor 2",
+        "zero",
+    ];
+    let mut text = "The header's 14 bytes, from its fields' bits:\n\n".to_string();
+    for (bits, field) in bits.iter().zip(fields) {
+        text.push_str(&format!("  {:25}  {}\n", bits, field));
+    }
+    text.push_str("\nEight by eight:\n\n");
+    let all = bits.concat();
+    for (eight, byte) in all.as_bytes().chunks(8).zip(bytes_of(&all)) {
+        let eight = std::str::from_utf8(eight).expect("digits");
+        text.push_str(&format!("  {}  {:02x}\n", eight, byte));
+    }
+    text.push('\n');
+    text
 }
 
 /// An answer's fields by their names; those that are zero are left out, but for next application and next station.

@@ -93,6 +93,24 @@ fn the_program_replays_every_trace() {
     std::fs::remove_dir_all(&folder).expect("the folder goes");
 }
 
+/// A story told again with its header in edition 2: two bytes fewer, the same entries, the same answers.
+#[test]
+fn stories_told_again_have_the_same_answers() {
+    for name in ["example12", "night", "applications"] {
+        let read = |name: &str| std::fs::read(traces().join(name)).expect("the file");
+        let first = read(&format!("{}.trace", name));
+        let second = read(&format!("edition-2/{}.trace", name));
+        assert_eq!(first.len(), second.len() + 2, "{}", name);
+        assert_eq!(first[16..], second[14..], "{}", name);
+        assert_eq!(
+            read(&format!("{}.answers", name)),
+            read(&format!("edition-2/{}.answers", name)),
+            "{}",
+            name
+        );
+    }
+}
+
 /// Document 01's example 12 as it is printed there, with document 02's ending of each line (P5).
 #[test]
 fn example_12_is_the_documents() {

@@ -6,9 +6,10 @@ use amsulfezd::answer::{Answer, NextStation, Notice, Outcome, Sent, State};
 use amsulfezd::record::{Poll, Telegram};
 use amsulfezd::refusal::Refusal;
 use amsulfezd::run::Run;
-use amsulfezd::trace::{entries, Entry, Header};
+use amsulfezd::trace::{entries, Edition, Entry, Header};
 use amsulfezd::words::counted;
-pub use amsulfezd::words::{settings, thousands};
+use amsulfezd::words::settings;
+pub use amsulfezd::words::thousands;
 use std::fmt;
 
 /// Explains a run: the settings, a line for each entry that is shown, and how it ended.
@@ -23,8 +24,8 @@ pub fn explain(
         Some(range) => format!("{}\n", range),
         None => String::new(),
     };
-    let heading = match &explained.header {
-        Some(header) => format!("{}\n{}\n", settings(header), range),
+    let heading = match &explained.settings {
+        Some(settings) => format!("{}\n{}\n", settings, range),
         None => String::new(),
     };
     Ok(format!(
@@ -40,6 +41,8 @@ pub fn explain(
 pub struct Explanation<'a> {
     /// None if the trace ends inside it.
     pub header: Option<Header>,
+    /// The header in words.
+    pub settings: Option<String>,
     /// For each entry that was answered.
     pub lines: Vec<Line<'a>>,
     /// How the run ended.
@@ -59,8 +62,10 @@ impl<'a> Explanation<'a> {
             None => Vec::new(),
         };
         check_ending(trace, answers, run)?;
+        let edition = Edition::of(trace);
         Ok(Explanation {
             header,
+            settings: header.map(|header| settings(&header, edition)),
             lines,
             ending: ending(run, trace),
         })
@@ -648,7 +653,11 @@ fn ending(run: &Run, trace: &[u8]) -> String {
             run.entries, number
         ),
         Some(Refusal::Cut) if Header::from_bytes(trace).is_none() => format!(
-            "The trace ends inside its header: nothing is answered. Ending number {}.",
+            "The trace ends inside its header{}: nothing is answered. Ending number {}.",
+            match Edition::of(trace) {
+                Edition::First => "",
+                Edition::Second => " of edition 2",
+            },
             number
         ),
         Some(Refusal::Cut) => format!(

@@ -38,6 +38,10 @@ fn stored_outputs() {
         "headers/17-cut",
         "headers/25-site",
         "headers/accepted-limits",
+        "edition-2/example12",
+        "edition-2/13-bytes",
+        "edition-2/14-zero",
+        "edition-2/83h-16-bytes",
     ] {
         let stored = package()
             .join("tests/explained")

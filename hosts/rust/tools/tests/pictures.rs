@@ -973,9 +973,27 @@ fn every_leaving_ends_a_lane() {
     }
     assert_eq!(
         (count, back),
-        (15, 5),
+        (16, 5),
         "leavings, and stations that come back"
     );
+}
+
+/// The settings say that a header is of edition 2, and the entries are drawn as those behind the same settings in edition 1.
+#[test]
+fn the_edition_is_said_and_changes_no_entry() {
+    let words = "; header of edition 2";
+    for name in ["example12", "night", "applications"] {
+        let first = drawn(&stored_replay(name));
+        let second = drawn(&stored_replay(&format!("edition-2/{}", name)));
+        let settings = joined(&first, "settings");
+        assert_eq!(joined(&second, "settings"), settings + words);
+        let titles = |picture: &Element| -> Vec<String> {
+            let entries = picture.with_class("entry");
+            let words = |entry: &&Element| entry.title().expect("words").to_string();
+            entries.iter().map(words).collect()
+        };
+        assert_eq!(titles(&first), titles(&second), "{}", name);
+    }
 }
 
 /// An entry has something red exactly if it is refused, an application's time ran out, our own address was heard, or the

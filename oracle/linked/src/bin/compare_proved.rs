@@ -1,24 +1,36 @@
-//! Compares the proved `replay_trace` with the oracle's on seeded traces: SEED COUNT.
+//! Compares the proved calls with the oracle's on seeded traces: SEED COUNT.
 
 use oracle::comparison::compare;
-use oracle::trace::{replay_trace, Header, LONGEST};
+use oracle::comparison::run::{Calls, ORACLE};
+use oracle::editions::Edition;
+use oracle::trace::{Header, LONGEST};
 
 const USAGE: &str = "compare_proved: usage: compare_proved SEED COUNT, two whole numbers, COUNT above 0";
 
-/// Traces of 2^32 bytes and one more, with a good and a bad header and room for two answers: the longer ones are refused
-/// with 17 before all else. `None` if there is no room for such traces.
+/// The calls of the static library.
+const PROVED: Calls = Calls { replay_trace: &linked::replay_trace, other_edition: &linked::other_edition };
+
+/// Traces of 2^32 bytes and one more, with good headers of both editions and a bad one and room for two answers: the longer
+/// ones are not replayed but refused with 17 before all else; their headers move as others do. `None` if there is no room for
+/// such traces.
 fn longest_traces() -> Option<Result<(), String>> {
     for length in [LONGEST, LONGEST + 1] {
-        for header in [Header::EXAMPLE_12.write(), vec![200; 16]] {
-            let trace = linked::long_trace(&header, usize::try_from(length).ok()?)?;
-            let (mut ours, mut proved) = ([0xa5; 16], [0xa5; 16]);
-            let expected = replay_trace(trace, &mut ours);
-            let got = linked::replay_trace(trace, &mut proved);
-            if (expected, ours) != (got, proved) {
-                return Some(Err(format!(
-                    "traces: {} bytes, header byte {}: the oracle returns {}, the proved call {}, or their buffers differ",
-                    length, header[0], expected, got
-                )));
+        let good = [Edition::First, Edition::Second].map(|edition| Header::EXAMPLE_12.write_as(edition));
+        for header in good.iter().chain(&[vec![200; 16]]) {
+            let trace = linked::long_trace(header, usize::try_from(length).ok()?)?;
+            let calls = [
+                ("replay_trace", ORACLE.replay_trace, PROVED.replay_trace),
+                ("other_edition", ORACLE.other_edition, PROVED.other_edition),
+            ];
+            for (name, oracle, proved) in calls {
+                let (mut ours, mut theirs) = ([0xa5; 16], [0xa5; 16]);
+                let (expected, got) = (oracle(trace, &mut ours), proved(trace, &mut theirs));
+                if (expected, ours) != (got, theirs) {
+                    return Some(Err(format!(
+                        "traces: {} bytes, header byte {}, {}: the oracle returns {}, the proved call {}, or their buffers differ",
+                        length, header[0], name, expected, got
+                    )));
+                }
             }
         }
     }
@@ -27,13 +39,13 @@ fn longest_traces() -> Option<Result<(), String>> {
 
 fn main() {
     let words: Vec<String> = std::env::args().skip(1).collect();
-    let status = compare::main(USAGE, &linked::replay_trace, &words);
+    let status = compare::main(USAGE, PROVED, &words);
     if status != 0 {
         std::process::exit(status);
     }
     match longest_traces() {
         None => println!("traces: none of 2^32 bytes: this machine has no room for them"),
-        Some(Ok(())) => println!("traces: 2 of 2^32 bytes and 2 of one byte more, 0 differ"),
+        Some(Ok(())) => println!("traces: 3 of 2^32 bytes and 3 of one byte more, 0 differ"),
         Some(Err(said)) => {
             println!("{}", said);
             std::process::exit(1);

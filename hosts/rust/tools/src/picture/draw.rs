@@ -15,7 +15,7 @@ use super::shapes::{
     refusal_shape,
 };
 use super::svg::{shortened, text_width, wrapped, Anchor, Px, Svg};
-use crate::explain::{settings, thousands, Explanation, Line};
+use crate::explain::{thousands, Explanation, Line};
 use crate::from_replay::Replay;
 use amsulfezd::answer::{Answer, NextStation, Notice, Outcome, Sent, State};
 use amsulfezd::refusal::Refusal;
@@ -111,7 +111,7 @@ fn draw_bus(svg: &mut Svg, scene: &Scene, top: Px, ending: Option<(Refusal, &str
 
 /// The picture in a few words, for a reader who does not see it.
 fn description(explained: &Explanation, events: &[Event]) -> String {
-    let mut parts: Vec<String> = explained.header.iter().map(settings).collect();
+    let mut parts: Vec<String> = explained.settings.iter().cloned().collect();
     let labels: Vec<&str> = events.iter().map(|event| &event.label[..]).collect();
     if !labels.is_empty() {
         parts.push(format!("In this order: {}", labels.join("; ")));
@@ -155,8 +155,8 @@ fn draw_heading(svg: &mut Svg, replay: &Replay, explained: &Explanation, width: 
     let short = shortened(&replay.name, NAME, width - 2 * MARGIN);
     svg.text("name", MARGIN, top, NAME, Anchor::Start, &short);
     let mut bottom = top + 4;
-    if let Some(header) = &explained.header {
-        bottom = draw_text(svg, "settings", bottom, width, &settings(header));
+    if let Some(settings) = &explained.settings {
+        bottom = draw_text(svg, "settings", bottom, width, settings);
     }
     if let Some(range) = &replay.view.range {
         bottom = draw_text(svg, "range", bottom, width, &range.to_string());
