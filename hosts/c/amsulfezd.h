@@ -2,14 +2,16 @@
  * Amsulfezd: a proved PROFIBUS FDL active station, for C (C99 and later) and C++ (C++11 and later).
  *
  * A trace is a header of 16 bytes and then entries: commands and poll records. The proved call
- * amsulfezd_replay_trace runs a trace and writes an answer of 8 bytes for each entry. In this file, in this order:
+ * amsulfezd_replay_trace runs a trace and writes an answer of 8 bytes for each entry. amsulfezd_read_frame reads a frame
+ * as it stands on the bus, amsulfezd_write_frame writes one. In this file, in this order:
  *
  *   the numbers in traces and answers      enum amsulfezd_..
  *   the call                               amsulfezd_replay_trace, amsulfezd_entries, amsulfezd_ending
+ *   frames                                 amsulfezd_read_frame, amsulfezd_write_frame, amsulfezd_frame_..
  *   readers of an answer                   amsulfezd_answer, amsulfezd_answer_..
  *   writers of a trace                     amsulfezd_write_header, amsulfezd_write_command, amsulfezd_write_poll
  *
- * example.c uses all four. The field widths are document 01's, "Station" and "Trace".
+ * example.c uses all but the frames. The field widths are document 01's, "Station" and "Trace".
  *
  * Linking. `rt staticlib amsulfezd` proves the library and writes target/staticlib/libamsulfezd.a. From the
  * repository's root:
@@ -77,7 +79,15 @@ enum amsulfezd_refusal {
     AMSULFEZD_REFUSAL_NO_BYTES = 15,        /* sending 0 bytes */
     AMSULFEZD_REFUSAL_PASSIVE = 16,         /* passive */
     AMSULFEZD_REFUSAL_CUT = 17,             /* trace ends inside header or entry, or is above 2^32 bytes */
-    AMSULFEZD_REFUSAL_NO_ROOM = 18          /* no 8 bytes left for an answer */
+    AMSULFEZD_REFUSAL_NO_ROOM = 18,         /* no 8 bytes left for an answer; no room for a frame */
+    /* Document 02's, of a frame: */
+    AMSULFEZD_REFUSAL_FRAME_CUT = 19,         /* frame empty or cut short */
+    AMSULFEZD_REFUSAL_START_BYTE = 20,        /* start byte */
+    AMSULFEZD_REFUSAL_FRAME_HEADER = 21,      /* SD2 header: its repeated bytes differ, or the length is outside 4..249 */
+    AMSULFEZD_REFUSAL_CHECK_BYTE = 22,        /* check byte */
+    AMSULFEZD_REFUSAL_END_BYTE = 23,          /* end byte */
+    AMSULFEZD_REFUSAL_ADDRESS_EXTENSION = 24, /* address extension bit */
+    AMSULFEZD_REFUSAL_FUNCTION_CODE = 34      /* top bit of the function code set; to be written: any other request */
 };
 
 /* How a poll ended. */
@@ -141,6 +151,21 @@ enum amsulfezd_telegram_kind {
     AMSULFEZD_TELEGRAM_RESPONSE = 3
 };
 
+/* Bytes with a meaning in a frame. */
+enum amsulfezd_frame_byte {
+    AMSULFEZD_FRAME_SD1 = 0x10,           /* start byte: no data, 6 bytes */
+    AMSULFEZD_FRAME_SD2 = 0x68,           /* start byte: data of any length, 10 to 255 bytes */
+    AMSULFEZD_FRAME_SD3 = 0xa2,           /* start byte: 8 data bytes, 14 bytes */
+    AMSULFEZD_FRAME_SD4 = 0xdc,           /* start byte: a token, 3 bytes */
+    AMSULFEZD_FRAME_SC = 0xe5,            /* start byte: a short confirmation, 1 byte */
+    AMSULFEZD_FRAME_END = 0x16,           /* the end byte of SD1, SD2 and SD3 */
+    AMSULFEZD_FRAME_STATUS_REQUEST = 0x49 /* the function code of a status request */
+};
+
+/* The longest frame that is read, and the longest that is written, in bytes. */
+#define AMSULFEZD_FRAME_READ_LENGTH 255
+#define AMSULFEZD_FRAME_WRITTEN_LENGTH 6
+
 /* ---- The call ---------------------------------------------------------------------------------------------------- */
 
 #ifndef AMSULFEZD_WITHOUT_CALL
@@ -185,6 +210,61 @@ static inline uint64_t amsulfezd_entries(uint64_t returned)
 static inline unsigned amsulfezd_ending(uint64_t returned)
 {
     return (unsigned)(returned % 256);
+}
+
+/* ---- Frames ------------------------------------------------------------------------------------------------------ */
+
+#ifndef AMSULFEZD_WITHOUT_CALL
+/*
+ * Reads one frame, as it stands on the bus, at the start of these bytes. Bytes after the frame are not looked at.
+ *
+ * Returns word * 65536 + bytes used * 256 + 0, or, refused, the number alone: 19 to 24 or 34 of enum amsulfezd_refusal.
+ * The word is that of a telegram in a poll record: kind 2 bits, destination 7, source 7, status request 1, station type
+ * 2, status 4, zero 9. Data are left out. Take it apart with amsulfezd_frame_number, amsulfezd_frame_bytes,
+ * amsulfezd_frame_word and amsulfezd_telegram_of.
+ *
+ * The order in which a frame is refused: 19 empty; 20 start byte; 19 for a header of SD2 with fewer than 4 bytes, then
+ * 21 if its length or its start byte is not repeated or the length is outside 4 to 249; 19 cut short; 22 check byte;
+ * 23 end byte; 24 an address with its bit 7 set (SC has none); 34 a function code with its top bit set.
+ *
+ * What the caller must ensure: `frame` points to frame_len readable bytes for the time of the call, is not NULL, not even
+ * with length 0, and nobody writes to it during the call. Any content is allowed. Nothing is written. The call keeps no
+ * pointer, allocates nothing, has no state and always returns; its time grows with the frame's length, at most 255 bytes.
+ */
+uint64_t amsulfezd_read_frame(const uint8_t *frame, size_t frame_len);
+
+/*
+ * Writes a telegram's word as a frame to the start of `frame`: a token with SD4, 3 bytes, a short confirmation with SC, 1
+ * byte, a status request or a response with SD1, 6 bytes.
+ *
+ * Returns bytes written * 256 + 0, or, refused, the number alone, and then nothing is written: 14 if a bit is set that
+ * should be zero, 34 for any other request, 18 if there is no room for the frame, in this order.
+ *
+ * Which bytes change: those of the frame. All others of `frame` keep their value, and nothing else is written.
+ *
+ * What the caller must ensure: `frame` points to frame_len writable bytes for the time of the call, is not NULL, not even
+ * with length 0, and nobody else writes to it during the call. The call keeps no pointer, allocates nothing, has no state
+ * and always returns.
+ */
+uint64_t amsulfezd_write_frame(uint32_t word, uint8_t *frame, size_t frame_len);
+#endif
+
+/* The refusal, of what either call on frames returned: see enum amsulfezd_refusal. */
+static inline unsigned amsulfezd_frame_number(uint64_t returned)
+{
+    return (unsigned)(returned % 256);
+}
+
+/* How many bytes were used or written, of what either call on frames returned. */
+static inline unsigned amsulfezd_frame_bytes(uint64_t returned)
+{
+    return (unsigned)(returned / 256 % 256);
+}
+
+/* The telegram's word, of what amsulfezd_read_frame returned. */
+static inline uint32_t amsulfezd_frame_word(uint64_t returned)
+{
+    return (uint32_t)(returned / 65536);
 }
 
 /* ---- Readers of an answer ---------------------------------------------------------------------------------------- */

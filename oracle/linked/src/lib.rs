@@ -1,9 +1,13 @@
-//! The proved `replay_trace` as a Rust host calls it. This is the one place with unsafe code.
+//! The proved calls as a Rust host makes them. This is the one place with unsafe code.
 
 mod proved {
     extern "C" {
         /// The call of the static library; its contract is document 01's "Trace".
         pub fn amsulfezd_replay_trace(trace: *const u8, trace_len: usize, answers: *mut u8, answers_len: usize) -> u64;
+        /// Document 02, P1: reading a frame.
+        pub fn amsulfezd_read_frame(frame: *const u8, frame_len: usize) -> u64;
+        /// Document 02, P1: writing a frame.
+        pub fn amsulfezd_write_frame(word: u32, frame: *mut u8, frame_len: usize) -> u64;
     }
 }
 
@@ -11,6 +15,18 @@ mod proved {
 pub fn replay_trace(trace: &[u8], answers: &mut [u8]) -> u64 {
     // Safety: both are whole slices, and the call keeps to the two lengths that it is given.
     unsafe { proved::amsulfezd_replay_trace(trace.as_ptr(), trace.len(), answers.as_mut_ptr(), answers.len()) }
+}
+
+/// Reads a frame by the proved call.
+pub fn read_frame(frame: &[u8]) -> u64 {
+    // Safety: it is a whole slice, and the call keeps to its length.
+    unsafe { proved::amsulfezd_read_frame(frame.as_ptr(), frame.len()) }
+}
+
+/// Writes a frame by the proved call.
+pub fn write_frame(word: u32, frame: &mut [u8]) -> u64 {
+    // Safety: it is a whole slice, and the call keeps to its length.
+    unsafe { proved::amsulfezd_write_frame(word, frame.as_mut_ptr(), frame.len()) }
 }
 
 /// A trace of zero bytes but for its first ones, whose pages the machine has to hand out only when they
