@@ -644,12 +644,25 @@ static inline uint64_t amsulfezd_decision_word(const struct amsulfezd_decision *
            (uint64_t)decision->reply_address << 15 | (uint64_t)decision->length << 7;
 }
 
-/* For amsulfezd_write_poll: a telegram's 32 bits. */
+/* A telegram's 32 bits, each field as it is given: for amsulfezd_write_poll, and the word of amsulfezd_write_frame. */
 static inline uint64_t amsulfezd_telegram_word(const struct amsulfezd_telegram *telegram)
 {
     return (uint64_t)telegram->kind << 30 | (uint64_t)telegram->destination << 23 | (uint64_t)telegram->source << 16 |
            (uint64_t)telegram->status_request << 15 | (uint64_t)telegram->station_type << 13 |
            (uint64_t)telegram->status << 9;
+}
+
+/* The telegram with these 32 bits, such as the word of a frame: see amsulfezd_frame_word. */
+static inline struct amsulfezd_telegram amsulfezd_telegram_of(uint32_t word)
+{
+    struct amsulfezd_telegram telegram;
+    telegram.kind = (uint8_t)(word >> 30);
+    telegram.destination = (uint8_t)amsulfezd_field(word, 23, 7);
+    telegram.source = (uint8_t)amsulfezd_field(word, 16, 7);
+    telegram.status_request = (uint8_t)amsulfezd_field(word, 15, 1);
+    telegram.station_type = (uint8_t)amsulfezd_field(word, 13, 2);
+    telegram.status = (uint8_t)amsulfezd_field(word, 9, 4);
+    return telegram;
 }
 
 /*

@@ -1,6 +1,6 @@
 # Plants a fault in amsulfezd.h, for hosts.sh to see that fields.c finds it: of the numbers in the lines that read,
 # check or place a field, number `at` is changed by `by`. With at=0 the count of these numbers is printed.
-/amsulfezd_field\(answer, |amsulfezd_fits\(|amsulfezd_store\(to, |(<<|>>) [0-9]/ && !/^static/ {
+/amsulfezd_field\((answer|word), |returned [\/%] |amsulfezd_fits\(|amsulfezd_store\(to, |(<<|>>) [0-9]/ && !/^static/ {
     rest = $0
     line = ""
     while (match(rest, /[A-Za-z0-9_]+/)) {

@@ -1,8 +1,9 @@
 /*
- * Measures the stack that the proved call uses, and holds it to AMSULFEZD_STACK_BYTES. The call runs on a stack of its
+ * Measures the stack that the proved calls use, and holds it to AMSULFEZD_STACK_BYTES. A call runs on a stack of its
  * own that is filled with a pattern; afterwards the deepest byte that changed is looked for. The traces: those of the
  * files named, example 12's header with 100,000 times online, and as many made at random as are asked for; each state
- * and each kind of send must have been seen. Built with -DFAULT the call takes more, which must be found.
+ * and each kind of send must have been seen. Each of them is read as a frame and its first bytes are written as a word,
+ * besides frames and words of each kind. Built with -DFAULT the call takes more, which must be found.
  *
  * usage: stack TRACES FILE..
  */
@@ -23,12 +24,17 @@ enum { RANDOM_ENTRIES = 250, LONG = 100000 };
 static uint8_t stack[STACK] __attribute__((aligned(16)));
 static ucontext_t here, there;
 
-/* The call's arguments and what it returned: a context's function takes no pointers. */
+/* Which call is made. */
+static enum { REPLAY, READ_FRAME, WRITE_FRAME } call = REPLAY;
+
+/* The call's arguments and what it returned: a context's function takes no pointers. A frame stands as the trace does. */
 static const uint8_t *trace;
 static size_t trace_len;
 static uint8_t *answers;
 static size_t answers_len;
 static uint64_t returned;
+static uint32_t word;
+static uint8_t frame[AMSULFEZD_FRAME_WRITTEN_LENGTH];
 
 /* The first byte above the call's stack, its return address included. */
 static uintptr_t above;
@@ -67,7 +73,17 @@ static void on_stack(void)
     returned = greedy_replay_trace();
 #else
     (void)greedy_replay_trace;
-    returned = amsulfezd_replay_trace(trace, trace_len, answers, answers_len);
+    switch (call) {
+    case REPLAY:
+        returned = amsulfezd_replay_trace(trace, trace_len, answers, answers_len);
+        break;
+    case READ_FRAME:
+        returned = amsulfezd_read_frame(trace, trace_len);
+        break;
+    case WRITE_FRAME:
+        returned = amsulfezd_write_frame(word, frame, sizeof frame);
+        break;
+    }
 #endif
 }
 
@@ -87,17 +103,11 @@ static void run(void)
     }
 }
 
-/* Runs the call on a trace and notes how deep its stack went and what it answered. */
-static void measure(const uint8_t *bytes, size_t length, const char *name)
+/* Runs the call and notes how deep its stack went. */
+static void measure_call(const char *name)
 {
     size_t low = 0;
-    uint64_t i;
-    trace = bytes;
-    trace_len = length;
     run();
-    if (amsulfezd_ending(returned) == AMSULFEZD_REFUSAL_NO_ROOM) {
-        fail("there was not room enough for the answers", name);
-    }
     while (low < sizeof stack && stack[low] == PATTERN) {
         low++;
     }
@@ -107,10 +117,58 @@ static void measure(const uint8_t *bytes, size_t length, const char *name)
     if (above - ((uintptr_t)stack + low) > deepest) {
         deepest = above - ((uintptr_t)stack + low);
     }
+}
+
+/* Reads these bytes as a frame and writes this word as one. */
+static void measure_frame(const uint8_t *bytes, size_t length, uint32_t written, const char *name)
+{
+    trace = bytes;
+    trace_len = length;
+    word = written;
+    call = READ_FRAME;
+    measure_call(name);
+    call = WRITE_FRAME;
+    measure_call(name);
+    call = REPLAY;
+}
+
+/* Runs the calls on a trace and notes how deep their stack went and what was answered. */
+static void measure(const uint8_t *bytes, size_t length, const char *name)
+{
+    uint64_t i;
+    measure_frame(bytes, length, length < 4 ? 0 : (uint32_t)(amsulfezd_answer(bytes) >> 32), name);
+    trace = bytes;
+    trace_len = length;
+    measure_call(name);
+    if (amsulfezd_ending(returned) == AMSULFEZD_REFUSAL_NO_ROOM) {
+        fail("there was not room enough for the answers", name);
+    }
     for (i = 0; i < amsulfezd_entries(returned); i++) {
         uint64_t answer = amsulfezd_answer(answers + AMSULFEZD_ANSWER_LENGTH * i);
         states_seen |= 1u << amsulfezd_answer_state(answer);
         sent_seen |= 1u << amsulfezd_answer_sent(answer);
+    }
+}
+
+/* A frame of each start byte, the longest among them, and a word of each kind. */
+static void measure_frames(void)
+{
+    static const struct {
+        size_t length;
+        uint8_t bytes[AMSULFEZD_FRAME_READ_LENGTH];
+        uint32_t word;
+    } frames[] = {
+        {1, {0xe5}, 0x40000000},
+        {3, {0xdc, 9, 9}, 0x04890000},
+        {6, {0x10, 5, 9, 0x49, 0x57, 0x16}, 0x82898000},
+        {14, {0xa2, 5, 9, 0x49, 0, 0, 0, 0, 0, 0, 0, 0, 0x57, 0x16}, 0xfffe7e00},
+        {255, {[0] = 0x68, [1] = 249, [2] = 249, [3] = 0x68, [253] = 0, [254] = 0x16}, 0x82890000},
+    };
+    for (size_t i = 0; i < sizeof frames / sizeof frames[0]; i++) {
+        measure_frame(frames[i].bytes, frames[i].length, frames[i].word, "a frame");
+        if (call != REPLAY || amsulfezd_frame_number(returned) != (i == 4 ? AMSULFEZD_REFUSAL_FUNCTION_CODE : AMSULFEZD_OK)) {
+            fail("not written as it should be", "a frame");
+        }
     }
 }
 
@@ -218,6 +276,7 @@ int main(int count, char **words)
     }
     answers_len = AMSULFEZD_ANSWER_LENGTH * (size_t)LONG;
     answers = (uint8_t *)take(answers_len);
+    measure_frames();
     for (file = 2; file < count; file++) {
         measure(bytes, read_file(words[file], bytes, room), words[file]);
     }

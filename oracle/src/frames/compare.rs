@@ -43,7 +43,7 @@ fn differs(calls: Calls, one: &Try) -> bool {
 }
 
 /// The shortest start of the frame, or the smallest room, that still shows the difference.
-fn shortened(calls: Calls, one: &Try) -> Try {
+pub fn shortened(calls: Calls, one: &Try) -> Try {
     let (bytes, again): (&[u8], Box<dyn Fn(&[u8]) -> Try>) = match one {
         Try::Read(frame) => (frame, Box::new(|bytes| Try::Read(bytes.to_vec()))),
         Try::Write(word, buffer) => (buffer, Box::new(move |bytes| Try::Write(*word, bytes.to_vec()))),
@@ -75,8 +75,13 @@ fn describe(calls: Calls, one: &Try) -> String {
     format!("  {}\n    the oracle:  {}\n    the other:   {}\n", what, in_words(one, expected), in_words(one, got))
 }
 
-/// Makes these calls; gives how many there were, or the first that differs.
-pub fn first_difference(calls: Calls, tries: impl Iterator<Item = Try>, met: &mut Met) -> Result<u64, Box<Try>> {
+/// Makes these calls; gives how many there were, or the first that differs. Each that does not is shown, with what the
+/// oracle returned.
+pub fn first_difference(
+    calls: Calls,
+    tries: impl Iterator<Item = Try>,
+    see: &mut dyn FnMut(&Try, u64),
+) -> Result<u64, Box<Try>> {
     let mut tries = tries.peekable();
     let mut count = 0;
     while tries.peek().is_some() {
@@ -88,7 +93,7 @@ pub fn first_difference(calls: Calls, tries: impl Iterator<Item = Try>, met: &mu
             return Err(Box::new(batch[place].clone()));
         }
         for (one, left) in batch.iter().zip(&expected) {
-            met.see(one, left.as_ref().map_or(0, |left| left.0));
+            see(one, left.as_ref().map_or(0, |left| left.0));
         }
         count += batch.len() as u64;
     }
@@ -100,7 +105,7 @@ pub fn compare_frames(calls: Calls, seed: u64, count: u64) -> (String, bool) {
     let mut met = Met::default();
     let mut counts = Vec::new();
     for (name, tries) in parts(seed, count) {
-        match first_difference(calls, tries, &mut met) {
+        match first_difference(calls, tries, &mut |one, returned| met.see(one, returned)) {
             Ok(count) => counts.push(format!("{} {}", count, name)),
             Err(one) => {
                 let said = [describe(calls, &one), describe(calls, &shortened(calls, &one))].concat();
