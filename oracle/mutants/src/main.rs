@@ -102,10 +102,7 @@ fn shown_by_frames(copy: &FrameRuns) -> Option<String> {
     let calls = |tries: &[Try]| -> Vec<FrameLeft> {
         quiet(tries).unwrap_or_else(|| tries.chunks(1).map(|one| quiet(one)?.pop()?).collect())
     };
-    // the short frames are many: they come last
-    let mut parts = parts(SEED, AT_RANDOM);
-    parts.rotate_left(1);
-    parts.into_iter().find_map(|(name, tries)| {
+    parts(SEED, AT_RANDOM).into_iter().find_map(|(name, tries)| {
         let one = first_frame(&calls, tries, &mut |_, _| ()).err()?;
         Some(match shortened(&calls, &one) {
             Try::Read(frame) if frame.is_empty() => format!("{} | no byte", name),
