@@ -69,13 +69,14 @@ static __attribute__((noinline)) uint64_t greedy_replay_trace(void)
 static void on_stack(void)
 {
     above = (uintptr_t)__builtin_frame_address(0);
-#ifdef FAULT
-    returned = greedy_replay_trace();
-#else
-    (void)greedy_replay_trace;
     switch (call) {
     case REPLAY:
+#ifdef FAULT
+        returned = greedy_replay_trace();
+#else
+        (void)greedy_replay_trace;
         returned = amsulfezd_replay_trace(trace, trace_len, answers, answers_len);
+#endif
         break;
     case READ_FRAME:
         returned = amsulfezd_read_frame(trace, trace_len);
@@ -84,7 +85,6 @@ static void on_stack(void)
         returned = amsulfezd_write_frame(word, frame, sizeof frame);
         break;
     }
-#endif
 }
 
 /* Runs the call on the stack of its own. */
