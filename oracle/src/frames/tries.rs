@@ -165,7 +165,7 @@ fn good(seed: &mut Seed) -> Vec<u8> {
     framed(&before, &body)
 }
 
-/// A frame made at random, half of them damaged in one way, some in two.
+/// A frame made at random: one in five is whole, one in five damaged twice, the others once.
 pub fn at_random(seed: u64, index: u64) -> Vec<u8> {
     let seed = &mut Seed::of_index(seed, index);
     let mut frame = good(seed);
