@@ -90,8 +90,9 @@ fn samples() -> Vec<Vec<u8>> {
 }
 
 /// A frame of SD2 of every length that a byte can say: whole, cut at every place, with each byte changed, with each byte
-/// changed and the check byte made right, with the second length differing by one. A frame of each start byte with each
-/// byte given every value, and every function code in SD2 and SD3.
+/// changed and the check byte made right, with the second length differing by one. A frame of each start byte cut at every
+/// place and with bytes after it, and with each byte given every value. Every function code in SD2 and SD3, also with both
+/// extension bits.
 fn each_damage() -> impl Iterator<Item = Vec<u8>> {
     let long = (0..=255).flat_map(|length| {
         let whole = with_length(length, |place| (11 * place + 5) as u8 % 128);
@@ -105,6 +106,10 @@ fn each_damage() -> impl Iterator<Item = Vec<u8>> {
         differing[2] = length.wrapping_add(1);
         cuts.chain(changed).chain([differing]).collect::<Vec<_>>()
     });
+    let cut = samples().into_iter().flat_map(|whole| {
+        let longer = [&whole[..], &[END, 0xff]].concat();
+        (0..=longer.len()).map(move |end| longer[..end].to_vec())
+    });
     let valued = samples().into_iter().flat_map(|whole| {
         (0..whole.len()).flat_map(move |place| {
             let whole = whole.clone();
@@ -116,11 +121,13 @@ fn each_damage() -> impl Iterator<Item = Vec<u8>> {
         })
     });
     let coded = (0..=255).flat_map(|code| {
-        let mut body = vec![1, 2, code];
-        body.extend([0; SD3_DATA]);
-        [framed(&[SD3], &body), framed(&[SD2, 11, 11, SD2], &body)]
+        [(1, 2), (129, 130)].into_iter().flat_map(move |(destination, source)| {
+            let mut body = vec![destination, source, code];
+            body.extend([0; SD3_DATA]);
+            [framed(&[SD3], &body), framed(&[SD2, 11, 11, SD2], &body)]
+        })
     });
-    long.chain(valued).chain(coded)
+    long.chain(cut).chain(valued).chain(coded)
 }
 
 /// Where the bytes from the destination to the last data byte stand in a whole frame, by its start byte and length.
@@ -238,7 +245,8 @@ fn damaged(seed: &mut Seed, mut frame: Vec<u8>) -> Vec<u8> {
     frame
 }
 
-/// Words of every kind with each field at its borders and each bit of the last nine alone, and room for 0 to 8 bytes.
+/// Words of every kind with each field at its borders and each bit of the last nine alone, and room for 0 to 8 bytes and
+/// for many.
 fn words() -> impl Iterator<Item = Try> {
     let mut words = Vec::new();
     let zeros: Vec<u64> = [0].into_iter().chain((0..9).map(|bit| 1 << bit)).collect();
@@ -260,10 +268,10 @@ fn words() -> impl Iterator<Item = Try> {
             }
         }
     }
-    words.into_iter().flat_map(|word| (0..=8).map(move |room| Try::Write(word, vec![FILL; room])))
+    words.into_iter().flat_map(|word| (0..=8).chain([40]).map(move |room| Try::Write(word, vec![FILL; room])))
 }
 
-/// Any word with any room; half of the words are good but for one bit.
+/// Any word with any room: half of the words are good, a quarter good but for one bit.
 fn word_at_random(seed: u64, index: u64) -> Try {
     let seed = &mut Seed::of_index(!seed, index);
     let room = if seed.coin() { seed.below(9) } else { seed.below(300) };
