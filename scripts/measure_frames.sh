@@ -1,7 +1,7 @@
 #!/usr/bin/env bash
-# Prints what reading a frame costs: the instructions of the proved program run_frames and of a plain C reader built with -O2
+# Prints what reading a frame costs: the instructions of the proved program run_frames and of a plain C reader
 # (hosts/c/plain_frames.c) on the same frames, counted by valgrind or, on a machine that is not x86-64, by the toolchain's
-# emulator, one instruction at a time. The counts of a run on 3 frames are taken from those on 13, so that what comes before
+# emulator, one instruction at a time. The C reader is built with -O2, and with -O3, by which gcc adds many bytes at a time. The counts of a run on 3 frames are taken from those on 13, so that what comes before
 # and after falls away; the walk from frame to frame and the sum of what was read are counted with both. PROGRAM in the
 # environment measures another build of the program.
 set -euo pipefail
@@ -16,7 +16,9 @@ find_runner
 need_c_compiler
 plain=target/hosts/c/plain_frames
 mkdir -p "$(dirname "$plain")"
-"${compile[@]}" -O2 -DPLAIN_MEASURED hosts/c/plain_frames.c -o "$plain" || fail "hosts/c/plain_frames.c does not build"
+for level in 2 3; do
+    "${compile[@]}" "-O$level" -DPLAIN_MEASURED hosts/c/plain_frames.c -o "$plain-$level" || fail "hosts/c/plain_frames.c does not build"
+done
 folder=$(mktemp -d) || fail "no temporary folder could be made"
 trap 'rm -rf "$folder"' EXIT
 
@@ -76,13 +78,14 @@ agree() {
     fi
 }
 
-echo "| Frame | Bytes | Proved, instructions a frame | Plain C (-O2) |"
-echo "|---|---|---|---|"
+echo "| Frame | Bytes | Proved, instructions a frame | Plain C, -O2 | Plain C, -O3 |"
+echo "|---|---|---|---|---|"
 for name in SC SD4 SD1 SD3 SD2; do
     frame "$name" >"$folder/frame"
-    c=$(a_frame "${emulator[@]}" "$plain")
+    level_3=$(a_frame "${emulator[@]}" "$plain-3")
+    level_2=$(a_frame "${emulator[@]}" "$plain-2")
     cp "$folder/said" "$folder/plain-said"
     proved=$(a_frame "${runner[@]}" "$program")
     agree
-    echo "| $name | $(($(wc -c <"$folder/frame") - 1)) | $proved | $c |"
+    echo "| $name | $(($(wc -c <"$folder/frame") - 1)) | $proved | $level_2 | $level_3 |"
 done
