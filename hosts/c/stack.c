@@ -2,8 +2,8 @@
  * Measures the stack that the proved calls use, and holds it to AMSULFEZD_STACK_BYTES. A call runs on a stack of its
  * own that is filled with a pattern; afterwards the deepest byte that changed is looked for. The traces: those of the
  * files named, example 12's header with 100,000 times online, and as many made at random as are asked for; each state
- * and each kind of send must have been seen. Each of them is read as a frame and its first bytes are written as a word,
- * besides frames and words of each kind. Built with -DFAULT the call takes more, which must be found.
+ * and each kind of send must have been seen. Frames: one of each start byte, and a word of each kind. Built with -DFAULT
+ * the call takes more, which must be found.
  *
  * usage: stack TRACES FILE..
  */
@@ -24,17 +24,16 @@ enum { RANDOM_ENTRIES = 250, LONG = 100000 };
 static uint8_t stack[STACK] __attribute__((aligned(16)));
 static ucontext_t here, there;
 
-/* Which call is made. */
-static enum { REPLAY, READ_FRAME, WRITE_FRAME } call = REPLAY;
+/* The calls that are measured. */
+typedef uint64_t measured(const uint8_t *lent, size_t length, uint8_t *buffer, size_t room);
 
-/* The call's arguments and what it returned: a context's function takes no pointers. A frame stands as the trace does. */
+/* The call, its arguments and what it returned: a context's function takes no pointers. */
+static measured *call;
 static const uint8_t *trace;
 static size_t trace_len;
 static uint8_t *answers;
 static size_t answers_len;
 static uint64_t returned;
-static uint32_t word;
-static uint8_t frame[AMSULFEZD_FRAME_WRITTEN_LENGTH];
 
 /* The first byte above the call's stack, its return address included. */
 static uintptr_t above;
@@ -58,37 +57,27 @@ static void *take(size_t size)
 }
 
 /* Takes as much stack as the call may, and then calls. */
-static __attribute__((noinline)) uint64_t greedy_replay_trace(void)
+static __attribute__((noinline)) uint64_t greedy_call(void)
 {
     volatile uint8_t taken[AMSULFEZD_STACK_BYTES];
     taken[0] = 0;
-    return amsulfezd_replay_trace(trace, trace_len, answers, answers_len) + taken[0];
+    return call(trace, trace_len, answers, answers_len) + taken[0];
 }
 
 /* What runs on the stack of its own. At the call the stack pointer is at or below this frame's address. */
 static void on_stack(void)
 {
     above = (uintptr_t)__builtin_frame_address(0);
-    switch (call) {
-    case REPLAY:
 #ifdef FAULT
-        returned = greedy_replay_trace();
+    returned = greedy_call();
 #else
-        (void)greedy_replay_trace;
-        returned = amsulfezd_replay_trace(trace, trace_len, answers, answers_len);
+    (void)greedy_call;
+    returned = call(trace, trace_len, answers, answers_len);
 #endif
-        break;
-    case READ_FRAME:
-        returned = amsulfezd_read_frame(trace, trace_len);
-        break;
-    case WRITE_FRAME:
-        returned = amsulfezd_write_frame(word, frame, sizeof frame);
-        break;
-    }
 }
 
 /* Runs the call on the stack of its own. */
-static void run(void)
+static void run_on_stack(void)
 {
     memset(stack, PATTERN, sizeof stack);
     if (getcontext(&there) != 0) {
@@ -103,11 +92,12 @@ static void run(void)
     }
 }
 
-/* Runs the call and notes how deep its stack went. */
-static void measure_call(const char *name)
+/* Runs a call on the stack of its own, and notes how deep that went. */
+static void run(measured *which, const char *name)
 {
     size_t low = 0;
-    run();
+    call = which;
+    run_on_stack();
     while (low < sizeof stack && stack[low] == PATTERN) {
         low++;
     }
@@ -119,27 +109,13 @@ static void measure_call(const char *name)
     }
 }
 
-/* Reads these bytes as a frame and writes this word as one. */
-static void measure_frame(const uint8_t *bytes, size_t length, uint32_t written, const char *name)
-{
-    trace = bytes;
-    trace_len = length;
-    word = written;
-    call = READ_FRAME;
-    measure_call(name);
-    call = WRITE_FRAME;
-    measure_call(name);
-    call = REPLAY;
-}
-
-/* Runs the calls on a trace and notes how deep their stack went and what was answered. */
+/* Replays a trace, and notes what came. */
 static void measure(const uint8_t *bytes, size_t length, const char *name)
 {
     uint64_t i;
-    measure_frame(bytes, length, length < 4 ? 0 : (uint32_t)(amsulfezd_answer(bytes) >> 32), name);
     trace = bytes;
     trace_len = length;
-    measure_call(name);
+    run(amsulfezd_replay_trace, name);
     if (amsulfezd_ending(returned) == AMSULFEZD_REFUSAL_NO_ROOM) {
         fail("there was not room enough for the answers", name);
     }
@@ -150,24 +126,50 @@ static void measure(const uint8_t *bytes, size_t length, const char *name)
     }
 }
 
-/* A frame of each start byte, the longest among them, and a word of each kind. */
+/* Reads the frame that is lent. */
+static uint64_t read_frame(const uint8_t *lent, size_t length, uint8_t *buffer, size_t room)
+{
+    (void)buffer;
+    (void)room;
+    return amsulfezd_read_frame(lent, length);
+}
+
+/* Writes the word whose four bytes are lent. */
+static uint64_t write_frame(const uint8_t *lent, size_t length, uint8_t *buffer, size_t room)
+{
+    uint32_t word = (uint32_t)lent[0] << 24 | (uint32_t)lent[1] << 16 | (uint32_t)lent[2] << 8 | lent[3];
+    return length == 4 ? amsulfezd_write_frame(word, buffer, room) : AMSULFEZD_OK;
+}
+
+/* Reads a frame of each start byte, the longest among them, and writes a word of each kind. */
 static void measure_frames(void)
 {
     static const struct {
         size_t length;
         uint8_t bytes[AMSULFEZD_FRAME_READ_LENGTH];
-        uint32_t word;
     } frames[] = {
-        {1, {0xe5}, 0x40000000},
-        {3, {0xdc, 9, 9}, 0x04890000},
-        {6, {0x10, 5, 9, 0x49, 0x57, 0x16}, 0x82898000},
-        {14, {0xa2, 5, 9, 0x49, 0, 0, 0, 0, 0, 0, 0, 0, 0x57, 0x16}, 0xfffe7e00},
-        {255, {[0] = 0x68, [1] = 249, [2] = 249, [3] = 0x68, [253] = 0, [254] = 0x16}, 0x82890000},
+        {1, {0xe5}},
+        {3, {0xdc, 9, 9}},
+        {6, {0x10, 5, 9, 0x49, 0x57, 0x16}},
+        {14, {0xa2, 5, 9, 0x49, 0, 0, 0, 0, 0, 0, 0, 0, 0x57, 0x16}},
+        {255, {[0] = 0x68, [1] = 249, [2] = 249, [3] = 0x68, [254] = 0x16}},
     };
-    for (size_t i = 0; i < sizeof frames / sizeof frames[0]; i++) {
-        measure_frame(frames[i].bytes, frames[i].length, frames[i].word, "a frame");
-        if (call != REPLAY || amsulfezd_frame_number(returned) != (i == 4 ? AMSULFEZD_REFUSAL_FUNCTION_CODE : AMSULFEZD_OK)) {
-            fail("not written as it should be", "a frame");
+    static const uint8_t words[][4] = {{0x40, 0, 0, 0}, {0x04, 0x89, 0, 0}, {0x82, 0x89, 0x80, 0}, {0xff, 0xfe, 0x7e, 0}};
+    size_t i;
+    for (i = 0; i < sizeof frames / sizeof frames[0]; i++) {
+        trace = frames[i].bytes;
+        trace_len = frames[i].length;
+        run(read_frame, "a frame");
+        if (amsulfezd_frame_bytes(returned) != trace_len) {
+            fail("it was not read", "a frame");
+        }
+    }
+    for (i = 0; i < sizeof words / sizeof words[0]; i++) {
+        trace = words[i];
+        trace_len = sizeof words[i];
+        run(write_frame, "a word");
+        if (amsulfezd_frame_bytes(returned) == 0) {
+            fail("it was not written", "a word");
         }
     }
 }
