@@ -8,9 +8,10 @@
 
 use super::compare::{oracle, Left};
 use super::tries::Try;
+use crate::comparison::program::{end, start};
 use std::cell::RefCell;
-use std::io::{Error, ErrorKind, Read, Result, Write};
-use std::process::{Child, Command, Stdio};
+use std::io::{Read, Result, Write};
+use std::process::Child;
 
 /// A program with its arguments, and the process that runs it. After a failure it is started anew.
 pub struct Program {
@@ -52,17 +53,6 @@ impl Drop for Program {
             end(child);
         }
     }
-}
-
-fn start(words: &[String]) -> Result<Child> {
-    let (program, arguments) = words.split_first().ok_or_else(|| Error::new(ErrorKind::Other, "none is named"))?;
-    Command::new(program).args(arguments).stdin(Stdio::piped()).stdout(Stdio::piped()).spawn()
-}
-
-/// At the end of its input the program ends.
-fn end(mut child: Child) {
-    drop((child.stdin.take(), child.stdout.take()));
-    let _ = child.wait();
 }
 
 /// The word, and the frame or the buffer, of a call.
