@@ -41,12 +41,11 @@ fn differs(calls: Calls, one: &Try) -> bool {
 
 /// The shortest start of the frame, or the smallest room, that still shows the difference.
 pub fn shortened(calls: Calls, one: &Try) -> Try {
-    let (bytes, again): (&[u8], Box<dyn Fn(&[u8]) -> Try>) = match one {
-        Try::Read(frame) => (frame, Box::new(|bytes| Try::Read(bytes.to_vec()))),
-        Try::Write(word, buffer) => (buffer, Box::new(move |bytes| Try::Write(*word, bytes.to_vec()))),
+    let start = |end: usize| match one {
+        Try::Read(frame) => frame.get(..end).map(|bytes| Try::Read(bytes.to_vec())),
+        Try::Write(word, buffer) => buffer.get(..end).map(|bytes| Try::Write(*word, bytes.to_vec())),
     };
-    let starts = (0..bytes.len()).map(|end| again(&bytes[..end]));
-    starts.into_iter().find(|start| differs(calls, start)).unwrap_or_else(|| one.clone())
+    (0..).map_while(start).find(|start| differs(calls, start)).unwrap_or_else(|| one.clone())
 }
 
 fn in_words(one: &Try, left: &Left) -> String {
