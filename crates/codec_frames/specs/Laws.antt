@@ -6,7 +6,7 @@ use mathlib.Core.Bool.{Bool, true, false, cond, not, _&&_}
 use native.Mathlib.Nat.{add-zero, mod-add-mod, mod-lt, mod-le, lt-of-le-of-lt, lt-of-lt-of-le}
 use native.Mathlib.Numerals.{add-one}
 use native.Mathlib.Omega.{arith}
-use borrow.Author.Tests.{ne-eqb, lt-ltb, le-ltb, leb-true}
+use borrow.Author.Tests.{eq-eqb, ne-eqb, lt-ltb, le-ltb, leb-true}
 use borrow.Table.Steps.{cases}
 use lib.ListN.{length, getD, take, drop}
 use lib.Seq.{take-suc, sets, sets-eq}
@@ -15,11 +15,14 @@ use lib.Dec.{eqb, leb, lit<, lit≤}
 use Rattle.codec_fields.specs.Fields.{fieldOf, putOf, putAll, total}
 use Rattle.codec_fields.specs.Widths.{grown}
 use Rattle.codec_telegrams.specs.declared.Telegram.{Telegram}
-use Rattle.codec_telegrams.specs.declared.Telegram.the-variants.{ShortConfirmation, Request}
-use Rattle.codec_telegrams.specs.Words.{telegramWidths, telegramValues, telegramWord}
+use Rattle.codec_telegrams.specs.declared.Telegram.the-variants.{ShortConfirmation, Request, Response}
+use Rattle.codec_telegrams.specs.declared.ResponseState.{ResponseState}
+use Rattle.codec_telegrams.specs.Laws.{state-below, telegram-fits}
+use Rattle.codec_telegrams.specs.Words.{responseNumber, telegramWidths, telegramOf, telegramRefusal, telegramValues, telegramWord}
+use Rattle.codec_frames.specs.declared.Start.{Start}
 use Rattle.codec_frames.specs.declared.Start.the-variants.{Sd1, Sd2, Sd3, Sd4, Sc, Unknown}
 use Rattle.codec_frames.specs.declared.FrameRead.the-variants.{Accepted, Refused}
-use Rattle.codec_frames.specs.Frames.{sd2, statusCode, sumOf, checkOf, frameOn, headHolds, codedTelegram, fitted, writeNumber, writtenOver}
+use Rattle.codec_frames.specs.Frames.{sd2, statusCode, sumOf, checkOf, frameOn, headHolds, codedTelegram, sd1Frame, frameBytes, isOtherRequest, Written, notWritten, fitted, writeOf, writeNumber, writtenOver}
 use Rattle.codec_frames.specs.Ways.{codedOf, checkedOf, sd2Of, tokenOf}
 
 -- what both hold, each holds
@@ -55,6 +58,15 @@ long n h = omega arith
 -- so there are data behind the function code
 head-data : (f : List ℕ) → headHolds f ≡ true → eqb (getD f 1 0 - 3) 0 ≡ false
 head-data f h = let l = head-long f h in ne-eqb (getD f 1 0 - 3) 0 (λ e. omega arith)
+
+-- the check byte of a part of a slice, from its two ends
+pub part-check : (f : List ℕ) (from count : ℕ) → checkOf (take (from + count - from) (drop from f)) ≡ checkOf (take count (drop from f))
+part-check f from count = let e : from + count - from ≡ count = omega arith in rw e
+
+-- no bytes
+pub empty-way : (start : Start) (f : List ℕ) → length f ≡ 0 → frameOn start f ≡ Refused 19
+unfolding frameOn
+empty-way start f none = rw (eq-eqb _ _ none)
 
 -- the ways of the code are what a reader makes of bytes that begin so
 module _ (f : List ℕ) (some : length f ≡ 0 → ⊥) where
@@ -130,3 +142,46 @@ module _ (bytes l : List ℕ) where
       let number : length bytes * 256 ≡ length bytes * 256 + 0 = omega arith in
       let start : 0 + length bytes ≡ length bytes = omega arith in
       (rw (le-ltb (length l) (length bytes) h) number, rw (le-ltb (length l) (length bytes) h) (rw start at (sets-eq bytes l 0 (omega arith))))
+
+-- what a writer makes of a word: of one that document 01 refuses, and then by the telegram that it says
+module _ (word room : ℕ) where
+  pub write-refused : (telegramRefusal word ≡ 0 → ⊥) → writeOf word room ≡ notWritten 14
+  unfolding writeOf
+  write-refused h = rw (ne-eqb (telegramRefusal word) 0 h)
+
+  module _ (accepted : telegramRefusal word ≡ 0) where
+    pub write-fitted : (t : Telegram) → telegramOf word ≡ t → isOtherRequest t ≡ false → writeOf word room ≡ fitted (frameBytes t) room
+    unfolding writeOf
+    write-fitted t says other = rw (accepted, says, other)
+
+    pub write-status :
+        {d s : ℕ} {asks : Bool} → telegramOf word ≡ Request d s asks → asks ≡ true → writeOf word room ≡ fitted (sd1Frame d s statusCode) room
+    write-status {d} {s} says a = write-fitted (Request d s true) (says ∙ ap (Request d s) a) refl
+
+    pub write-other : {d s : ℕ} {asks : Bool} → telegramOf word ≡ Request d s asks → asks ≡ false → writeOf word room ≡ notWritten 34
+    unfolding writeOf
+    write-other says a = rw (accepted, says, a)
+
+    pub write-response :
+        {d s n type : ℕ} {state : ResponseState}
+        → telegramOf word ≡ Response d s state n
+        → type ≡ responseNumber state
+        → writeOf word room ≡ fitted (sd1Frame d s (16 * type + n)) room
+    write-response {d} {s} {n} {type} {state} says e =
+        write-fitted (Response d s state n) says refl ∙ ap (λ (k : ℕ). fitted (sd1Frame d s (16 * k + n)) room) (sym e)
+
+-- a call's result and what it leaves, by the same bytes and number under another name
+pub as-written :
+    (before : List ℕ) {w v : Written} {r : ℕ} {left : List ℕ}
+    → w ≡ v
+    → (r ≡ writeNumber v) × (left ≡ writtenOver v before)
+    → (r ≡ writeNumber w) × (left ≡ writtenOver w before)
+as-written before e p = (rw e (p .0), rw e (p .1))
+
+-- the status of a response that a word says has four bits
+pub status-below : (word : ℕ) {d s n : ℕ} {state : ResponseState} → telegramOf word ≡ Response d s state n → n < 2 ^ 4
+status-below word e = (rw e at (telegram-fits word)) .2
+
+-- and its type two
+pub state-is-below : (state : ResponseState) {n : ℕ} → n ≡ responseNumber state → n < 2 ^ 2
+state-is-below state e = rw e (state-below state)

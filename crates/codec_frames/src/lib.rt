@@ -17,11 +17,17 @@ use codec_telegrams::write_telegram;
 
 // The bytes that begin a frame, the byte that ends one, and the function code of a status request.
 const SD1: u8 = 0x10;
+
 const SD2: u8 = 0x68;
+
 const SD3: u8 = 0xA2;
+
 const SD4: u8 = 0xDC;
+
 const SC: u8 = 0xE5;
+
 const END_BYTE: u8 = 0x16;
+
 const STATUS_CODE: u8 = 0x49;
 
 // How a frame begins: by one of the five start bytes, or by a byte that begins no frame.
@@ -36,10 +42,7 @@ pub enum Start {
 
 // What a reader makes of bytes: the telegram and how many bytes its frame has, or the refusal's number.
 pub enum FrameRead {
-    Accepted {
-        telegram: Telegram,
-        used: u16,
-    },
+    Accepted { telegram: Telegram, used: u16 },
     Refused(u8),
 }
 

@@ -1,3 +1,4 @@
+-- `codec_frames::coded_telegram` meets its contract, return by return. Assumes nothing.
 use mathlib.Core.Path.{sym}
 use borrow.Author.Tests.{ne-eqb}
 use borrow.Author.Needs.{needs}

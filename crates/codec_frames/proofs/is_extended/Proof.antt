@@ -1,3 +1,4 @@
+-- `codec_frames::is_extended` meets its contract, return by return. Assumes nothing.
 use borrow.Author.Needs.{needs}
 use Rattle.codec_frames.proofs.is_extended.Statement.{statement}
 use Rattle.codec_frames.proofs.is_extended.Tie as tie

@@ -1,3 +1,4 @@
+-- `codec_frames::read_coded` meets its contract, return by return. Assumes nothing.
 use borrow.Author.Needs.{needs}
 use Rattle.codec_frames.specs.Ways.{codedOf}
 use Rattle.codec_frames.proofs.read_coded.Statement.{statement}

@@ -1,3 +1,4 @@
+-- `codec_frames::read_number` meets its contract, return by return. Assumes nothing.
 use native.Mathlib.Omega.{arith}
 use borrow.Author.Needs.{needs}
 use Rattle.codec_frames.specs.Frames.{readNumber}

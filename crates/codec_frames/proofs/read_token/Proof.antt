@@ -1,3 +1,4 @@
+-- `codec_frames::read_token` meets its contract, return by return. Assumes nothing.
 use borrow.Author.Tests.{le-ltb, lt-ltb}
 use borrow.Author.Needs.{needs}
 use Rattle.codec_frames.specs.Ways.{tokenOf}

@@ -1,3 +1,4 @@
+-- `codec_frames::start_of` meets its contract, return by return. Assumes nothing.
 use borrow.Author.Tests.{eq-eqb, ne-eqb}
 use Rattle.codec_frames.specs.Frames.{startOf}
 use Rattle.codec_frames.proofs.start_of.Statement.{statement}

@@ -1,3 +1,4 @@
+-- `codec_frames::write_sc` meets its contract, return by return. Assumes nothing.
 use mathlib.Core.List.{[], _∷_}
 use borrow.Author.Needs.{needs}
 use Rattle.codec_frames.specs.Frames.{sc}
@@ -9,7 +10,7 @@ pub write-sc-spec : {M : Type 1} → statement M
 write-sc-spec =
     tie.close
     (tie.spec
-    (λ c. not-stored (sc ∷ []) _ (c .if1 .taken))
+    (λ c. not-stored (sc ∷ []) (c .before .args .frame .now) (c .if1 .taken))
     (λ c. search needs)
     (λ c. search needs)
-    (λ c. stored (sc ∷ []) _ (c .if1 .left)))
+    (λ c. stored (sc ∷ []) (c .before .args .frame .now) (c .if1 .left)))
