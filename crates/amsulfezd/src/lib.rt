@@ -1,7 +1,9 @@
 // The library for hosts: every call that C and Rust programs make of it, each thin over the crate that does the work. Their
-// names carry the prefix amsulfezd_, as a C library's names do. hosts/c/amsulfezd.h declares them. It leans on trace.
+// names carry the prefix amsulfezd_, as a C library's names do. hosts/c/amsulfezd.h declares them. It leans on trace and
+// codec_frames.
 ghost use mathlib.Core.Path.{_≡_};
 ghost use lib.ListN.{length};
+ghost use Rattle.codec_frames.specs.Frames.{frameOf, readNumber, writeOf, writeNumber, writtenOver};
 ghost use Rattle.trace.specs.Trace.{replayOf, numberOf, bufferOf};
 
 // Replays a trace and returns the entries answered × 256 + the ending number. Each entry's answer stands in the next eight
@@ -12,4 +14,22 @@ pub extern "C" fn amsulfezd_replay_trace(trace: &[u8], answers: &mut [u8]) -> u6
     ensures { λ _. ⌜ now (answers .exit) ≡ bufferOf (replayOf (now (trace .entry)) (length (now (answers .entry)))) (now (answers .entry)) ⌝ }
 {
     trace::replay_trace(trace, answers)
+}
+
+// Reads the frame at the start of a slice and returns telegram word × 65536 + bytes used × 256, or a refusal's number alone.
+#[no_mangle]
+pub extern "C" fn amsulfezd_read_frame(frame: &[u8]) -> u64
+    ensures { λ r. ⌜ r ≡ readNumber (frameOf (now (frame .entry))) ⌝ }
+{
+    codec_frames::read_number(codec_frames::read_frame(frame))
+}
+
+// Writes the frame of a telegram word at the start of a slice and returns bytes written × 256 + number. A refused call writes
+// nothing; the bytes past the frame stay as they were.
+#[no_mangle]
+pub extern "C" fn amsulfezd_write_frame(word: u32, frame: &mut [u8]) -> u64
+    ensures { λ r. ⌜ r ≡ writeNumber (writeOf word (length (now (frame .entry)))) ⌝ }
+    ensures { λ _. ⌜ now (frame .exit) ≡ writtenOver (writeOf word (length (now (frame .entry)))) (now (frame .entry)) ⌝ }
+{
+    codec_frames::write_frame(word as u64, frame)
 }
