@@ -3,3 +3,4 @@ pub mod Whole
 pub mod Bytes
 pub mod RoundTrip
 pub mod Cut
+pub mod Changed
