@@ -4,12 +4,13 @@ use Prim.Native.Nat.{ℕ, zero, suc, _+_, _%_, _^_, _<_, _≤_}
 use mathlib.Core.Path.{_≡_, refl, sym, ap, _∙_}
 use mathlib.Core.List.{List, [], _∷_, _++_, append-nil}
 use mathlib.Core.Bool.{Bool, true, false, cond, not, _&&_}
+use native.Mathlib.Nat.{mod-lt}
 use native.Mathlib.Omega.{arith}
 use borrow.Author.Tests.{eq-eqb, ne-eqb, eqb-true, eqb-false, le-ltb, ltb-false, not-false}
 use borrow.Table.Steps.{cases}
 use lib.ListN.{length, getD, take, drop, set, length-set, length-drop}
 use lib.Seq.{getD-take, getD-drop, getD-set-same, getD-set-other, drop-set-add, take-set-le, take-set-lt, length-take-le}
-use lib.Dec.{eqb, ltb, leb}
+use lib.Dec.{eqb, ltb, lit<, lit≤}
 use Rattle.codec_fields.specs.Fields.{bitAt, Bytes}
 use Rattle.codec_telegrams.specs.declared.Telegram.{Telegram}
 use Rattle.codec_telegrams.specs.declared.Telegram.the-variants.{Token, ShortConfirmation, Request, Response}
@@ -20,8 +21,8 @@ use Rattle.codec_frames.specs.declared.Start.the-variants.{Sd1, Sd2, Sd3, Sd4, 
 use Rattle.codec_frames.specs.declared.FrameRead.{FrameRead}
 use Rattle.codec_frames.specs.declared.FrameRead.the-variants.{Accepted, Refused}
 use Rattle.codec_frames.specs.Frames.{sd1, sd2, sd3, sd4, sc, endByte, sumOf, checkOf, sd1Frame, statusCode, responseCode, frameBytes, isOtherRequest, startOf, isUnknown, isSd2, isChecked, headLength, bodyLength, checkPlace, frameLength, headHolds, frameOn, frameOf}
-use Rattle.theorem_frames.specs.Whole.{Whole, accepted}
-use Rattle.theorem_frames.specs.Bytes.{byte-at}
+use Rattle.theorem_frames.specs.Whole.{accepted, no-bit}
+use Rattle.theorem_frames.specs.Bytes.{first-byte, byte-at}
 use Rattle.theorem_frames.specs.RoundTrip.{frame-reads-back}
 
 -- Frames with a check byte
@@ -145,3 +146,163 @@ module _ (f : List ℕ) {t : Telegram} {used : ℕ} (read : frameOf f ≡ Accept
         body-kept f (headLength start) (bodyLength start f) b in
         let new : getD (set f i b) i 0 ≡ b = getD-set-same f i b 0 (omega arith) in
         rw (first, length-set f i b, w .some, w .known, w .head, kept-length f i b start behind, kept-head f i b start behind, w .same, w .long, kept, same, w .check, new, checked, ne-eqb b endByte other)
+
+-- The frames that are written
+
+-- what a reader makes of an SD1 frame with b in place of its byte i: an end byte that is none is 23, and any other byte behind the
+-- start is found by the check byte, 22. A start byte that became that of SD4 or SC leaves a token or a short confirmation; SD2 is
+-- 21, since no function code that is written is 68h; SD3, which is longer, 19; any other 20
+abbrev pub sd1Changed : ℕ → ℕ → ℕ → ℕ → FrameRead
+sd1Changed d s i b =
+    cond (eqb i 0)
+    (cond (eqb b sd4) (Accepted (Token d s) 3)
+    (cond (eqb b sc) (Accepted ShortConfirmation 1) (cond (eqb b sd2) (Refused 21) (cond (eqb b sd3) (Refused 19) (Refused 20)))))
+    (cond (eqb i 5) (Refused 23) (Refused 22))
+
+-- what a reader makes of a start byte with nothing but this behind it that was changed to b, unless b is SC: an unknown one is 20,
+-- and the others begin longer frames, 19
+abbrev pub shortChanged : ℕ → FrameRead
+shortChanged b = cond (isUnknown (startOf b)) (Refused 20) (Refused 19)
+
+-- what a reader makes of a token with b in place of its byte i: it has no check byte, so of an address only the extension bit is
+-- found
+abbrev pub tokenChanged : ℕ → ℕ → ℕ → ℕ → FrameRead
+tokenChanged d s i b =
+    cond (eqb i 0) (cond (eqb b sc) (Accepted ShortConfirmation 1) (shortChanged b))
+    (cond (bitAt b 7) (Refused 24) (cond (eqb i 1) (Accepted (Token b s) 3) (Accepted (Token d b) 3)))
+
+-- what a reader makes of a written frame with b in place of its byte i
+abbrev pub changed : Telegram → ℕ → ℕ → FrameRead
+changed (Token d s) i b = tokenChanged d s i b
+changed ShortConfirmation i b = shortChanged b
+changed (Request d s asks) i b = sd1Changed d s i b
+changed (Response d s state n) i b = sd1Changed d s i b
+
+-- another first byte for the same
+start-changed : (b : ℕ) (f : List ℕ) (x : FrameRead) (start : ℕ) → b ≡ start → frameOf (start ∷ f) ≡ x → frameOf (b ∷ f) ≡ x
+start-changed b f x start e h = ap (λ (k : ℕ). frameOf (k ∷ f)) e ∙ h
+
+-- a byte that begins no frame
+none-begins : (b : ℕ) (f : List ℕ) → startOf b ≡ Unknown → frameOf (b ∷ f) ≡ Refused 20
+unfolding frameOf frameOn
+none-begins b f e = rw (e, ne-eqb (length (b ∷ f)) 0 (λ z. omega arith))
+
+no-start :
+    (b : ℕ) → eqb b sd1 ≡ false → eqb b sd2 ≡ false → eqb b sd3 ≡ false → eqb b sd4 ≡ false → eqb b sc ≡ false → startOf b ≡ Unknown
+unfolding startOf
+no-start b e1 e2 e3 e4 e5 = rw (e1, e2, e3, e4, e5)
+
+module _ (d s code check : ℕ) where
+  -- what stands behind the start byte of an SD1 frame
+  abbrev behind : List ℕ
+  behind = d ∷ s ∷ code ∷ check ∷ endByte ∷ []
+
+  -- read as SD2 and as SD3
+  as-sd2 : (code ≡ sd2 → ⊥) → frameOf (sd2 ∷ behind) ≡ Refused 21
+  unfolding frameOf startOf frameOn
+  as-sd2 other = cases (eqb s d) (λ k. rw (k, ne-eqb code sd2 other)) (λ k. rw k)
+
+  as-sd3 : frameOf (sd3 ∷ behind) ≡ Refused 19
+  unfolding frameOf startOf frameOn
+  as-sd3 = refl
+
+  -- the start byte of an SD1 frame changed, of a function code that is not 68h
+  sd1-begun : (b : ℕ) → d < 2 ^ 7 → s < 2 ^ 7 → (code ≡ sd2 → ⊥) → (b ≡ sd1 → ⊥) → frameOf (b ∷ behind) ≡ sd1Changed d s 0 b
+  sd1-begun b hd hs hc hb =
+      cases (eqb b sd4) (λ a. rw a (start-changed b behind _ sd4 (eqb-true b sd4 a) (frame-reads-back (Token d s) (hd, hs) refl (code ∷ check ∷ endByte ∷ [])))) (λ a.
+      cases (eqb b sc) (λ c. rw (a, c) (start-changed b behind _ sc (eqb-true b sc c) (frame-reads-back ShortConfirmation tt refl behind))) (λ c.
+      cases (eqb b sd2) (λ g. rw (a, c, g) (start-changed b behind _ sd2 (eqb-true b sd2 g) (as-sd2 hc))) (λ g.
+      cases (eqb b sd3) (λ k. rw (a, c, g, k) (start-changed b behind _ sd3 (eqb-true b sd3 k) as-sd3)) (λ k.
+      rw (a, c, g, k) (none-begins b behind (no-start b (ne-eqb b sd1 hb) g k a c))))))
+
+-- three bytes, and one, that begin no frame of as many
+three-on : (start : Start) (a b c : ℕ) → (start ≡ Sd4 → ⊥) → (start ≡ Sc → ⊥) → frameOn start (a ∷ b ∷ c ∷ []) ≡ cond (isUnknown start) (Refused 20) (Refused 19)
+unfolding frameOn
+three-on Sd1 a b c h k = refl
+three-on Sd2 a b c h k = refl
+three-on Sd3 a b c h k = refl
+three-on Sd4 a b c h k = absurd (h refl)
+three-on Sc a b c h k = absurd (k refl)
+three-on Unknown a b c h k = refl
+
+one-on : (start : Start) (a : ℕ) → (start ≡ Sc → ⊥) → frameOn start (a ∷ []) ≡ cond (isUnknown start) (Refused 20) (Refused 19)
+unfolding frameOn
+one-on Sd1 a k = refl
+one-on Sd2 a k = refl
+one-on Sd3 a k = refl
+one-on Sd4 a k = refl
+one-on Sc a k = absurd (k refl)
+one-on Unknown a k = refl
+
+-- a byte that is not SC begins no short confirmation, and one that is not SD4 no token
+not-sc : (b : ℕ) → (b ≡ sc → ⊥) → startOf b ≡ Sc → ⊥
+not-sc b h e = h (first-byte e)
+
+not-sd4 : (b : ℕ) → (b ≡ sd4 → ⊥) → startOf b ≡ Sd4 → ⊥
+not-sd4 b h e = h (first-byte e)
+
+-- the start byte of a token changed
+token-begun : (d s b : ℕ) → (b ≡ sd4 → ⊥) → frameOf (b ∷ d ∷ s ∷ []) ≡ tokenChanged d s 0 b
+unfolding frameOf
+token-begun d s b h =
+    cases (eqb b sc) (λ a. rw a (start-changed b (d ∷ s ∷ []) _ sc (eqb-true b sc a) (frame-reads-back ShortConfirmation tt refl (d ∷ s ∷ [])))) (λ a.
+    rw a (three-on (startOf b) b d s (not-sd4 b h) (not-sc b (eqb-false b sc a))))
+
+-- its addresses
+token-destination : (s b : ℕ) → s < 2 ^ 7 → frameOf (sd4 ∷ b ∷ s ∷ []) ≡ cond (bitAt b 7) (Refused 24) (Accepted (Token b s) 3)
+unfolding frameOf startOf frameOn
+token-destination s b h = cases (bitAt b 7) (λ a. rw a) (λ a. rw (a, no-bit s 7 h))
+
+token-source : (d b : ℕ) → d < 2 ^ 7 → frameOf (sd4 ∷ d ∷ b ∷ []) ≡ cond (bitAt b 7) (Refused 24) (Accepted (Token d b) 3)
+unfolding frameOf startOf frameOn
+token-source d b h = rw (no-bit d 7 h)
+
+module _ (d s code : ℕ) (hd : d < 2 ^ 7) (hs : s < 2 ^ 7) (hc : code < 2 ^ 7) {t : Telegram} (read : frameOf (sd1Frame d s code) ≡ Accepted t 6) where
+  -- its bytes are bytes
+  sd1-bytes : Bytes (sd1Frame d s code)
+  unfolding checkOf
+  sd1-bytes = (lit< tt, (omega arith, (omega arith, (omega arith, (mod-lt (d + (s + (code + 0))) (lit< tt), (lit< tt, tt))))))
+
+  -- a byte of an SD1 frame changed
+  sd1-changed :
+      (i b : ℕ)
+      → i < 6
+      → b < 2 ^ 8
+      → (code ≡ sd2 → ⊥)
+      → (b ≡ getD (sd1Frame d s code) i 0 → ⊥)
+      → frameOf (set (sd1Frame d s code) i b) ≡ sd1Changed d s i b
+  unfolding startOf
+  sd1-changed zero b h byte plain other = sd1-begun d s code _ b hd hs plain other
+  sd1-changed (suc zero) b h byte plain other = change-found (sd1Frame d s code) read refl sd1-bytes 0 b (lit≤ tt) byte other
+  sd1-changed (suc (suc zero)) b h byte plain other = change-found (sd1Frame d s code) read refl sd1-bytes 1 b (lit≤ tt) byte other
+  sd1-changed (suc (suc (suc zero))) b h byte plain other = change-found (sd1Frame d s code) read refl sd1-bytes 2 b (lit≤ tt) byte other
+  sd1-changed (suc (suc (suc (suc zero)))) b h byte plain other = change-found (sd1Frame d s code) read refl sd1-bytes 3 b (lit≤ tt) byte other
+  sd1-changed (suc (suc (suc (suc (suc zero))))) b h byte plain other = end-found (sd1Frame d s code) read refl b other
+  sd1-changed (suc (suc (suc (suc (suc (suc i)))))) b h byte plain other = absurd (omega arith)
+
+-- One byte of a written frame changed is read as `changed` says: in SD1 every change behind the start byte is refused, and of the
+-- start byte every change but those to DCh and E5h; of a token those that set bit 7 of an address, and of its start byte every
+-- change but that to E5h; of a short confirmation every change
+pub one-byte-changed :
+    (t : Telegram)
+    → TelegramFits t
+    → isOtherRequest t ≡ false
+    → (i b : ℕ)
+    → i < length (frameBytes t)
+    → b < 2 ^ 8
+    → (b ≡ getD (frameBytes t) i 0 → ⊥)
+    → frameOf (set (frameBytes t) i b) ≡ changed t i b
+unfolding frameOf
+one-byte-changed (Token d s) fits w zero b h byte other = token-begun d s b other
+one-byte-changed (Token d s) fits w (suc zero) b h byte other = token-destination s b (fits .1)
+one-byte-changed (Token d s) fits w (suc (suc zero)) b h byte other = token-source d b (fits .0)
+one-byte-changed (Token d s) fits w (suc (suc (suc i))) b h byte other = absurd (omega arith)
+one-byte-changed ShortConfirmation fits w zero b h byte other = one-on (startOf b) b (not-sc b other)
+one-byte-changed ShortConfirmation fits w (suc i) b h byte other = absurd (omega arith)
+one-byte-changed (Request d s true) fits w i b h byte other =
+    sd1-changed d s statusCode (fits .0) (fits .1) (lit< tt) (frame-reads-back (Request d s true) fits w []) i b h byte (λ e. omega arith) other
+one-byte-changed (Request d s false) fits w i b h byte other = absurd (omega arith)
+one-byte-changed (Response d s state n) fits w i b h byte other =
+    let k = state-below state in
+    let code : responseCode state n < 2 ^ 6 = omega arith in
+    sd1-changed d s (responseCode state n) (fits .0) (fits .1) (omega arith) (frame-reads-back (Response d s state n) fits w []) i b h byte (λ e. omega arith) other
