@@ -45,7 +45,7 @@ unfolding checkOf
 check-more l i h = rw (add-one, take-suc l i 0, sum-snoc, mod-add-mod)
 
 -- a header of SD2 that holds gives at least 4 bytes
-head-long : (f : List ℕ) → headHolds f ≡ true → 4 ≤ getD f 1 0
+pub head-long : (f : List ℕ) → headHolds f ≡ true → 4 ≤ getD f 1 0
 head-long f h =
     let range = leb 4 (getD f 1 0) && leb (getD f 1 0) 249 in
     leb-true 4 (getD f 1 0)
