@@ -1,7 +1,7 @@
 -- The reader by a frame's start, as the code goes; Laws.antt has that each way is `frameOn`. Assumes nothing.
 use Prim.Native.Nat.{ℕ, _+_, _-_}
 use mathlib.Core.List.{List}
-use mathlib.Core.Bool.{Bool, cond, not, _&&_}
+use mathlib.Core.Bool.{cond, not}
 use lib.ListN.{length, getD, take, drop}
 use lib.Dec.{eqb, ltb}
 use Rattle.codec_fields.specs.Fields.{bitAt}

@@ -9,6 +9,7 @@ pub mod RingAddresses
 pub mod Ring
 pub mod CodecFields
 pub mod CodecTelegrams
+pub mod CodecFrames
 pub mod CodecDecisions
 pub mod CodecRecords
 pub mod CodecAnswers

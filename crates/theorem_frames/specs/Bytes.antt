@@ -1,9 +1,8 @@
 -- The bytes of a frame: what a start byte is, the first bytes of a list, a function code there and back. Assumes nothing.
-use Prim.Native.Nat.{ℕ, zero, suc, _+_, _*_, _/_, _%_, _^_, _<_, _≤_}
+use Prim.Native.Nat.{ℕ, zero, suc, _+_, _*_, _^_, _<_, _≤_}
 use mathlib.Core.Path.{_≡_, refl, sym, ap, _∙_}
-use mathlib.Core.List.{List, [], _∷_, _++_}
-use mathlib.Core.Bool.{Bool, true, false, cond, _&&_}
-use native.Mathlib.Nat.{div-one, mod-eq-of-lt, mod-lt}
+use mathlib.Core.List.{List, [], _∷_}
+use mathlib.Core.Bool.{Bool, true, false, _&&_}
 use native.Mathlib.Omega.{arith}
 use borrow.Author.Tests.{eqb-true, ne-eqb}
 use borrow.Table.Steps.{cases}
@@ -12,8 +11,7 @@ use lib.Dec.{eqb, lit<}
 use Rattle.codec_fields.specs.Fields.{fieldOf, bitAt, Bytes}
 use Rattle.codec_fields.specs.Widths.{field-below}
 use Rattle.codec_telegrams.specs.declared.ResponseState.{ResponseState}
-use Rattle.codec_telegrams.specs.declared.Telegram.{Telegram}
-use Rattle.codec_telegrams.specs.declared.Telegram.the-variants.{Request, Response}
+use Rattle.codec_telegrams.specs.declared.Telegram.the-variants.{Response}
 use Rattle.codec_telegrams.specs.Words.{responseNumber, responseStateOf, TelegramFits}
 use Rattle.codec_telegrams.specs.Laws.{state-below, state-read, state-written}
 use Rattle.codec_frames.specs.declared.Start.{Start}

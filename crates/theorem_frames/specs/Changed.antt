@@ -2,15 +2,15 @@
 -- Assumes nothing.
 use Prim.Native.Nat.{ℕ, zero, suc, _+_, _%_, _^_, _<_, _≤_}
 use mathlib.Core.Path.{_≡_, refl, sym, ap, _∙_}
-use mathlib.Core.List.{List, [], _∷_, _++_, append-nil}
-use mathlib.Core.Bool.{Bool, true, false, cond, not, _&&_}
+use mathlib.Core.List.{List, [], _∷_}
+use mathlib.Core.Bool.{true, false, cond, not, _&&_}
 use native.Mathlib.Nat.{mod-lt}
 use native.Mathlib.Omega.{arith}
-use borrow.Author.Tests.{eq-eqb, ne-eqb, eqb-true, eqb-false, le-ltb, ltb-false, not-false}
+use borrow.Author.Tests.{ne-eqb, eqb-true, eqb-false, ltb-false, not-false}
 use borrow.Table.Steps.{cases}
 use lib.ListN.{length, getD, take, drop, set, length-set, length-drop}
 use lib.Seq.{getD-take, getD-drop, getD-set-same, getD-set-other, drop-set-add, take-set-le, take-set-lt, length-take-le}
-use lib.Dec.{eqb, ltb, lit<, lit≤}
+use lib.Dec.{eqb, lit<, lit≤}
 use Rattle.codec_fields.specs.Fields.{bitAt, Bytes}
 use Rattle.codec_telegrams.specs.declared.Telegram.{Telegram}
 use Rattle.codec_telegrams.specs.declared.Telegram.the-variants.{Token, ShortConfirmation, Request, Response}
@@ -20,7 +20,7 @@ use Rattle.codec_frames.specs.declared.Start.{Start}
 use Rattle.codec_frames.specs.declared.Start.the-variants.{Sd1, Sd2, Sd3, Sd4, Sc, Unknown}
 use Rattle.codec_frames.specs.declared.FrameRead.{FrameRead}
 use Rattle.codec_frames.specs.declared.FrameRead.the-variants.{Accepted, Refused}
-use Rattle.codec_frames.specs.Frames.{sd1, sd2, sd3, sd4, sc, endByte, sumOf, checkOf, sd1Frame, statusCode, responseCode, frameBytes, isOtherRequest, startOf, isUnknown, isSd2, isChecked, headLength, bodyLength, checkPlace, frameLength, headHolds, frameOn, frameOf}
+use Rattle.codec_frames.specs.Frames.{sd1, sd2, sd3, sd4, sc, endByte, sumOf, checkOf, sd1Frame, statusCode, responseCode, frameBytes, isOtherRequest, startOf, isUnknown, isSd2, isChecked, headLength, bodyLength, checkPlace, headHolds, frameOn, frameOf}
 use Rattle.theorem_frames.specs.Whole.{accepted, no-bit}
 use Rattle.theorem_frames.specs.Bytes.{first-byte, byte-at}
 use Rattle.theorem_frames.specs.RoundTrip.{frame-reads-back}

@@ -1,11 +1,11 @@
 -- What stands behind a frame, a frame cut short, and that no frame begins another: the theorems have their statements here.
 -- Assumes nothing.
-use Prim.Native.Nat.{ℕ, zero, suc, _+_, _^_, _<_, _≤_}
+use Prim.Native.Nat.{ℕ, zero, suc, _+_, _<_, _≤_}
 use mathlib.Core.Path.{_≡_, refl, sym, ap, _∙_}
 use mathlib.Core.List.{List, [], _∷_, _++_, append-nil}
-use mathlib.Core.Bool.{Bool, true, false, not, _&&_}
+use mathlib.Core.Bool.{false}
 use native.Mathlib.Omega.{arith}
-use borrow.Author.Tests.{ne-eqb, eqb-false, le-ltb, lt-ltb, ltb-false}
+use borrow.Author.Tests.{ne-eqb, le-ltb, lt-ltb, ltb-false}
 use borrow.Table.Steps.{cases}
 use lib.ListN.{length, getD, take, drop, length-append, length-take, length-drop, take-append-drop, List·getD-append}
 use lib.Seq.{getD-take, length-take-le, take-append-le, drop-append-le}

@@ -1,14 +1,13 @@
 -- Frames written, read and cut: the theorems have their statements here, each with a sentence. `writeOf` and `frameOf` are what the
 -- calls' contracts say. Assumes nothing.
-use Prim.Native.Nat.{ℕ, zero, suc, _+_, _*_, _^_, _<_, _≤_}
-use mathlib.Core.Path.{_≡_, refl, sym, ap, _∙_}
-use mathlib.Core.List.{List, [], _∷_, _++_, append-nil}
-use mathlib.Core.Bool.{Bool, true, false, cond, not, _&&_, _||_}
+use Prim.Native.Nat.{ℕ, _+_, _*_, _^_, _<_, _≤_}
+use mathlib.Core.Path.{_≡_, refl, ap, _∙_}
+use mathlib.Core.List.{List, [], _∷_, _++_}
+use mathlib.Core.Bool.{Bool, true, false, not, _||_}
 use native.Mathlib.Omega.{arith}
-use borrow.Author.Tests.{eq-eqb, ne-eqb, eqb-true, eqb-false, le-ltb, lt-ltb, ltb-false, not-false}
+use borrow.Author.Tests.{eq-eqb, ne-eqb, eqb-true, le-ltb, ltb-false, not-false}
 use borrow.Table.Steps.{cases}
-use lib.ListN.{length, getD, take, drop, length-append, length-take}
-use lib.Seq.{getD-take}
+use lib.ListN.{length, getD, take, drop, length-take}
 use lib.Dec.{eqb, ltb}
 use Rattle.codec_fields.specs.Fields.{bitAt, Bytes}
 use Rattle.codec_telegrams.specs.declared.Telegram.{Telegram}
@@ -17,10 +16,9 @@ use Rattle.codec_telegrams.specs.Words.{telegramOf, telegramRefusal, telegramWo
 use Rattle.codec_telegrams.specs.Laws.{telegram-fits, telegram-read, telegram-written, state-below}
 use Rattle.codec_frames.specs.declared.Start.{Start}
 use Rattle.codec_frames.specs.declared.Start.the-variants.{Sd1, Sd2, Sd3, Sd4, Sc, Unknown}
-use Rattle.codec_frames.specs.declared.FrameRead.{FrameRead}
-use Rattle.codec_frames.specs.declared.FrameRead.the-variants.{Accepted, Refused}
-use Rattle.codec_frames.specs.Frames.{sd1, sd4, sc, endByte, statusCode, checkOf, sd1Frame, responseCode, frameBytes, isOtherRequest, startOf, isSd2, frameLength, telegramIn, codedTelegram, frameOn, frameOf, readNumber, Written, notWritten, fitted, writeOf, writtenOver, headHolds}
-use Rattle.codec_frames.specs.Laws.{status-read, empty-way}
+use Rattle.codec_frames.specs.declared.FrameRead.the-variants.{Accepted}
+use Rattle.codec_frames.specs.Frames.{sd4, sc, endByte, statusCode, checkOf, sd1Frame, responseCode, frameBytes, isOtherRequest, startOf, frameLength, telegramIn, codedTelegram, frameOf, readNumber, fitted, writeOf, writtenOver}
+use Rattle.codec_frames.specs.Laws.{status-read}
 use Rattle.theorem_frames.specs.Whole.{Whole, accepted, whole-read, no-bit, below-128}
 use Rattle.theorem_frames.specs.Bytes.{startByte, first-byte, byte-at, front-1, front-3, front-6, response-read, response-written, coded-fits}
 

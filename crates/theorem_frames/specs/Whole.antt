@@ -1,15 +1,13 @@
 -- What the reader accepts, line by line, and facts on bits of a byte. Assumes nothing.
-use Prim.Native.Nat.{ℕ, _+_, _-_, _*_, _/_, _%_, _^_, _<_, _≤_}
-use mathlib.Core.Path.{_≡_, refl, sym, ap, _∙_}
-use mathlib.Core.List.{List, [], _∷_, _++_}
-use mathlib.Core.Bool.{Bool, true, false, cond, not, _&&_, _||_}
-use native.Mathlib.Nat.{div-eq-of-lt, div-one, mod-lt, mod-eq-of-lt}
+use Prim.Native.Nat.{ℕ, _+_, _/_, _%_, _^_, _<_}
+use mathlib.Core.Path.{_≡_, refl}
+use mathlib.Core.List.{List}
+use mathlib.Core.Bool.{Bool, true, false, cond, not, _&&_}
+use native.Mathlib.Nat.{div-eq-of-lt}
 use native.Mathlib.Omega.{arith}
-use borrow.Author.Tests.{eqb-false, eqb-true, ne-eqb}
-use borrow.Table.Steps.{cases}
-use lib.ListN.{length, getD, take, drop}
-use lib.Dec.{eqb, ltb, leb, lit<}
-use lib.Pow.{high, low}
+use borrow.Author.Tests.{eqb-false}
+use lib.ListN.{length, getD}
+use lib.Dec.{eqb, ltb}
 use Rattle.codec_fields.specs.Fields.{fieldOf, bitAt}
 use Rattle.codec_telegrams.specs.declared.Telegram.{Telegram}
 use Rattle.codec_frames.specs.declared.Start.{Start}

@@ -1,5 +1,4 @@
 -- `codec_frames::write_sd1` meets its contract, return by return. Assumes nothing.
-use mathlib.Core.Path.{sym}
 use mathlib.Core.List.{[], _∷_}
 use native.Mathlib.Omega.{arith}
 use borrow.Author.Needs.{needs}

@@ -2,7 +2,7 @@
 use mathlib.Core.List.{[], _∷_}
 use native.Mathlib.Omega.{arith}
 use borrow.Author.Needs.{needs}
-use lib.Seq.{lt-length-sets, length-sets}
+use lib.Seq.{lt-length-sets}
 use Rattle.codec_frames.specs.Frames.{sd4}
 use Rattle.codec_frames.specs.Laws.{not-stored, stored}
 use Rattle.codec_frames.proofs.write_sd4.Statement.{statement}
