@@ -159,7 +159,7 @@ fn read_checked(frame: &[u8], head: u8, count: u8) -> FrameRead
     )
 }
 
-// SD2, of at least one byte: a header of four bytes, the length twice in it, and what a frame with a check byte has.
+// SD2: a header of four bytes, with the length twice in it, and then what a frame with a check byte has.
 fn read_sd2(frame: &[u8]) -> FrameRead
     ensures { λ r. ⌜ r ≡ sd2Of (now (frame .entry)) ⌝ }
 {

@@ -159,8 +159,8 @@ sd1Changed d s i b =
     (cond (eqb b sc) (Accepted ShortConfirmation 1) (cond (eqb b sd2) (Refused 21) (cond (eqb b sd3) (Refused 19) (Refused 20)))))
     (cond (eqb i 5) (Refused 23) (Refused 22))
 
--- what a reader makes of a start byte with nothing but this behind it that was changed to b, unless b is SC: an unknown one is 20,
--- and the others begin longer frames, 19
+-- what a reader makes of a token or a short confirmation whose first byte was changed to b, where b is not SC: 20 where b begins no
+-- frame, else 19, since what it begins is longer
 abbrev pub shortChanged : ℕ → FrameRead
 shortChanged b = cond (isUnknown (startOf b)) (Refused 20) (Refused 19)
 
