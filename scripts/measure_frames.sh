@@ -1,9 +1,9 @@
 #!/usr/bin/env bash
 # Prints what reading a frame costs: the instructions of the proved program run_frames and of a plain C reader
 # (hosts/c/plain_frames.c) on the same frames, counted by valgrind or, on a machine that is not x86-64, by the toolchain's
-# emulator, one instruction at a time. The C reader is built with -O2, and with -O3, by which gcc adds many bytes at a time. The counts of a run on 3 frames are taken from those on 13, so that what comes before
-# and after falls away; the walk from frame to frame and the sum of what was read are counted with both. PROGRAM in the
-# environment measures another build of the program.
+# emulator, one instruction at a time. The C reader is built with -O2, and with -O3, by which gcc adds many bytes at a time.
+# The counts of a run on 3 frames are taken from those on 13, so that what comes before and after falls away; the walk from
+# frame to frame is counted with both. PROGRAM in the environment measures another build of the program.
 set -euo pipefail
 cd "$(dirname "$0")/.." || exit 1
 me="measure frames"
@@ -68,13 +68,13 @@ a_frame() {
     echo $(((many - few) / 10))
 }
 
-# The sum of 13 equal returns, or, where the program joins them by exclusive or, one of them.
+# Both read the same: the proved program prints what it made of the last frame, the plain one how many frames there were and
+# the sum of what it made of them.
 agree() {
-    local frames sum returned
-    read -r frames sum <"$folder/said" || fail "$program prints nothing"
-    returned=$(($(cut -d ' ' -f 2 "$folder/plain-said") / 13))
-    if [ "$frames" != 13 ] || { [ "$sum" != $((13 * returned)) ] && [ "$sum" != "$returned" ]; }; then
-        fail "$program prints '$frames $sum', and the plain reader '$(<"$folder/plain-said")'"
+    local frames sum
+    read -r frames sum <"$folder/plain-said" || fail "$plain-2 prints nothing"
+    if [ "$frames" != 13 ] || [ "$(<"$folder/said")" != "$(printf '%016x' $((sum / 13)))" ]; then
+        fail "$program prints '$(<"$folder/said")', and the plain reader '$(<"$folder/plain-said")'"
     fi
 }
 
