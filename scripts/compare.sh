@@ -1,6 +1,7 @@
 #!/usr/bin/env bash
-# Compares the proved code with Rust: the settings with the published parameters.rs, and the trace call with the published
-# active.rs. SEED and TRACES in the environment change what is generated.
+# Compares the proved code with Rust: the settings with the published parameters.rs, the trace call with the published
+# active.rs, and the calls on frames with a reader and a writer from document 02. SEED, TRACES and FRAMES in the environment
+# change what is generated.
 set -euo pipefail
 cd "$(dirname "$0")/.." || exit 1
 me=compare
@@ -8,6 +9,7 @@ me=compare
 
 seed=${SEED:-1}
 traces=${TRACES:-20000}
+frames=${FRAMES:-1000000}
 
 need cargo cargo
 
@@ -43,5 +45,11 @@ if [ "$(uname -m)" = x86_64 ]; then
         fail "the trace call in a program is not the published station's (seed $seed)"
     }
     echo "by a program: $(tail -n 1 <<<"$said")"
+    said=$(SEED=$seed COUNT=1000 BY_PROGRAM=1 bash scripts/compare_frames.sh) || {
+        echo "$said"
+        fail "the calls on frames in a program are not document 02's (seed $seed)"
+    }
+    echo "by a program: $(tail -n 1 <<<"$said")"
 fi
+SEED=$seed COUNT=$frames bash scripts/compare_frames.sh || fail "the calls on frames are not document 02's (seed $seed)"
 SEED=$seed COUNT=$traces bash scripts/compare_traces.sh || fail "the trace call is not the published station's (seed $seed)"

@@ -46,15 +46,21 @@ def is_law(path, has_code):
     name = os.path.basename(path)
     if not has_code:
         return name not in CLAIMS
-    return name.endswith("Laws.antt") or name in (
+    return name.endswith("Laws.antt") or path.endswith("codec_slices/specs/Parts.antt") or name in (
         "Built.antt",
         "Examples.antt",
+        "Finish.antt",
+        "Finished.antt",
         "Made.antt",
+        "Moves.antt",
         "Neighbours.antt",
         "Numbers.antt",
         "Passes.antt",
+        "Places.antt",
+        "Round.antt",
         "Shortcut.antt",
         "Stores.antt",
+        "Ways.antt",
         "Widths.antt",
         "Written.antt",
     )

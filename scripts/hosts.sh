@@ -15,19 +15,20 @@ long=100000
 # How many traces are made at random to measure the stack.
 at_random=1000
 
-# The C test holds, and it finds each planted fault of hosts/c/faulty.c.
+# test_c TEST FAULTY CALL..: the C test holds, and it finds each fault that the file FAULTY plants in these calls.
 test_c() {
-    local faults fault
-    c_host "$built/test" hosts/c/test.c
-    "${emulator[@]}" "$built/test" || fail "the C host's test does not hold"
-    faults=$(grep -c '^    case [0-9]' hosts/c/faulty.c) || fail "hosts/c/faulty.c has no faults"
+    local test=hosts/c/$1.c faulty=hosts/c/$2.c calls=() call faults fault
+    shift 2
+    for call in "$@"; do calls+=("-Damsulfezd_$call=faulty_$call"); done
+    c_host "$built/test" "$test"
+    "${emulator[@]}" "$built/test" || fail "the C host's $test does not hold"
+    faults=$(grep -c '^    case [0-9]' "$faulty") || fail "$faulty has no faults"
     for fault in $(seq "$faults"); do
-        "${compile[@]}" -DFAULT="$fault" -c hosts/c/faulty.c -o "$built/faulty.o" || fail "hosts/c/faulty.c does not build"
-        c_host "$built/test-faulty" -Damsulfezd_replay_trace=faulty_replay_trace -Damsulfezd_other_edition=faulty_other_edition \
-            hosts/c/test.c "$built/faulty.o"
-        ! "${emulator[@]}" "$built/test-faulty" >/dev/null 2>&1 || fail "the C host's test does not find planted fault $fault"
+        "${compile[@]}" -DFAULT="$fault" -c "$faulty" -o "$built/faulty.o" || fail "$faulty does not build"
+        c_host "$built/test-faulty" "${calls[@]}" "$test" "$built/faulty.o"
+        ! "${emulator[@]}" "$built/test-faulty" >/dev/null 2>&1 || fail "the C host's $test does not find planted fault $fault"
     done
-    echo "C host: its test finds each of $faults planted faults"
+    echo "C host: that test finds each of $faults planted faults"
 }
 
 # compiles COMPILER WORD..: the header and all that is in it compile without a warning.
@@ -190,7 +191,8 @@ need_c_compiler
 build_staticlib
 mkdir -p "$built"
 
-test_c
+test_c test faulty replay_trace other_edition
+test_c test_frames faulty_frames read_frame write_frame
 test_header
 test_stack
 test_c_example

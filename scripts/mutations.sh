@@ -1,6 +1,7 @@
 #!/usr/bin/env bash
-# Plants each error of oracle/mutants/list.rs in a copy of the oracle, runs traces, moves or the settings table until one shows it,
-# and writes the table oracle/MUTATIONS.md. Not part of the gate: it takes some minutes.
+# Plants each error of oracle/mutants/list.rs in a copy of the oracle, runs traces, moves or the settings table until one
+# shows it, each error of oracle/mutants/frames.rs in a copy of the reader and writer of frames, and writes the tables of
+# oracle/MUTATIONS.md. Not part of the gate: it takes some minutes.
 set -euo pipefail
 cd "$(dirname "$0")/.." || exit 1
 me="mutations"
@@ -11,6 +12,8 @@ build_oracle --profile planted -p mutants
 found=yes
 table=$(target/oracle/planted/mutants) || found=no
 [ -n "$table" ] || fail "the planted errors were not tried"
+frames=$(target/oracle/planted/mutants frames) || found=no
+[ -n "$frames" ] || fail "the planted errors in frames were not tried"
 part=oracle/MUTATIONS.md.part-$$
 trap 'rm -f "$part"' EXIT
 cat >"$part" <<EOF_TABLE || fail "$part cannot be written"
@@ -23,7 +26,15 @@ of these traces whose header moves otherwise to the other edition. "settings tab
 \`parameters.rs\`. "none" says why no run can. Made by \`bash scripts/mutations.sh\`.
 
 $table
+
+## Frames
+
+The same for the oracle's reader and writer of frames (\`src/frames/frame.rs\`): the part of the comparison that shows each
+error, and the shortest start of the first frame that does, or the word and the room.
+
+$frames
 EOF_TABLE
 mv -f "$part" oracle/MUTATIONS.md || fail "oracle/MUTATIONS.md cannot be written"
-tail -n 1 oracle/MUTATIONS.md
+tail -n 1 <<<"$table"
+tail -n 1 <<<"$frames"
 [ "$found" = yes ] || fail "an error was not found; see oracle/MUTATIONS.md"

@@ -3,16 +3,19 @@
  *
  * A trace is a header and then entries: commands and poll records. A header has 16 bytes (edition 1), or 14 that begin
  * with 82h (edition 2, for slow lines). The proved call amsulfezd_replay_trace runs a trace and writes an answer of 8
- * bytes for each entry; amsulfezd_other_edition moves a header to the other edition. In this file, in this order:
+ * bytes for each entry; amsulfezd_other_edition moves a header to the other edition. amsulfezd_read_frame reads a frame
+ * as it stands on the bus, amsulfezd_write_frame writes one. In this file, in this order:
  *
  *   the numbers in traces and answers      enum amsulfezd_..
- *   the calls                              amsulfezd_replay_trace, amsulfezd_entries, amsulfezd_ending;
- *                                          amsulfezd_other_edition, amsulfezd_written, amsulfezd_number
+ *   the calls on traces                    amsulfezd_replay_trace, amsulfezd_entries, amsulfezd_ending;
+ *                                          amsulfezd_other_edition, amsulfezd_written; amsulfezd_number
+ *   the calls on frames                    amsulfezd_read_frame, amsulfezd_write_frame, amsulfezd_frame_..
  *   readers of an answer                   amsulfezd_answer, amsulfezd_answer_..
  *   writers of a trace                     amsulfezd_write_header, amsulfezd_write_header_2, amsulfezd_write_command,
  *                                          amsulfezd_write_poll
  *
- * example.c uses all four. The field widths are document 01's, "Station" and "Trace", and document 02's, P9.
+ * example.c uses all but the frames. The field widths are document 01's, "Station" and "Trace", and document 02's, P9; a
+ * frame's bytes are document 02's, P1.
  *
  * Linking. `rt staticlib amsulfezd` proves the library and writes target/staticlib/libamsulfezd.a. From the
  * repository's root:
@@ -22,15 +25,15 @@
  *
  * The library needs no other one. It is for x86-64 with the System V calling convention (ELF, 64-bit pointers), and
  * for no other target. Readers and writers are plain C, inline, and work anywhere: with AMSULFEZD_WITHOUT_CALL
- * defined this file has them and not the call.
+ * defined this file has them and not the calls.
  *
  * Stack. A call uses at most AMSULFEZD_STACK_BYTES of the caller's stack, its return address included, whatever the
  * trace's length. Measured: 1,554 bytes, with the library of the toolchain rattle-kit-5b. The method: the call runs on
  * a stack of its own that was filled with a pattern, and the deepest byte that changed is looked for, over all traces
  * of traces/, one of 100,000 entries and 1,000 traces made at random, which reach every state and every kind of send;
- * each is replayed, and its header moved to the other edition. hosts/c/stack.c does this and is part of the tests, so
- * that a library that uses more than AMSULFEZD_STACK_BYTES is found. The library's code has no recursion, takes no stack
- * by a computed length and calls nothing outside itself.
+ * each is replayed, and its header moved to the other edition; and over a frame of each start byte and a word of each
+ * kind. hosts/c/stack.c does this and is part of the tests, so that a library that uses more than AMSULFEZD_STACK_BYTES is
+ * found. The library's code has no recursion, takes no stack by a computed length and calls nothing outside itself.
  */
 #ifndef AMSULFEZD_H
 #define AMSULFEZD_H
@@ -66,9 +69,9 @@ extern "C" {
 #define AMSULFEZD_STACK_BYTES 4096
 
 /*
- * Document 01's refusal numbers, and document 02's 25. As ending number of a run: 0, the number of a refused header (1 to
- * 8, 10, 11, 14, 25), 17 or 18. In an answer: 0, or 12 to 16. Number 9 belongs to a settings call and is never answered
- * here.
+ * The refusal numbers of documents 01 and 02. As ending number of a run: 0, the number of a refused header (1 to 8, 10, 11,
+ * 14, 25), 17 or 18. In an answer: 0, or 12 to 16. Of a frame that is read: 0, 19 to 24 or 34; of a word to be written: 0,
+ * 14, 18 or 34. Number 9 belongs to a settings call and is never answered here.
  */
 enum amsulfezd_refusal {
     AMSULFEZD_OK = 0,
@@ -89,8 +92,16 @@ enum amsulfezd_refusal {
     AMSULFEZD_REFUSAL_NO_BYTES = 15,        /* sending 0 bytes */
     AMSULFEZD_REFUSAL_PASSIVE = 16,         /* passive */
     AMSULFEZD_REFUSAL_CUT = 17,             /* trace ends inside header or entry, or is above 2^32 bytes */
-    AMSULFEZD_REFUSAL_NO_ROOM = 18,         /* no 8 bytes left for an answer */
-    AMSULFEZD_REFUSAL_GAP_ROOM = 25         /* rotation with no room for a gap poll: below slot bits + 100 */
+    AMSULFEZD_REFUSAL_NO_ROOM = 18,         /* no 8 bytes left for an answer; no room for a header or a frame */
+    /* Document 02's: 25 of a header, the others of a frame. */
+    AMSULFEZD_REFUSAL_FRAME_CUT = 19,         /* frame empty or cut short */
+    AMSULFEZD_REFUSAL_START_BYTE = 20,        /* start byte */
+    AMSULFEZD_REFUSAL_FRAME_HEADER = 21,      /* SD2 header: its repeated bytes differ, or the length is outside 4..249 */
+    AMSULFEZD_REFUSAL_CHECK_BYTE = 22,        /* check byte */
+    AMSULFEZD_REFUSAL_END_BYTE = 23,          /* end byte */
+    AMSULFEZD_REFUSAL_ADDRESS_EXTENSION = 24, /* address extension bit */
+    AMSULFEZD_REFUSAL_GAP_ROOM = 25,          /* rotation with no room for a gap poll: below slot bits + 100 */
+    AMSULFEZD_REFUSAL_FUNCTION_CODE = 34      /* top bit of the function code set; to be written: any other request */
 };
 
 /* How a poll ended. */
@@ -154,7 +165,22 @@ enum amsulfezd_telegram_kind {
     AMSULFEZD_TELEGRAM_RESPONSE = 3
 };
 
-/* ---- The calls --------------------------------------------------------------------------------------------------- */
+/* Bytes with a meaning in a frame. */
+enum amsulfezd_frame_byte {
+    AMSULFEZD_FRAME_SD1 = 0x10,           /* start byte: no data, 6 bytes */
+    AMSULFEZD_FRAME_SD2 = 0x68,           /* start byte: data of any length, 10 to 255 bytes */
+    AMSULFEZD_FRAME_SD3 = 0xa2,           /* start byte: 8 data bytes, 14 bytes */
+    AMSULFEZD_FRAME_SD4 = 0xdc,           /* start byte: a token, 3 bytes */
+    AMSULFEZD_FRAME_SC = 0xe5,            /* start byte: a short confirmation, 1 byte */
+    AMSULFEZD_FRAME_END = 0x16,           /* the end byte of SD1, SD2 and SD3 */
+    AMSULFEZD_FRAME_STATUS_REQUEST = 0x49 /* the function code of a status request */
+};
+
+/* The longest frame that is read, and the longest that is written, in bytes. */
+#define AMSULFEZD_FRAME_READ_LENGTH 255
+#define AMSULFEZD_FRAME_WRITTEN_LENGTH 6
+
+/* ---- The calls on traces ----------------------------------------------------------------------------------------- */
 
 #ifndef AMSULFEZD_WITHOUT_CALL
 /*
@@ -225,7 +251,7 @@ static inline uint64_t amsulfezd_written(uint64_t returned)
     return returned / 256;
 }
 
-/* The refusal number, of what amsulfezd_other_edition returned: see enum amsulfezd_refusal. */
+/* The refusal number, of what any call but amsulfezd_replay_trace returned: see enum amsulfezd_refusal. */
 static inline unsigned amsulfezd_number(uint64_t returned)
 {
     return (unsigned)(returned % 256);
@@ -235,6 +261,55 @@ static inline unsigned amsulfezd_number(uint64_t returned)
 static inline size_t amsulfezd_header_length(const uint8_t *trace, size_t trace_len)
 {
     return trace_len != 0 && trace[0] == AMSULFEZD_EDITION_2 ? AMSULFEZD_HEADER_LENGTH_2 : AMSULFEZD_HEADER_LENGTH;
+}
+
+/* ---- The calls on frames ----------------------------------------------------------------------------------------- */
+
+#ifndef AMSULFEZD_WITHOUT_CALL
+/*
+ * Reads one frame, as it stands on the bus, at the start of these bytes. Bytes after the frame are not looked at.
+ *
+ * Returns word * 65536 + bytes used * 256 + 0, or, refused, the number alone: 19 to 24 or 34 of enum amsulfezd_refusal.
+ * The word is that of a telegram in a poll record: kind 2 bits, destination 7, source 7, status request 1, station type
+ * 2, status 4, zero 9. Data are left out. Take it apart with amsulfezd_number, amsulfezd_frame_bytes, amsulfezd_frame_word
+ * and amsulfezd_telegram_of.
+ *
+ * The order in which a frame is refused: 19 empty; 20 start byte; 19 for a header of SD2 with fewer than 4 bytes, then
+ * 21 if its length or its start byte is not repeated or the length is outside 4 to 249; 19 cut short; 22 check byte;
+ * 23 end byte; 24 an address with its bit 7 set (SC has none); 34 a function code with its top bit set.
+ *
+ * What the caller must ensure: `frame` points to frame_len readable bytes for the time of the call, is not NULL, not even
+ * with length 0, and nobody writes to it during the call. Any content is allowed. Nothing is written. The call keeps no
+ * pointer, allocates nothing, has no state and always returns; its time grows with the frame's length, at most 255 bytes.
+ */
+uint64_t amsulfezd_read_frame(const uint8_t *frame, size_t frame_len);
+
+/*
+ * Writes a telegram's word as a frame to the start of `frame`: a token with SD4, 3 bytes, a short confirmation with SC, 1
+ * byte, a status request or a response with SD1, 6 bytes.
+ *
+ * Returns bytes written * 256 + 0, or, refused, the number alone, and then nothing is written: 14 if a bit is set that
+ * should be zero, 34 for any other request, 18 if there is no room for the frame, in this order.
+ *
+ * Which bytes change: those of the frame. All others of `frame` keep their value, and nothing else is written.
+ *
+ * What the caller must ensure: `frame` points to frame_len writable bytes for the time of the call, is not NULL, not even
+ * with length 0, and nobody else writes to it during the call. The call keeps no pointer, allocates nothing, has no state
+ * and always returns.
+ */
+uint64_t amsulfezd_write_frame(uint32_t word, uint8_t *frame, size_t frame_len);
+#endif
+
+/* How many bytes were used or written, of what either call on frames returned. */
+static inline unsigned amsulfezd_frame_bytes(uint64_t returned)
+{
+    return (unsigned)(returned / 256 % 256);
+}
+
+/* The telegram's word, of what amsulfezd_read_frame returned. */
+static inline uint32_t amsulfezd_frame_word(uint64_t returned)
+{
+    return (uint32_t)(returned / 65536);
 }
 
 /* ---- Readers of an answer ---------------------------------------------------------------------------------------- */
@@ -662,12 +737,25 @@ static inline uint64_t amsulfezd_decision_word(const struct amsulfezd_decision *
            (uint64_t)decision->reply_address << 15 | (uint64_t)decision->length << 7;
 }
 
-/* For amsulfezd_write_poll: a telegram's 32 bits. */
+/* A telegram's 32 bits, each field as it is given: for amsulfezd_write_poll, and the word of amsulfezd_write_frame. */
 static inline uint64_t amsulfezd_telegram_word(const struct amsulfezd_telegram *telegram)
 {
     return (uint64_t)telegram->kind << 30 | (uint64_t)telegram->destination << 23 | (uint64_t)telegram->source << 16 |
            (uint64_t)telegram->status_request << 15 | (uint64_t)telegram->station_type << 13 |
            (uint64_t)telegram->status << 9;
+}
+
+/* The telegram with these 32 bits, such as the word of a frame: see amsulfezd_frame_word. */
+static inline struct amsulfezd_telegram amsulfezd_telegram_of(uint32_t word)
+{
+    struct amsulfezd_telegram telegram;
+    telegram.kind = (uint8_t)(word >> 30);
+    telegram.destination = (uint8_t)amsulfezd_field(word, 23, 7);
+    telegram.source = (uint8_t)amsulfezd_field(word, 16, 7);
+    telegram.status_request = (uint8_t)amsulfezd_field(word, 15, 1);
+    telegram.station_type = (uint8_t)amsulfezd_field(word, 13, 2);
+    telegram.status = (uint8_t)amsulfezd_field(word, 9, 4);
+    return telegram;
 }
 
 /*

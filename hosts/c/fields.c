@@ -105,11 +105,55 @@ static void test_readers(void)
     check(AMSULFEZD_NOBODY == 127, "not document 02's number", "AMSULFEZD_NOBODY");
     check(amsulfezd_answer_next_station(UINT64_C(0x00000000000001fc)) == AMSULFEZD_NOBODY, "nobody", "alone");
     check(amsulfezd_answer_next_station(UINT64_C(0x0000000000000014)) != AMSULFEZD_NOBODY, "a station", "5 is next");
-    check(amsulfezd_entries(6 * 256 + 17) == 6, "entries", "6 * 256 + 17");
+    check(amsulfezd_entries(1000 * 256 + 17) == 1000, "entries", "1000 * 256 + 17");
     check(amsulfezd_ending(6 * 256 + 17) == 17, "ending number", "6 * 256 + 17");
 }
 
-/* Document 01's numbers, in their order, and document 02's. */
+/* A frame's word has these fields: kind, destination, source, status request, type, status. */
+static void reads_word(uint32_t word, const unsigned fields[6], const char *where)
+{
+    const struct amsulfezd_telegram telegram = amsulfezd_telegram_of(word);
+    check(telegram.kind == fields[0], "kind", where);
+    check(telegram.destination == fields[1], "destination", where);
+    check(telegram.source == fields[2], "source", where);
+    check(telegram.status_request == fields[3], "status request", where);
+    check(telegram.station_type == fields[4], "station type", where);
+    check(telegram.status == fields[5], "status", where);
+}
+
+/* Document 02's numbers of frames; what the calls on frames return; the fields of a word. */
+static void test_frames(void)
+{
+    static const unsigned refusals[] = {
+        AMSULFEZD_REFUSAL_FRAME_CUT,  AMSULFEZD_REFUSAL_START_BYTE, AMSULFEZD_REFUSAL_FRAME_HEADER,
+        AMSULFEZD_REFUSAL_CHECK_BYTE, AMSULFEZD_REFUSAL_END_BYTE,   AMSULFEZD_REFUSAL_ADDRESS_EXTENSION,
+    };
+    static const unsigned request[6] = {2, 5, 9, 1, 0, 0};
+    static const unsigned response[6] = {3, 127, 126, 0, 3, 15};
+    static const unsigned even[6] = {3, 0, 127, 0, 3, 0};
+    static const unsigned odd[6] = {0, 127, 0, 1, 0, 15};
+    unsigned i;
+    for (i = 0; i < sizeof refusals / sizeof refusals[0]; i++) {
+        check(refusals[i] == 19 + i, "not document 02's number", "refusals");
+    }
+    check(AMSULFEZD_REFUSAL_FUNCTION_CODE == 34, "not document 02's number", "function code");
+    check(AMSULFEZD_FRAME_SD1 == 0x10 && AMSULFEZD_FRAME_SD2 == 0x68 && AMSULFEZD_FRAME_SD3 == 0xa2 &&
+              AMSULFEZD_FRAME_SD4 == 0xdc && AMSULFEZD_FRAME_SC == 0xe5,
+          "not document 02's byte", "start bytes");
+    check(AMSULFEZD_FRAME_END == 0x16 && AMSULFEZD_FRAME_STATUS_REQUEST == 0x49, "not document 02's byte",
+          "end byte and status request");
+    check(AMSULFEZD_FRAME_READ_LENGTH == 4 + 249 + 2 && AMSULFEZD_FRAME_WRITTEN_LENGTH == 6, "lengths", "frames");
+    check(amsulfezd_number(UINT64_C(0xfffe7e00ff17)) == 0x17, "the number", "fffe7e00 ff 17");
+    check(amsulfezd_frame_bytes(UINT64_C(0xfffe7e00ff17)) == 0xff, "the bytes", "fffe7e00 ff 17");
+    check(amsulfezd_frame_bytes(UINT64_C(0xfffe7e010617)) == 6, "the bytes", "fffe7e01 06 17");
+    check(amsulfezd_frame_word(UINT64_C(0xfffe7e00ff17)) == UINT32_C(0xfffe7e00), "the word", "fffe7e00 ff 17");
+    reads_word(UINT32_C(0x82898000), request, "a status request from 9 to 5");
+    reads_word(UINT32_C(0xfffe7e00), response, "a response from 126 to 127");
+    reads_word(UINT32_C(0xc07f6000), even, "every second field full");
+    reads_word(UINT32_C(0x3f809fff), odd, "the other fields full");
+}
+
+/* Document 01's numbers, in their order, and document 02's 25. */
 static void test_numbers(void)
 {
     static const unsigned refusals[] = {
@@ -333,7 +377,7 @@ static void test_header_2(void)
         check(amsulfezd_header_length(bytes, 1) == (i == 130 ? 14u : 16u), "the length of a header", "its first byte");
         check(amsulfezd_header_length(bytes, 0) == 16, "the length of a header", "no byte");
     }
-    check(amsulfezd_written(14 * 256 + 25) == 14, "bytes written", "14 * 256 + 25");
+    check(amsulfezd_written(1000 * 256 + 25) == 1000, "bytes written", "1000 * 256 + 25");
     check(amsulfezd_number(14 * 256 + 25) == 25, "refusal number", "14 * 256 + 25");
 }
 
@@ -484,6 +528,7 @@ int main(int count, char **words)
     }
     test_readers();
     test_numbers();
+    test_frames();
     test_header();
     test_header_2();
     test_commands();

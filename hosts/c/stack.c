@@ -3,7 +3,8 @@
  * own that is filled with a pattern; afterwards the deepest byte that changed is looked for. The traces: those of the
  * files named, example 12's header with 100,000 times online, and as many made at random as are asked for, with headers
  * of both editions; each is replayed, and its header moved to the other edition; each state and each kind of send, and
- * moves both ways, must have been seen. Built with -DFAULT the call takes more, which must be found.
+ * moves both ways, must have been seen. Frames: one of each start byte, and a word of each kind. Built with -DFAULT the
+ * call takes more, which must be found.
  *
  * usage: stack TRACES FILE..
  */
@@ -133,6 +134,54 @@ static void measure(const uint8_t *bytes, size_t length, const char *name)
     }
 }
 
+/* Reads the frame that is lent. */
+static uint64_t read_frame(const uint8_t *lent, size_t length, uint8_t *buffer, size_t room)
+{
+    (void)buffer;
+    (void)room;
+    return amsulfezd_read_frame(lent, length);
+}
+
+/* Writes the word whose four bytes are lent. */
+static uint64_t write_frame(const uint8_t *lent, size_t length, uint8_t *buffer, size_t room)
+{
+    uint32_t word = (uint32_t)lent[0] << 24 | (uint32_t)lent[1] << 16 | (uint32_t)lent[2] << 8 | lent[3];
+    return length == 4 ? amsulfezd_write_frame(word, buffer, room) : AMSULFEZD_OK;
+}
+
+/* Reads a frame of each start byte, the longest among them, and writes a word of each kind. */
+static void measure_frames(void)
+{
+    static const struct {
+        size_t length;
+        uint8_t bytes[AMSULFEZD_FRAME_READ_LENGTH];
+    } frames[] = {
+        {1, {0xe5}},
+        {3, {0xdc, 9, 9}},
+        {6, {0x10, 5, 9, 0x49, 0x57, 0x16}},
+        {14, {0xa2, 5, 9, 0x49, 0, 0, 0, 0, 0, 0, 0, 0, 0x57, 0x16}},
+        {255, {[0] = 0x68, [1] = 249, [2] = 249, [3] = 0x68, [254] = 0x16}},
+    };
+    static const uint8_t words[][4] = {{0x40, 0, 0, 0}, {0x04, 0x89, 0, 0}, {0x82, 0x89, 0x80, 0}, {0xff, 0xfe, 0x7e, 0}};
+    size_t i;
+    for (i = 0; i < sizeof frames / sizeof frames[0]; i++) {
+        trace = frames[i].bytes;
+        trace_len = frames[i].length;
+        run(read_frame, "a frame");
+        if (amsulfezd_frame_bytes(returned) != trace_len) {
+            fail("it was not read", "a frame");
+        }
+    }
+    for (i = 0; i < sizeof words / sizeof words[0]; i++) {
+        trace = words[i];
+        trace_len = sizeof words[i];
+        run(write_frame, "a word");
+        if (amsulfezd_frame_bytes(returned) == 0) {
+            fail("it was not written", "a word");
+        }
+    }
+}
+
 /* The next of a row of numbers, below a limit. */
 static uint32_t below(uint32_t limit)
 {
@@ -237,6 +286,7 @@ int main(int count, char **words)
     }
     answers_len = AMSULFEZD_ANSWER_LENGTH * (size_t)LONG;
     answers = (uint8_t *)take(answers_len);
+    measure_frames();
     for (file = 2; file < count; file++) {
         measure(bytes, read_file(words[file], bytes, room), words[file]);
     }

@@ -1,4 +1,5 @@
-//! Writes a copy of the oracle's station for each planted error: one module each, in one crate.
+//! Writes a copy of the oracle's station, or of its reader and writer of frames, for each planted error: one module each, in
+//! one crate.
 
 #[path = "../build/replacements.rs"]
 #[allow(dead_code)]
@@ -7,6 +8,9 @@ mod replacements;
 #[path = "list.rs"]
 #[allow(dead_code)]
 mod list;
+
+#[path = "frames.rs"]
+mod frames;
 
 use std::fmt::Write;
 use std::path::Path;
@@ -22,7 +26,7 @@ fn read(path: &str) -> String {
 }
 
 fn main() {
-    for file in ["build.rs", "list.rs", "../build/replacements.rs", "../build/watch.rs"] {
+    for file in ["build.rs", "list.rs", "frames.rs", "../build/replacements.rs", "../build/watch.rs"] {
         println!("cargo:rerun-if-changed={}", file);
     }
     let out = std::env::var("OUT_DIR").expect("cargo names a folder");
@@ -76,5 +80,25 @@ fn main() {
         )
         .expect("text");
     }
-    std::fs::write(Path::new(&out).join("index.rs"), index + &runs + "];\n").expect("a file can be written");
+    runs.push_str("];\n");
+    copy_frames(&out, &mut index, &mut runs);
+    std::fs::write(Path::new(&out).join("index.rs"), index + &runs).expect("a file can be written");
+}
+
+/// The copies of the reader and writer of frames, a file each.
+fn copy_frames(out: &str, index: &mut String, runs: &mut String) {
+    let text = read("../src/frames/frame.rs");
+    runs.push_str("pub const FRAME_RUNS: &[crate::FrameRuns] = &[\n");
+    for (i, (old, new)) in frames::FRAMES.iter().enumerate() {
+        let name = format!("frame_error_{}", i + 1);
+        let planted = replacements::replace_once(&text, old, new).unwrap_or_else(|count| {
+            panic!("{}: this text stands {} times in frame.rs, not once:\n{}", name, count, old)
+        });
+        let path = Path::new(out).join(format!("{}.rs", name));
+        std::fs::write(path, planted.replace("crate::", "oracle::")).expect("a file can be written");
+        writeln!(index, "#[path = \"{}.rs\"]\nmod {};", name, name).expect("text");
+        writeln!(runs, "    crate::FrameRuns {{ read: {}::read_frame, write: {}::write_frame }},", name, name)
+            .expect("text");
+    }
+    runs.push_str("];\n");
 }

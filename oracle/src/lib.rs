@@ -1,7 +1,8 @@
 //! The published Rust with document 01's helpers, and what holds other calls to it by running.
 //!
 //! Each folder leans on those before it: `helpers` (with the published text), then `generator` and `coverage`, which do not
-//! know each other, then `comparison`, then the programs.
+//! know each other, then `comparison`, then the programs. `frames` has a reader and a writer of frames and what holds others
+//! to them; it leans on the records of `helpers`, and takes seeds, points and words from the others.
 #![forbid(unsafe_code)]
 
 /// The published text writes `log::warn!`: the macros of `helpers/log.rs` stand at the root of this crate.
@@ -37,6 +38,7 @@ pub mod generator {
     pub mod ordinary;
     mod seed;
     mod traces;
+    pub(crate) use seed::Seed;
     pub use traces::trace;
 }
 
@@ -49,6 +51,8 @@ pub mod coverage {
     mod poll;
     mod refusals;
     pub use met::Met;
+    pub use points::Points;
+    pub(crate) use refusals::{stray_point, stray_points};
 }
 
 /// Holding other calls to the oracle's.
@@ -60,6 +64,15 @@ pub mod comparison {
     pub mod speed;
     mod words;
     pub use words::hex;
+}
+
+/// Frames (document 02, P1): a reader and a writer, and holding others to them.
+pub mod frames {
+    pub mod compare;
+    pub mod frame;
+    mod met;
+    pub mod program;
+    pub mod tries;
 }
 
 /// The settings table by the published `parameters.rs`.

@@ -1,7 +1,9 @@
 // The library for hosts: every call that C and Rust programs make of it, each thin over the crate that does the work. Their
-// names carry the prefix amsulfezd_, as a C library's names do. hosts/c/amsulfezd.h declares them. It leans on trace and trace_headers.
+// names carry the prefix amsulfezd_, as a C library's names do. hosts/c/amsulfezd.h declares them. It leans on trace,
+// trace_headers and codec_frames.
 ghost use mathlib.Core.Path.{_≡_};
 ghost use lib.ListN.{length};
+ghost use Rattle.codec_frames.specs.Frames.{frameOf, readNumber, writeOf, writeNumber, writtenOver};
 ghost use Rattle.trace.specs.Trace.{replayOf, numberOf, bufferOf};
 ghost use Rattle.trace_headers.specs.Headers.{moveNumber, moveInto};
 
@@ -24,4 +26,22 @@ pub extern "C" fn amsulfezd_other_edition(header: &[u8], out: &mut [u8]) -> u64
     ensures { λ _. ⌜ now (out .exit) ≡ moveInto (now (header .entry)) (now (out .entry)) ⌝ }
 {
     trace_headers::other_edition(header, out)
+}
+
+// Reads the frame at the start of a slice and returns telegram word × 65536 + bytes used × 256, or a refusal's number alone.
+#[no_mangle]
+pub extern "C" fn amsulfezd_read_frame(frame: &[u8]) -> u64
+    ensures { λ r. ⌜ r ≡ readNumber (frameOf (now (frame .entry))) ⌝ }
+{
+    codec_frames::read_number(codec_frames::read_frame(frame))
+}
+
+// Writes the frame of a telegram word at the start of a slice and returns bytes written × 256 + number. A refused call writes
+// nothing; the bytes past the frame stay as they were.
+#[no_mangle]
+pub extern "C" fn amsulfezd_write_frame(word: u32, frame: &mut [u8]) -> u64
+    ensures { λ r. ⌜ r ≡ writeNumber (writeOf word (length (now (frame .entry)))) ⌝ }
+    ensures { λ _. ⌜ now (frame .exit) ≡ writtenOver (writeOf word (length (now (frame .entry)))) (now (frame .entry)) ⌝ }
+{
+    codec_frames::write_frame(word as u64, frame)
 }

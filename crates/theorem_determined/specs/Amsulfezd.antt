@@ -1,8 +1,11 @@
 -- Determined, for the calls of hosts.
 use mathlib.Core.Path.{_≡_, _∙_, sym}
 use denote.Ref.{now}
+use Rattle.theorem_determined.specs.Claim.{Determined}
 use Rattle.amsulfezd.proofs.amsulfezd_replay_trace.Reads as replay-trace-reads
 use Rattle.amsulfezd.proofs.amsulfezd_other_edition.Reads as other-edition-reads
+use Rattle.amsulfezd.proofs.amsulfezd_read_frame.Reads as read-frame-reads
+use Rattle.amsulfezd.proofs.amsulfezd_write_frame.Reads as write-frame-reads
 
 -- `amsulfezd_replay_trace` returns a number and writes: both are fixed, the lent buffer in every byte
 pub amsulfezd-replay-trace :
@@ -19,3 +22,14 @@ pub amsulfezd-other-edition :
     → other-edition-reads.Post κs a r₂ s₂
     → (r₁ ≡ r₂) × (now (s₁ .1 .0) ≡ now (s₂ .1 .0))
 amsulfezd-other-edition κs a r₁ r₂ s₁ s₂ p q = (p .0 ∙ sym (q .0), p .1 ∙ sym (q .1))
+
+pub amsulfezd-read-frame : Determined read-frame-reads.Post
+amsulfezd-read-frame κs a r₁ r₂ s₁ s₂ p q = p ∙ sym q
+
+-- `amsulfezd_write_frame` as well: the number, and the lent slice in every byte
+pub amsulfezd-write-frame :
+    (κs : _) (a : _) (r₁ r₂ : _) (s₁ s₂ : _)
+    → write-frame-reads.Post κs a r₁ s₁
+    → write-frame-reads.Post κs a r₂ s₂
+    → (r₁ ≡ r₂) × (now (s₁ .1 .0) ≡ now (s₂ .1 .0))
+amsulfezd-write-frame κs a r₁ r₂ s₁ s₂ p q = (p .0 ∙ sym (q .0), p .1 ∙ sym (q .1))

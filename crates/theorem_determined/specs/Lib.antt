@@ -10,6 +10,7 @@ pub mod Ring
 pub mod CodecFields
 pub mod CodecSlices
 pub mod CodecTelegrams
+pub mod CodecFrames
 pub mod CodecDecisions
 pub mod CodecRecords
 pub mod CodecAnswers

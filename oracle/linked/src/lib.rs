@@ -6,6 +6,10 @@ mod proved {
         pub fn amsulfezd_replay_trace(trace: *const u8, trace_len: usize, answers: *mut u8, answers_len: usize) -> u64;
         /// The call that moves a header to the other edition: document 02's P9.
         pub fn amsulfezd_other_edition(header: *const u8, header_len: usize, out: *mut u8, out_len: usize) -> u64;
+        /// The call that reads a frame: document 02's P1.
+        pub fn amsulfezd_read_frame(frame: *const u8, frame_len: usize) -> u64;
+        /// The call that writes a frame: document 02's P1.
+        pub fn amsulfezd_write_frame(word: u32, frame: *mut u8, frame_len: usize) -> u64;
     }
 }
 
@@ -19,6 +23,18 @@ pub fn replay_trace(trace: &[u8], answers: &mut [u8]) -> u64 {
 pub fn other_edition(header: &[u8], out: &mut [u8]) -> u64 {
     // Safety: as above.
     unsafe { proved::amsulfezd_other_edition(header.as_ptr(), header.len(), out.as_mut_ptr(), out.len()) }
+}
+
+/// Reads a frame by the proved call.
+pub fn read_frame(frame: &[u8]) -> u64 {
+    // Safety: as above.
+    unsafe { proved::amsulfezd_read_frame(frame.as_ptr(), frame.len()) }
+}
+
+/// Writes a frame by the proved call.
+pub fn write_frame(word: u32, frame: &mut [u8]) -> u64 {
+    // Safety: as above.
+    unsafe { proved::amsulfezd_write_frame(word, frame.as_mut_ptr(), frame.len()) }
 }
 
 /// A trace of zero bytes but for its first ones, whose pages the machine has to hand out only when they

@@ -1,5 +1,6 @@
 //! Runs generated traces through the oracle and through a copy of it for each planted error, their headers through the call
-//! that moves them, the settings table where the list says so, and prints for each error which run shows it. Status 0: each is shown by the run that the list names.
+//! that moves them, the settings table where the list says so, and the calls on frames for the errors in those, and prints
+//! for each error which run shows it. Status 0: each is shown by the run that the list names.
 #![forbid(unsafe_code)]
 
 /// The published text writes `log::warn!`.
@@ -8,15 +9,22 @@ extern crate oracle as log;
 #[path = "../list.rs"]
 mod list;
 
+#[path = "../frames.rs"]
+mod frames;
+
 /// The copies, one module each, as build.rs writes them.
 mod copies {
     #![allow(warnings, clippy::all)]
     include!(concat!(env!("OUT_DIR"), "/index.rs"));
 }
 
+use frames::FRAMES;
 use list::{By, PLANTED};
+use oracle::comparison::hex;
 use oracle::comparison::run::{first_difference, moves_otherwise, run, Left};
 use oracle::comparison::shorten::shorten;
+use oracle::frames::compare::{first_difference as first_frame, made, shortened, Left as FrameLeft};
+use oracle::frames::tries::{parts, Try};
 use oracle::generator::trace;
 use oracle::settings_table::table;
 use oracle::trace::replay_trace;
@@ -27,6 +35,12 @@ pub struct Runs {
     traces: fn(&[u8], &mut [u8]) -> u64,
     moves: fn(&[u8], &mut [u8]) -> u64,
     table: fn() -> String,
+}
+
+/// What is run of a copy of the reader and writer of frames.
+pub struct FrameRuns {
+    read: fn(&[u8]) -> u64,
+    write: fn(u32, &mut [u8]) -> u64,
 }
 
 /// The seed of the traces, and how many are tried.
@@ -91,9 +105,51 @@ fn shown_by_table(table: &str, copy: &Runs) -> Option<String> {
     Some(format!("line {}", line + 1))
 }
 
+/// So many frames are made at random.
+const AT_RANDOM: u64 = 100_000;
+
+/// The call that shows an error in the reader or the writer of frames, in words.
+fn shown_by_frames(copy: &FrameRuns) -> Option<String> {
+    let quiet = |tries: &[Try]| std::panic::catch_unwind(|| made(copy.read, copy.write, tries)).ok();
+    // where one panics, each is made alone
+    let calls = |tries: &[Try]| -> Vec<FrameLeft> {
+        quiet(tries).unwrap_or_else(|| tries.chunks(1).map(|one| quiet(one)?.pop()?).collect())
+    };
+    parts(SEED, AT_RANDOM).into_iter().find_map(|(name, tries)| {
+        let one = first_frame(&calls, tries, &mut |_, _| ()).err()?;
+        Some(match shortened(&calls, &one) {
+            Try::Read(frame) if frame.is_empty() => format!("{} | no byte", name),
+            Try::Read(frame) => format!("{} | `{}`", name, hex(&frame)),
+            Try::Write(word, buffer) => format!("{} | word `{:08x}`, room {}", name, word, buffer.len()),
+        })
+    })
+}
+
+/// Prints the table of the errors in the reader and the writer of frames; gives how many were not found.
+fn frame_table() -> usize {
+    println!("| No. | Text | Planted | Run | Shown by |");
+    println!("|---|---|---|---|---|");
+    let mut missed = 0;
+    for (i, ((old, new), copy)) in FRAMES.iter().zip(copies::FRAME_RUNS).enumerate() {
+        let shown = shown_by_frames(copy).unwrap_or_else(|| {
+            missed += 1;
+            "NOT FOUND |".to_string()
+        });
+        println!("| {} | {} | {} | {} |", i + 1, cell(old), cell(new), shown);
+    }
+    println!();
+    println!("{} planted errors in frames: {} found, {} missed.", FRAMES.len(), FRAMES.len() - missed, missed);
+    missed
+}
+
 fn main() {
+    let words: Vec<String> = std::env::args().skip(1).collect();
+    if words == ["frames"] {
+        std::panic::set_hook(Box::new(|_| {}));
+        std::process::exit(i32::from(frame_table() > 0));
+    }
     if std::env::args().len() > 1 {
-        eprintln!("mutants: usage: mutants, without a word");
+        eprintln!("mutants: usage: mutants [frames]");
         std::process::exit(2);
     }
     std::panic::set_hook(Box::new(|_| {}));

@@ -65,13 +65,14 @@ impl Drop for Program {
     }
 }
 
-fn start(words: &[String]) -> Result<Child> {
+/// A process that runs a program with its arguments.
+pub(crate) fn start(words: &[String]) -> Result<Child> {
     let (program, arguments) = words.split_first().ok_or_else(|| Error::new(ErrorKind::Other, "none is named"))?;
     Command::new(program).args(arguments).stdin(Stdio::piped()).stdout(Stdio::piped()).spawn()
 }
 
 /// At the end of its input the program ends.
-fn end(mut child: Child) {
+pub(crate) fn end(mut child: Child) {
     drop((child.stdin.take(), child.stdout.take()));
     let _ = child.wait();
 }

@@ -29,15 +29,24 @@ impl Points {
 
     /// Counts a point, if it was named.
     pub fn hit_if_named(&mut self, group: &'static str, point: impl Display) -> bool {
+        self.count(group, point, 1)
+    }
+
+    fn count(&mut self, group: &'static str, point: impl Display, times: u64) -> bool {
         self.wanted.clear();
         write!(self.wanted, "{}", point).expect("text");
         let points = self.counts.get_mut(group).unwrap_or_else(|| panic!("no coverage group '{}'", group));
-        points.get_mut(self.wanted.as_str()).map(|count| *count += 1).is_some()
+        points.get_mut(self.wanted.as_str()).map(|count| *count += times).is_some()
     }
 
     /// Counts a point that has to be named.
     pub fn hit(&mut self, group: &'static str, point: impl Display) {
-        if !self.hit_if_named(group, point) {
+        self.hit_times(group, point, 1);
+    }
+
+    /// Counts a point that has to be named, so many times.
+    pub fn hit_times(&mut self, group: &'static str, point: impl Display, times: u64) {
+        if !self.count(group, point, times) {
             self.unnamed.insert(format!("{}: {}", group, self.wanted));
         }
     }

@@ -204,8 +204,12 @@ pub fn name_points(points: &mut Points) {
     points
         .group("bad length", ["7 bytes with a count above 8", "one byte too few", "one too many", "13 with that many"]);
     points.group("bad decision", BAD_DECISIONS);
-    points
-        .group("bad telegram", STRAY.iter().flat_map(|(kind, fields)| fields.iter().map(move |f| stray_name(kind, f))));
+    points.group("bad telegram", stray_points());
+}
+
+/// For each kind of telegram and each of its fields that should be zero a name.
+pub fn stray_points() -> impl Iterator<Item = String> {
+    STRAY.iter().flat_map(|(kind, fields)| fields.iter().map(move |field| stray_name(kind, field)))
 }
 
 fn place_name((number, place): (u8, Place)) -> String {
@@ -358,6 +362,13 @@ fn see_decision(points: &mut Points, number: u8, word: &[u8]) {
 }
 
 fn see_telegram(points: &mut Points, word: &[u8]) {
+    if let Some(point) = stray_point(word) {
+        points.hit("bad telegram", point);
+    }
+}
+
+/// The name of the one field of a telegram's word that is set and should be zero.
+pub fn stray_point(word: &[u8]) -> Option<String> {
     let [kind, destination, source, status_request, station_type, status, zero] = split(TELEGRAM, word);
     let (kind, fields) = STRAY[kind as usize];
     let set = [
@@ -370,7 +381,8 @@ fn see_telegram(points: &mut Points, word: &[u8]) {
     ];
     let stray: Vec<&str> =
         set.iter().filter(|(name, v)| *v != 0 && fields.contains(name)).map(|(name, _)| *name).collect();
-    if let [field] = stray.as_slice() {
-        points.hit("bad telegram", stray_name(kind, field));
+    match stray.as_slice() {
+        [field] => Some(stray_name(kind, field)),
+        _ => None,
     }
 }

@@ -290,7 +290,10 @@ impl TryFrom<u64> for Answer {
         let answer = Answer {
             refusal: match refusal {
                 0 => None,
-                number => Some(Refusal::try_from(number).map_err(unnumbered)?),
+                number => match Refusal::try_from(number).map_err(unnumbered)? {
+                    refusal if refusal.is_of_frames() => return Err(not_an_answer),
+                    refusal => Some(refusal),
+                },
             },
             outcome: Outcome::try_from(outcome).map_err(unnumbered)?,
             state: State::try_from(state).map_err(unnumbered)?,

@@ -1,7 +1,7 @@
 //! Document 01: "fields most significant bit first".
 
 /// At most 16 bytes as a number, most significant first.
-fn word_of(bytes: &[u8]) -> u128 {
+pub(crate) fn word_of(bytes: &[u8]) -> u128 {
     bytes
         .iter()
         .fold(0, |word, &byte| word << 8 | u128::from(byte))

@@ -1,13 +1,15 @@
-//! The proved call `amsulfezd_replay_trace` for Rust hosts, and the records and answers that go with it.
+//! The proved calls `amsulfezd_replay_trace`, `amsulfezd_read_frame` and `amsulfezd_write_frame` for Rust hosts, and the
+//! records and answers that go with them.
 //!
 //! | Module | What it holds |
 //! |---|---|
 //! | [`record`] | the poll record: telegrams, decisions, the clock |
 //! | [`trace`] | a trace: its header, a writer, an iterator over its entries |
 //! | [`answer`] | the 64-bit answer, and an iterator over a buffer of them |
-//! | [`refusal`] | the documents' nineteen refusal numbers and their words |
+//! | [`refusal`] | the refusal numbers of documents 01 and 02 and their words |
 //! | [`run`] | what the call returns, and the text that the program `replay` prints |
-//! | `replay` | the call itself, safe; only where the static library is linked |
+//! | `replay` | the calls on traces, safe; only where the static library is linked |
+//! | [`frame`] | the bytes of frames; reading and writing them, safe, only where the static library is linked |
 //! | [`number`] | the error of a number that the documents do not have |
 //! | [`words`] | numbers and settings in words |
 //!
@@ -44,6 +46,7 @@
 
 pub mod answer;
 mod bits;
+pub mod frame;
 pub mod number;
 pub mod record;
 pub mod refusal;

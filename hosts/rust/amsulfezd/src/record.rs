@@ -1,6 +1,6 @@
 //! Document 01, "Station": the poll record.
 
-use crate::bits::{Reader, Writer};
+use crate::bits::{word_of, Reader, Writer};
 use crate::number::{with_number, UnknownNumber};
 use std::fmt;
 
@@ -165,6 +165,16 @@ impl Telegram {
         word.put(4, u64::from(status));
         word.put(9, 0);
         Ok(word.bytes(4))
+    }
+
+    /// The telegram's 32 bits as a number: the word that a frame is written of.
+    pub fn word(self) -> Result<u32, Unfit> {
+        Ok(word_of(&self.to_bytes()?) as u32)
+    }
+
+    /// What the word of a frame says. Bits that its kind does not have are not looked at.
+    pub fn from_word(word: u32) -> Telegram {
+        Telegram::from_bytes(&word.to_be_bytes())
     }
 
     /// What an accepted record's 32 bits say.

@@ -1,9 +1,9 @@
-//! Document 01's refusal numbers, and document 02's 25.
+//! The refusal numbers of documents 01 and 02.
 
 use crate::number::{with_number, UnknownNumber};
 use std::fmt;
 
-/// Why a call, a header, an entry or a trace was refused.
+/// Why a call, a header, an entry, a trace or a frame was refused.
 #[derive(Debug, Clone, Copy, PartialEq, Eq, Hash)]
 #[repr(u8)]
 #[non_exhaustive]
@@ -26,7 +26,14 @@ pub enum Refusal {
     Passive = 16,
     Cut = 17,
     NoRoom = 18,
+    FrameCut = 19,
+    StartByte = 20,
+    FrameHeader = 21,
+    CheckByte = 22,
+    EndByte = 23,
+    AddressExtension = 24,
     GapRoom = 25,
+    FunctionCode = 34,
 }
 
 /// Every refusal, in the order of their numbers.
@@ -49,7 +56,14 @@ pub const ALL: &[Refusal] = &[
     Refusal::Passive,
     Refusal::Cut,
     Refusal::NoRoom,
+    Refusal::FrameCut,
+    Refusal::StartByte,
+    Refusal::FrameHeader,
+    Refusal::CheckByte,
+    Refusal::EndByte,
+    Refusal::AddressExtension,
     Refusal::GapRoom,
+    Refusal::FunctionCode,
 ];
 
 impl Refusal {
@@ -58,7 +72,7 @@ impl Refusal {
         self as u8
     }
 
-    /// The column "When" of document 01's table; document 02's words for 25.
+    /// The column "When" of document 01's table, and document 02's words.
     pub fn words(self) -> &'static str {
         match self {
             Refusal::Address => "address above 125",
@@ -83,8 +97,24 @@ impl Refusal {
                 "trace ends inside header or entry, or is above 2^32 bytes (checked with the header)"
             }
             Refusal::NoRoom => "no 8 bytes left for an answer",
+            Refusal::FrameCut => "frame empty or cut short",
+            Refusal::StartByte => "start byte",
+            Refusal::FrameHeader => {
+                "SD2 header: its repeated bytes differ or the length is outside 4 to 249"
+            }
+            Refusal::CheckByte => "check byte",
+            Refusal::EndByte => "end byte",
+            Refusal::AddressExtension => "address extension bit",
             Refusal::GapRoom => "rotation with no room for a gap poll",
+            Refusal::FunctionCode => {
+                "top bit of the function code set; to be written, any other request"
+            }
         }
+    }
+
+    /// Whether frames alone are refused so: no trace ends and no entry is answered with it.
+    pub fn is_of_frames(self) -> bool {
+        matches!(self.number(), 19..=24 | 34)
     }
 
     /// What the documents ask for instead, where the words alone do not say it.

@@ -16,7 +16,10 @@ pub struct Run {
 impl Run {
     /// A run with this many entries answered and this ending number.
     fn from_numbers(entries: u64, ending: u64) -> Result<Run, NotARun> {
-        let refusal = |number| Refusal::try_from(u8::try_from(number).ok()?).ok();
+        let refusal = |number| {
+            let refusal = Refusal::try_from(u8::try_from(number).ok()?).ok();
+            refusal.filter(|refusal| !refusal.is_of_frames())
+        };
         let ending = match ending {
             0 => None,
             number => Some(

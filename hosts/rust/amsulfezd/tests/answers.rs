@@ -177,15 +177,15 @@ fn states_outcomes_and_types_have_document_01s_numbers() {
 #[test]
 fn refusals_have_the_documents_numbers() {
     let numbers: Vec<u8> = ALL.iter().map(|refusal| refusal.number()).collect();
-    assert_eq!(numbers, (1..=18).chain([25]).collect::<Vec<u8>>());
+    assert_eq!(numbers, (1..=25).chain([34]).collect::<Vec<u8>>());
     for &refusal in ALL {
         assert_eq!(Refusal::try_from(refusal.number()), Ok(refusal));
         assert_eq!(u8::from(refusal), refusal.number());
     }
     assert!(Refusal::try_from(0).is_err());
-    let unknown = Refusal::try_from(19).expect_err("no refusal");
-    assert_eq!(unknown.number(), 19);
-    assert_eq!(unknown.to_string(), "19 is not the number of a refusal");
+    let unknown = Refusal::try_from(255).expect_err("no refusal");
+    assert_eq!(unknown.number(), 255);
+    assert_eq!(unknown.to_string(), "255 is not the number of a refusal");
     assert_eq!(Refusal::Address.to_string(), "1 (address above 125)");
     assert_eq!(
         Refusal::ZeroBit.to_string(),
@@ -203,6 +203,14 @@ fn refusals_have_the_documents_numbers() {
         Refusal::GapRoom.rule(),
         Some("must be at least slot bits + 100")
     );
+    assert_eq!(Refusal::CheckByte.to_string(), "22 (check byte)");
+    let of_frames: Vec<u8> = ALL
+        .iter()
+        .filter(|r| r.is_of_frames())
+        .map(|r| r.number())
+        .collect();
+    assert_eq!(of_frames, [19, 20, 21, 22, 23, 24, 34]);
+    assert!(Answer::try_from(19 << 59).is_err());
 }
 
 #[test]
