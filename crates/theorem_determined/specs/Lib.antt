@@ -2,6 +2,7 @@
 pub mod Claim
 pub mod BitTimes
 pub mod SettingsWatchdog
+pub mod SettingsRules
 pub mod Settings
 pub mod SettingsInPlace
 pub mod SettingsBuild

@@ -5,7 +5,7 @@ use mathlib.Core.Bool.{cond}
 use lib.ListN.{length, take, drop, getD}
 use lib.Dec.{eqb, ltb}
 use Rattle.codec_fields.specs.Fields.{zeroOr14, be, reads, pack, lowBytes}
-use Rattle.settings.specs.Rules.{factorsRefusal, applicationsRefusal, firstOf}
+use Rattle.settings_rules.specs.Rules.{factorsRefusal, applicationsRefusal, firstOf}
 use Rattle.settings_build.specs.Build.{earlyRefusal}
 use Rattle.trace_headers.specs.declared.Header.{Header}
 use Rattle.trace_headers.specs.declared.Edition.{Edition}

@@ -15,8 +15,8 @@ use Rattle.bit_times.specs.Laws.{baud-unknown}
 use Rattle.codec_fields.specs.Fields.{fieldOf, zeroOr14, zerosOr14, be, pack, unpack, Within, lowBytes, Bytes}
 use Rattle.codec_fields.specs.Laws.{unpack-pack, unpacked-within, low-be, never, zero-fields}
 use Rattle.codec_slices.specs.Round.{read-written, written-read}
-use Rattle.settings.specs.Rules.{addressRefusal, baudRefusal, hsaRefusal, rotationRefusal, gapWaitRefusal, retryRefusal, factorsRefusal, applicationsRefusal}
-use Rattle.settings.specs.RuleLaws.{outside-in, none-refuses}
+use Rattle.settings_rules.specs.Rules.{addressRefusal, baudRefusal, hsaRefusal, rotationRefusal, gapWaitRefusal, retryRefusal, factorsRefusal, applicationsRefusal}
+use Rattle.settings_rules.specs.Laws.{outside-in, none-refuses}
 use Rattle.settings_build.specs.Build.{earlyRefusal, firstRefusal}
 use Rattle.settings_build.specs.Passes.{passes}
 use Rattle.trace_headers.specs.declared.Header.{Header}

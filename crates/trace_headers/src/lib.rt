@@ -195,11 +195,11 @@ pub fn header_refusal(header: Header) -> u8
     if early != 0 {
         return early;
     }
-    let applications = settings::applications_refusal(header.applications);
+    let applications = settings_rules::applications_refusal(header.applications);
     if applications != 0 {
         return applications;
     }
-    let factors = settings::factors_refusal(plain.factor_1, plain.factor_2);
+    let factors = settings_rules::factors_refusal(plain.factor_1, plain.factor_2);
     if factors != 0 {
         return factors;
     }
