@@ -28,5 +28,7 @@ pub mod StationAnswer
 pub mod StationCommand
 pub mod StationPoll
 pub mod TraceHeaders
+pub mod TraceHeadersWritten
+pub mod TraceEditions
 pub mod Trace
 pub mod Amsulfezd

@@ -1,8 +1,8 @@
 use borrow.Author.Tests.{le-leb, le-ltb, lt-leb, lt-ltb}
 use borrow.Author.Needs.{needs}
-use Rattle.trace_headers.specs.Headers.{lentRefusal}
-use Rattle.trace_headers.proofs.lent_refusal.Statement.{statement}
-use Rattle.trace_headers.proofs.lent_refusal.Tie as tie
+use Rattle.trace_editions.specs.Editions.{lentRefusal}
+use Rattle.trace_editions.proofs.lent_refusal.Statement.{statement}
+use Rattle.trace_editions.proofs.lent_refusal.Tie as tie
 
 pub lent-refusal-spec : {M : Type 1} → statement M
 unfolding lentRefusal

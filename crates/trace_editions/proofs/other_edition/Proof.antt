@@ -1,9 +1,9 @@
--- `trace_headers::other_edition` meets its contract: refused, without room, or moved. Assumes nothing.
+-- `trace_editions::other_edition` meets its contract: refused, without room, or moved. Assumes nothing.
 use mathlib.Core.Path.{sym, _∙_}
 use borrow.Author.Needs.{needs}
-use Rattle.trace_headers.specs.Laws.{move-refused, move-no-room, move-done}
-use Rattle.trace_headers.proofs.other_edition.Statement.{statement}
-use Rattle.trace_headers.proofs.other_edition.Tie as tie
+use Rattle.trace_editions.specs.Laws.{move-refused, move-no-room, move-done}
+use Rattle.trace_editions.proofs.other_edition.Statement.{statement}
+use Rattle.trace_editions.proofs.other_edition.Tie as tie
 
 -- refused: the header's number
 returns : tie.Need-returns

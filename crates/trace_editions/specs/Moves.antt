@@ -19,11 +19,14 @@ use Rattle.settings_rules.specs.Rules.{addressRefusal, baudRefusal, hsaRefusal,
 use Rattle.settings_rules.specs.Laws.{outside-in, none-refuses}
 use Rattle.settings_build.specs.Build.{earlyRefusal, firstRefusal}
 use Rattle.settings_build.specs.Passes.{passes}
 use Rattle.trace_headers.specs.declared.Header.{Header}
 use Rattle.trace_headers.specs.declared.Edition.{Edition}
 use Rattle.trace_headers.specs.declared.Edition.the-variants.{First, Second}
-use Rattle.trace_headers.specs.Headers.{secondMark, editionOf, otherThan, widthsOf, lengthOf, headerLength, headerIn, headerOf, headerRefusal, valuesIn, headerBytes}
-use Rattle.trace_headers.specs.Laws.{madeIn, widths-fill, header-bytes-length, written-bytes}
+use Rattle.trace_headers.specs.Headers.{secondMark, editionOf, widthsOf, lengthOf, headerLength, headerIn, headerOf, headerRefusal}
+use Rattle.trace_headers.specs.Laws.{madeIn, widths-fill}
+use Rattle.trace_headers_written.specs.HeaderBytes.{valuesIn, headerBytes}
+use Rattle.trace_headers_written.specs.Laws.{header-bytes-length, written-bytes}
+use Rattle.trace_editions.specs.Editions.{otherThan}
 
 -- What is said.
 

@@ -1,7 +1,7 @@
 use borrow.Author.Needs.{needs}
-use Rattle.trace_headers.specs.Headers.{otherThan}
-use Rattle.trace_headers.proofs.other_than.Statement.{statement}
-use Rattle.trace_headers.proofs.other_than.Tie as tie
+use Rattle.trace_editions.specs.Editions.{otherThan}
+use Rattle.trace_editions.proofs.other_than.Statement.{statement}
+use Rattle.trace_editions.proofs.other_than.Tie as tie
 
 pub other-than-spec : {M : Type 1} → statement M
 unfolding otherThan

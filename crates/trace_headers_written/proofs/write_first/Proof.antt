@@ -1,14 +1,14 @@
--- `trace_headers::write_first` meets its contract: the fields are written one after the other. Assumes nothing.
+-- `trace_headers_written::write_first` meets its contract: the fields are written one after the other. Assumes nothing.
 use borrow.Author.Needs.{needs}
 use mathlib.Core.Path.{sym, ap, _∙_}
 use native.Mathlib.Omega.{arith}
 use lib.ListN.{length}
 use Rattle.codec_slices.specs.Parts.{bytes-known}
 use Rattle.trace_headers.specs.declared.Edition.the-variants.{First}
 use Rattle.trace_headers.specs.Headers.{lengthOf}
-use Rattle.trace_headers.specs.Laws.{written-in, header-bytes-length}
-use Rattle.trace_headers.proofs.write_first.Statement.{statement}
-use Rattle.trace_headers.proofs.write_first.Tie as tie
+use Rattle.trace_headers_written.specs.Laws.{written-in, header-bytes-length}
+use Rattle.trace_headers_written.proofs.write_first.Statement.{statement}
+use Rattle.trace_headers_written.proofs.write_first.Tie as tie
 
 -- each call by what it ensures, the last first
 returns : tie.Need-returns

@@ -1,8 +1,9 @@
 use borrow.Author.Tests.{le-leb, le-ltb, lt-leb, lt-ltb}
 use borrow.Author.Needs.{needs}
-use Rattle.trace_headers.specs.Headers.{headerInto, lengthOf}
-use Rattle.trace_headers.proofs.write_header.Statement.{statement}
-use Rattle.trace_headers.proofs.write_header.Tie as tie
+use Rattle.trace_headers.specs.Headers.{lengthOf}
+use Rattle.trace_headers_written.specs.HeaderBytes.{headerInto}
+use Rattle.trace_headers_written.proofs.write_header.Statement.{statement}
+use Rattle.trace_headers_written.proofs.write_header.Tie as tie
 
 pub write-header-spec : {M : Type 1} → statement M
 unfolding headerInto lengthOf
