@@ -14,6 +14,7 @@ pub mod CodecTelegrams
 pub mod CodecFrames
 pub mod CodecDecisions
 pub mod CodecRecords
+pub mod CodecRecordsWritten
 pub mod CodecAnswers
 pub mod Station
 pub mod StationClaim

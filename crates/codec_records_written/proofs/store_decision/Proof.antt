@@ -1,9 +1,9 @@
--- `codec_records::store_decision` meets its contract: the word is stored at its place. Assumes nothing.
+-- `codec_records_written::store_decision` meets its contract: the word is stored at its place. Assumes nothing.
 use borrow.Author.Tests.{le-ltb, lt-ltb}
 use borrow.Author.Needs.{needs}
-use Rattle.codec_records.specs.Records.{decisionStored}
-use Rattle.codec_records.proofs.store_decision.Statement.{statement}
-use Rattle.codec_records.proofs.store_decision.Tie as tie
+use Rattle.codec_records_written.specs.Stored.{decisionStored}
+use Rattle.codec_records_written.proofs.store_decision.Statement.{statement}
+use Rattle.codec_records_written.proofs.store_decision.Tie as tie
 
 pub store-decision-spec : {M : Type 1} → statement M
 unfolding decisionStored

@@ -11,9 +11,10 @@ use Rattle.codec_telegrams.specs.declared.Telegram.{Telegram}
 use Rattle.codec_telegrams.specs.declared.Telegram.the-variants.{Token}
 use Rattle.codec_decisions.specs.declared.Decision.{Decision}
 use Rattle.codec_decisions.specs.declared.Decision.the-variants.{Decline, SendExpectReply}
 use Rattle.codec_records.specs.declared.Head.{Head}
-use Rattle.codec_records.specs.Records.{headOf, decisionAt, telegramAt, entryRefusal, wordsRefusal, recordRefusal, headWord, headStored, decisionStored, telegramStored}
-use Rattle.codec_records.specs.Whole.{each, recordBytes, decisionsStored, telegramsStored, recordStored}
+use Rattle.codec_records.specs.Records.{headOf, decisionAt, telegramAt, entryRefusal, wordsRefusal, recordRefusal}
+use Rattle.codec_records_written.specs.Stored.{headWord, headStored, decisionStored, telegramStored}
+use Rattle.codec_records_written.specs.Whole.{each, recordBytes, decisionsStored, telegramsStored, recordStored}
 
 -- clock 1000, 5 pending bytes; the argument is 8 × the telegram count
 abbrev start : ℕ → List ℕ

@@ -9,8 +9,9 @@ use Rattle.codec_telegrams.specs.Words.{telegramWord, TelegramFits}
 use Rattle.codec_decisions.specs.Decisions.{decisionWord, DecisionFits}
 use Rattle.codec_telegrams.specs.declared.Telegram.{Telegram}
 use Rattle.codec_decisions.specs.declared.Decision.{Decision}
 use Rattle.codec_records.specs.declared.Head.{Head}
-use Rattle.codec_records.specs.Records.{headOf, headWord, HeadFits, decisionAt, telegramAt, recordRefusal, headStored, decisionStored, telegramStored}
+use Rattle.codec_records.specs.Records.{headOf, decisionAt, telegramAt, recordRefusal}
+use Rattle.codec_records_written.specs.Stored.{headWord, HeadFits, headStored, decisionStored, telegramStored}
 
 -- parts 0, 1, .. k - 1, one after the other
 unfoldable pub each : (ℕ → List ℕ) → ℕ → List ℕ

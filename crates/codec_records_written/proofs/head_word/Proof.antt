@@ -1,8 +1,8 @@
--- `codec_records::head_word` meets its contract: four fields put one below the other. Assumes nothing.
+-- `codec_records_written::head_word` meets its contract: four fields put one below the other. Assumes nothing.
 use borrow.Author.Needs.{needs}
-use Rattle.codec_records.specs.Records.{headWord}
-use Rattle.codec_records.proofs.head_word.Statement.{statement}
-use Rattle.codec_records.proofs.head_word.Tie as tie
+use Rattle.codec_records_written.specs.Stored.{headWord}
+use Rattle.codec_records_written.proofs.head_word.Statement.{statement}
+use Rattle.codec_records_written.proofs.head_word.Tie as tie
 
 pub head-word-spec : {M : Type 1} → statement M
 unfolding headWord

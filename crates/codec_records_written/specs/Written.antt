@@ -21,10 +21,11 @@ use Rattle.codec_telegrams.specs.Laws.{telegram-below, telegram-read}
 use Rattle.codec_decisions.specs.Laws.{decision-below, decision-read}
 use Rattle.codec_telegrams.specs.declared.Telegram.{Telegram}
 use Rattle.codec_decisions.specs.declared.Decision.{Decision}
 use Rattle.codec_records.specs.declared.Head.{Head}
-use Rattle.codec_records.specs.Records.{headWidths, headOf, headValues, headWord, HeadFits, countOf, decisionWordAt, telegramWordAt, decisionAt, telegramAt, entryRefusal, recordRefusal, headStored, decisionStored, telegramStored}
+use Rattle.codec_records.specs.Records.{headWidths, headOf, countOf, decisionWordAt, telegramWordAt, decisionAt, telegramAt, entryRefusal, recordRefusal}
 use Rattle.codec_records.specs.Laws.{none-first, clock-below, pending-below, good, good-decision, good-telegram}
-use Rattle.codec_records.specs.Whole.{each, applicationBytes, telegramBytes, recordBytes, decisionsStored, telegramsStored, recordStored, RecordFits, Says, RoundTrip}
+use Rattle.codec_records_written.specs.Stored.{headValues, headWord, HeadFits, headStored, decisionStored, telegramStored}
+use Rattle.codec_records_written.specs.Whole.{each, applicationBytes, telegramBytes, recordBytes, decisionsStored, telegramsStored, recordStored, RecordFits, Says, RoundTrip}
 
 -- parts of c bytes each, one after the other
 each-length : (part : ℕ → List ℕ) (c k : ℕ) → ((i : ℕ) → length (part i) ≡ c) → length (each part k) ≡ c * k
