@@ -1,11 +1,11 @@
 // The library for hosts: every call that C and Rust programs make of it, each thin over the crate that does the work. Their
 // names carry the prefix amsulfezd_, as a C library's names do. hosts/c/amsulfezd.h declares them. It leans on trace,
-// trace_headers and codec_frames.
+// trace_editions and codec_frames.
 ghost use mathlib.Core.Path.{_≡_};
 ghost use lib.ListN.{length};
 ghost use Rattle.codec_frames.specs.Frames.{frameOf, readNumber, writeOf, writeNumber, writtenOver};
 ghost use Rattle.trace.specs.Trace.{replayOf, numberOf, bufferOf};
-ghost use Rattle.trace_headers.specs.Headers.{moveNumber, moveInto};
+ghost use Rattle.trace_editions.specs.Editions.{moveNumber, moveInto};
 
 // Replays a trace and returns the entries answered × 256 + the ending number. Each entry's answer stands in the next eight
 // bytes of `answers`; the bytes past them stay as they were.
@@ -25,7 +25,7 @@ pub extern "C" fn amsulfezd_other_edition(header: &[u8], out: &mut [u8]) -> u64
     ensures { λ r. ⌜ r ≡ moveNumber (now (header .entry)) (length (now (out .entry))) ⌝ }
     ensures { λ _. ⌜ now (out .exit) ≡ moveInto (now (header .entry)) (now (out .entry)) ⌝ }
 {
-    trace_headers::other_edition(header, out)
+    trace_editions::other_edition(header, out)
 }
 
 // Reads the frame at the start of a slice and returns telegram word × 65536 + bytes used × 256, or a refusal's number alone.

@@ -305,7 +305,7 @@ impl Station {
                 p,
                 applications,
             },
-            refusal: settings::applications_refusal(applications),
+            refusal: settings_rules::applications_refusal(applications),
         }
     }
 }

@@ -2,6 +2,7 @@
 pub mod Claim
 pub mod BitTimes
 pub mod SettingsWatchdog
+pub mod SettingsRules
 pub mod Settings
 pub mod SettingsInPlace
 pub mod SettingsBuild
@@ -13,6 +14,7 @@ pub mod CodecTelegrams
 pub mod CodecFrames
 pub mod CodecDecisions
 pub mod CodecRecords
+pub mod CodecRecordsWritten
 pub mod CodecAnswers
 pub mod Station
 pub mod StationClaim
@@ -27,5 +29,7 @@ pub mod StationAnswer
 pub mod StationCommand
 pub mod StationPoll
 pub mod TraceHeaders
+pub mod TraceHeadersWritten
+pub mod TraceEditions
 pub mod Trace
 pub mod Amsulfezd

@@ -4,7 +4,7 @@ use mathlib.Core.Path.{_≡_, refl, ap, _∙_}
 use lib.Dec.{eqb}
 use borrow.Author.Tests.{eqb-true}
 use Rattle.bit_times.specs.Times.{baudOf, rounded, timeOf}
-use Rattle.settings.specs.Rules.{refuseBelow, refuseOutside, addressRefusal, baudRefusal, slotBitsRefusal, hsaRefusal, rotationRefusal, roomRefusal, gapWaitRefusal, retryRefusal, minTsdrRefusal, watchdogRefusal, factorsRefusal, applicationsRefusal}
+use Rattle.settings_rules.specs.Rules.{refuseBelow, refuseOutside, addressRefusal, baudRefusal, slotBitsRefusal, hsaRefusal, rotationRefusal, roomRefusal, gapWaitRefusal, retryRefusal, minTsdrRefusal, watchdogRefusal, factorsRefusal, applicationsRefusal}
 use Rattle.settings.specs.Settings.{newAt, unless, slotBitsOf, hsaOf, rotationOf, gapWaitOf, retryOf, minTsdrOf, withWatchdog, watchdogAt, watchdogOf, slotCheckOf, slotTimeOf, minTsdrTimeOf, tokenLostOf, rotationTimeOf, newOf}
 use Rattle.settings_watchdog.specs.Watchdog.{trial, factorsOf, watchdogTimeOf}
 use Rattle.settings_build.specs.Build.{earlyRefusal, firstRefusal, pairOf, builtAt, buildOf, plainOf}

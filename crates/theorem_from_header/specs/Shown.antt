@@ -12,7 +12,7 @@ use Rattle.bit_times.specs.declared.Baud.the-variants.{B500000}
 use Rattle.bit_times.specs.Times.{baudOf, rounded, timeOf}
 use Rattle.settings_watchdog.specs.declared.WatchdogFactors.the-variants as wf
 use Rattle.settings.specs.declared.Parameters.{Parameters}
-use Rattle.settings.specs.Rules as rules
+use Rattle.settings_rules.specs.Rules as rules
 use Rattle.settings.specs.Settings.{slotTimeOf, tokenLostOf, rotationTimeOf}
 use Rattle.settings_build.specs.Build.{earlyRefusal, firstRefusal, pairOf, builtAt, buildOf}
 use Rattle.ring_addresses.specs.Set.{takeOut, walk, nearest, betweenOf, keeps, sameSet}

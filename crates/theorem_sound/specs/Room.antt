@@ -9,7 +9,7 @@ use Rattle.bit_times.specs.declared.Micros.{Micros}
 use Rattle.bit_times.specs.Times.{rounded, timeOf}
 use Rattle.bit_times.specs.Laws.{time-grows}
 use Rattle.settings.specs.declared.Parameters.{Parameters}
-use Rattle.settings.specs.Rules.{applicationsRefusal}
+use Rattle.settings_rules.specs.Rules.{applicationsRefusal}
 use Rattle.settings.specs.Settings.{rotationTimeOf}
 use Rattle.settings_build.specs.Build.{firstRefusal, plainOf}
 use Rattle.settings_build.specs.Passes.{address-low, rotation-top, rotation-room}

@@ -9,8 +9,8 @@ use native.Mathlib.Omega.{arith}
 use lib.Dec.{eqb, lit<}
 use Rattle.bit_times.specs.declared.Micros.{Micros}
 use Rattle.settings.specs.declared.Parameters.{Parameters}
-use Rattle.settings.specs.Rules.{applicationsRefusal}
-use Rattle.settings.specs.RuleLaws.{outside-in}
+use Rattle.settings_rules.specs.Rules.{applicationsRefusal}
+use Rattle.settings_rules.specs.Laws.{outside-in}
 use Rattle.ring.specs.declared.Ring.{Ring}
 use Rattle.ring.specs.Laws.{SoundRing}
 use Rattle.codec_records.specs.Records.{headOf, recordRefusal}

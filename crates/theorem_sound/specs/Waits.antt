@@ -20,7 +20,7 @@ use Rattle.bit_times.specs.declared.Baud.{Baud}
 use Rattle.bit_times.specs.Times.{rateOf, pauseBits, timeOf}
 use Rattle.settings.specs.declared.Parameters.{Parameters}
 use Rattle.settings.specs.Settings.{slotTimeOf}
-use Rattle.settings.specs.Rules.{applicationsRefusal}
+use Rattle.settings_rules.specs.Rules.{applicationsRefusal}
 use Rattle.codec_answers.specs.declared.Sent.{Sent}
 use Rattle.codec_answers.specs.declared.Sent.the-variants as sent
 use Rattle.codec_answers.specs.declared.Notice.{Notice}

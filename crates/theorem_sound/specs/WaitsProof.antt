@@ -14,7 +14,7 @@ use Rattle.bit_times.specs.Times.{rateOf, timeOf}
 use Rattle.bit_times.specs.Laws.{time-lasts, time-some}
 use Rattle.settings.specs.declared.Parameters.{Parameters}
 use Rattle.settings.specs.Settings.{slotTimeOf}
-use Rattle.settings.specs.Rules.{applicationsRefusal}
+use Rattle.settings_rules.specs.Rules.{applicationsRefusal}
 use Rattle.ring.specs.declared.Ring.{Ring}
 use Rattle.codec_records.specs.Records.{recordRefusal}
 use Rattle.codec_answers.specs.Answers.{refusedAnswer}
