@@ -140,7 +140,15 @@ pub fn do_await_status_response(
     let slot = station::check_slot_expired(p, core, now);
     let waited = slot.core;
     if slot.over {
-        return station_pass::do_pass_token(p, waited, ring, links, now, false, PassTokenAttempt::First);
+        return station_pass::do_pass_token(
+            p,
+            waited,
+            ring,
+            links,
+            now,
+            false,
+            PassTokenAttempt::First,
+        );
     }
     RingStep {
         step: station::done(State::AwaitStatusResponse { address }, waited, Outcome::Bus),

@@ -51,15 +51,7 @@ fn do_check_token_pass_resend(
         PassTokenAttempt::Third => {
             let gone = station_pass::token_destination(p.address, ring::next_station(ring, links));
             ring::remove_station(ring, links, gone);
-            station_pass::do_pass_token(
-                p,
-                core,
-                ring,
-                links,
-                now,
-                false,
-                PassTokenAttempt::First,
-            )
+            station_pass::do_pass_token(p, core, ring, links, now, false, PassTokenAttempt::First)
         }
     }
 }

@@ -82,7 +82,11 @@ fn handle_telegram_to_us(
         return handle_telegram_accept(core, ring, now);
     }
     if is_remembered(new_previous_station, source) {
-        return handle_telegram_accept(core, ring::witness_token_pass(ring, links, source, destination), now);
+        return handle_telegram_accept(
+            core,
+            ring::witness_token_pass(ring, links, source, destination),
+            now,
+        );
     }
     station::hearing(
         State::ActiveIdle {

@@ -139,7 +139,14 @@ pub fn do_pass_token(
         if do_gap {
             let gap = core.gap_state;
             let advanced = do_pass_token_gap(p, ring, links, gap);
-            return do_pass_token_poll(p, station::with_gap(waited, advanced), ring, links, now, attempt);
+            return do_pass_token_poll(
+                p,
+                station::with_gap(waited, advanced),
+                ring,
+                links,
+                now,
+                attempt,
+            );
         }
         return do_pass_token_send(p, waited, ring, links, now, attempt);
     }

@@ -215,7 +215,17 @@ fn poll_inner_online(
         };
     }
     let checked = station::check_for_bus_activity(core, now, pending);
-    poll_inner_dispatch(p, state, checked, ring, links, now, bytes, applications, telegrams)
+    poll_inner_dispatch(
+        p,
+        state,
+        checked,
+        ring,
+        links,
+        now,
+        bytes,
+        applications,
+        telegrams,
+    )
 }
 
 // poll_inner: a station that is not online does nothing.
