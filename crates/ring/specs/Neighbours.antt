@@ -11,19 +11,18 @@ use borrow.Author.Tests.{lt-ltb, ltb-true, ltb-false, leb-true, leb-false}
 use borrow.Table.Steps.{cases}
 use Rattle.ring_addresses.specs.Set.{up, down, walk, headOr, lastOr, nearest, betweenOf}
 use Rattle.ring_addresses.specs.SetLaws.{true≢false, All, first, nobody, distOf, between-is, between-on, between-end}
-use Rattle.ring.specs.declared.Ring.{Ring}
 use Rattle.ring.specs.declared.NextStation.the-variants.{Neighbour}
-use Rattle.ring.specs.Ring.{has, others, nextOf, prevOf}
-use Rattle.ring.specs.Laws.{SoundRing, Other, others-all, last-all, next-is, previous-last, previous-low, alone-has}
+use Rattle.ring.specs.Ring.{Ring, has, others, nextOf, prevOf}
+use Rattle.ring.specs.Laws.{SoundRing, Other, others-all, last-all, next-is, previous-nearest, previous-last, previous-low, alone-has}
 
 -- the other members going down from own
 abbrev down-from : Ring → List ℕ
 down-from r = walk (has r) (down (r .own)) 125 1
 
 -- previous is the first of them, own if there is none
-previous-head : (r : Ring) → prevOf r ≡ headOr (r .own) (down-from r)
-unfolding prevOf nearest
-previous-head r = refl
+previous-head : (r : Ring) → SoundRing r → prevOf r ≡ headOr (r .own) (down-from r)
+unfolding nearest
+previous-head r s = previous-nearest r s
 
 -- with no others previous is own
 pub previous-alone : (r : Ring) → SoundRing r → others r ≡ [] → prevOf r ≡ r .own
@@ -120,10 +119,10 @@ previous-gap r x s l b = go (down-from r) refl (between-on (prevOf r) x (r .own)
     closer a c d e sum back some none is = ap (has r) (sym here) ∙ none (dist-some x (r .own) l (s .own-low) apart) (omega arith)
 
     go : (os : List ℕ) → down-from r ≡ os → (0 < distOf (prevOf r) x) × (distOf (prevOf r) x < distOf (prevOf r) (r .own)) → has r x ≡ false
-    go [] e h = let n : prevOf r ≡ r .own = previous-head r ∙ ap (headOr (r .own)) e in let o = s .own-low in absurd (omega arith)
+    go [] e h = let n : prevOf r ≡ r .own = previous-head r s ∙ ap (headOr (r .own)) e in let o = s .own-low in absurd (omega arith)
     go (y ∷ ys) e h =
         let w = first (has r) (down (r .own)) 125 1 y ys e in
-        let is : prevOf r ≡ down (r .own) (w .dist) = previous-head r ∙ ap (headOr (r .own)) e ∙ w .is in
+        let is : prevOf r ≡ down (r .own) (w .dist) = previous-head r s ∙ ap (headOr (r .own)) e ∙ w .is in
         let sum = dist-sum (prevOf r) x (r .own) (previous-low r s) l (s .own-low) (h .1) in
         let back : distOf (prevOf r) (r .own) ≡ w .dist = ap (λ (a : ℕ). distOf a (r .own)) is ∙ dist-back (r .own) (w .dist) (s .own-low) (omega (arith, w .sum)) in
         closer (distOf (prevOf r) x) (distOf x (r .own)) (distOf (prevOf r) (r .own)) (w .dist) sum back (h .0) (w .none (distOf x (r .own))) refl
@@ -169,4 +168,4 @@ previous-only r x s o none = go (down-from r) refl
     go [] e = absurd (true≢false (sym (o .in-set) ∙ ap (has r) here ∙ nobody (has r) (down own) 125 1 e far (dist-some x own (o .low) (s .own-low) (o .not-own)) (dist-low x own)))
     go (y ∷ ys) e =
         found (has r) (down own) y ys x far e here (dist-some x own (o .low) (s .own-low) (o .not-own)) (dist-low x own) (o .in-set) near
-        ∙ sym (previous-head r ∙ ap (headOr own) e)
+        ∙ sym (previous-head r s ∙ ap (headOr own) e)
