@@ -3,6 +3,7 @@ use borrow.Author.Needs.{needs}
 use native.Mathlib.Omega.{arith}
 use Prim.Native.Nat.{_-_}
 use lib.ListN.{length}
+use Rattle.station.specs.Whole.{stationAt}
 use Rattle.trace.specs.Laws.{Going, begins, cut, full, next, done}
 use Rattle.trace.proofs.run.Statement.{statement}
 use Rattle.trace.proofs.run.Tie as tie
@@ -14,10 +15,11 @@ use Rattle.trace.proofs.answer_entry.Reads as answer-entry-reads
 use Rattle.trace.proofs.record_length.Reads as record-length-reads
 
 abbrev Inv-loop : tie.InvT-loop
-Inv-loop trace answers₀ station₀ at₀ out₀ entries₀ answers station at out entries = Going station₀ trace answers₀ answers station at out entries
+Inv-loop links₀ trace answers₀ station₀ at₀ out₀ entries₀ links answers station at out entries =
+    Going (stationAt station₀ links₀) trace answers₀ answers (stationAt station links) at out entries
 
 abbrev μ-loop : tie.MeasureT-loop
-μ-loop trace answers₀ station₀ at₀ out₀ entries₀ answers station at out entries = length trace - at
+μ-loop links₀ trace answers₀ station₀ at₀ out₀ entries₀ links answers station at out entries = length trace - at
 
 header-length-requires : tie.Need-header-length-requires Inv-loop μ-loop
 header-length-requires c κs = search needs
