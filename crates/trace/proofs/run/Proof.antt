@@ -145,9 +145,9 @@ loop-again c =
     let stored = c .before .before .before in
     let packed = stored .before in
     let told = c .before .before .before .before .before .before in
-    let sized = told .before .before .before .before in
+    let sized = told .before .before .before .before .before in
     let test = sized .before .before in
-    next (test .before .loop .inv) (test .loop-test .taken) _ _ _ _ (sized .record-length .ensures .0) (told .before .before .before .if1 .left) (told .before .before .if2 .left) (told .answer-entry .ensures) (packed .pack .ensures) (stored .store .ensures)
+    next (test .before .loop .inv) (test .loop-test .taken) _ _ _ _ (sized .record-length .ensures .0) (told .before .before .before .before .if1 .left) (told .before .before .before .if2 .left) (told .answer-entry .ensures) (packed .pack .ensures) (stored .store .ensures)
 
 -- src/lib.rt:219:5
 mul-result-3 : tie.Need-mul-result-3 Inv-loop μ-loop
