@@ -74,7 +74,7 @@ place-lt true own d = omega arith
 place-lt false own d = omega arith
 
 -- the place behind a place
-place-on : (way : Bool) (own d e : ℕ) → d + e ≤ 126 → placeOf way (placeOf way own d) e ≡ placeOf way own (d + e)
+pub place-on : (way : Bool) (own d e : ℕ) → d + e ≤ 126 → placeOf way (placeOf way own d) e ≡ placeOf way own (d + e)
 place-on true own d e l = omega arith
 place-on false own d e l = omega arith
 
