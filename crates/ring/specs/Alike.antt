@@ -1,17 +1,17 @@
 -- The tables beside the bits that they replace: after any calls from fresh the two answer alike.
-use Prim.Native.Nat.{ℕ, zero, suc, _<_, _≤_}
+use Prim.Native.Nat.{ℕ, zero, suc, _<_}
 use mathlib.Core.Path.{_≡_, refl, sym, ap, _∙_}
 use mathlib.Core.Bool.{Bool, true, false, cond, not, _&&_, _||_}
 use mathlib.Core.List.{List, [], _∷_}
 use native.Mathlib.Omega.{arith}
 use lib.Dec.{ltb, leb, eqb}
-use borrow.Author.Tests.{lt-ltb, le-ltb, ltb-true, ltb-false, eq-eqb, ne-eqb, eqb-true, eqb-false}
+use borrow.Author.Tests.{ltb-true, ltb-false, eqb-true, eqb-false}
 use Rattle.ring_addresses.specs.Set.{up, walk, nearest, only, addTo, takeOut, keeps, keepsAll, sameSet}
 use Rattle.ring_addresses.specs.SetLaws.{walk-ext}
 use Rattle.ring_addresses.specs.WordLaws.{has-words, has-out as bits-out}
 use Rattle.ring.specs.declared.NextStation.{NextStation}
 use Rattle.ring.specs.declared.GapState.the-variants.{Waiting, DoPoll}
-use Rattle.ring.specs.Ring.{Ring, has, claimOf, others, firstOf, nextOf, prevOf, freshOf, addOf, removeOf, lapsOf, witnessOf, candidateOf, pollsOn, polls, gapOf}
+use Rattle.ring.specs.Ring.{Ring, has, others, firstOf, nextOf, prevOf, freshOf, addOf, removeOf, lapsOf, witnessOf, candidateOf, pollsOn, polls, gapOf}
 use Rattle.ring.specs.Sets.{nearest-ext}
 use Rattle.ring.specs.Laws.{SoundRing, MadeWith, has-out, fresh-made, fresh-has, claim-made, claim-has, add-made, add-has, add-out, remove-out, remove-made, remove-has, remove-me, witness-made, witness-has, witness-out-s, witness-out-d, lapsAfter, next-first, previous-nearest, sound-fresh, sound-after, sound-made, RingCall, claim, add, remove, witness, afterCall, afterCalls}
 use Rattle.ring.specs.BitRing.{BitRing, hasBit, makeBits, nextBits, prevBits, gapBits, freshBits, passedBits, afterBits, afterAllBits}

@@ -20,7 +20,7 @@ pub record BitRing : Type 0 where
   pub laps : ℕ
   pub ready : Bool
 
--- `member`
+-- what `member` answered
 unfoldable pub hasBit : BitRing → ℕ → Bool
 hasBit b = hasIn (b .low) (b .high)
 
@@ -28,25 +28,25 @@ hasBit b = hasIn (b .low) (b .high)
 unfoldable pub makeBits : ℕ → (ℕ → Bool) → ℕ → Bool → BitRing
 makeBits own f laps ready = record { low = wordOf f 0 64; high = wordOf f 64 62; own = own; laps = laps; ready = ready }
 
--- `next_station`: the first member going up from own, nobody when we are alone
+-- what `next_station` answered: the first member going up from own, nobody when we are alone
 unfoldable pub nextBits : BitRing → NextStation
 nextBits b = firstOf (walk (hasBit b) (up (b .own)) 125 1)
 
--- `previous_station`: the first member going down from own, own if alone
+-- what `previous_station` answered: the first member going down from own, own if alone
 unfoldable pub prevBits : BitRing → ℕ
 prevBits b = nearest false (hasBit b) (b .own)
 
--- `next_gap_poll`
+-- what `next_gap_poll` answered
 unfoldable pub gapBits : BitRing → ℕ → ℕ → GapState
 gapBits b a hsa =
     let x = candidateOf a hsa in
     cond (cond (ltb x 126) (pollsOn (nextBits b) (b .own) x) false) (DoPoll x) (Waiting 0)
 
--- `fresh`
+-- what `fresh` made
 unfoldable pub freshBits : ℕ → BitRing
 freshBits own = makeBits own (only own) 0 false
 
--- `witness_token_pass` between two addresses
+-- what `witness_token_pass` made of it, between two addresses
 unfoldable pub passedBits : BitRing → ℕ → ℕ → BitRing
 passedBits b s d =
     let f = keepsAll (b .own) s d (hasBit b) in

@@ -1,18 +1,19 @@
 -- What taking out, putting in and sweeping along the links make of the tables of a set: the tables of the set that is meant.
-use Prim.Native.Nat.{ℕ, zero, suc, _+_, _-_, _<_, _≤_}
+use Prim.Native.Nat.{ℕ, zero, suc, _+_, _<_, _≤_}
 use mathlib.Core.Path.{_≡_, refl, sym, ap, subst, _∙_}
 use mathlib.Core.Bool.{Bool, true, false, cond, not, _&&_, _||_, and-false}
 use mathlib.Core.List.{List}
-use mathlib.Core.Logic.{_⊎_, ⊎-elim}
+use mathlib.Core.Logic.{⊎-elim}
 use native.Mathlib.Omega.{arith}
 use lib.ListN.{length, getD}
 use lib.Dec.{ltb, eqb}
 use borrow.Author.Tests.{lt-ltb, eq-eqb, ne-eqb, ltb-true, ltb-false, eqb-true, eqb-false}
 use Rattle.ring_addresses.specs.Set.{up, nearest, betweenOf, only, addTo, takeOut}
-use Rattle.ring_addresses.specs.SetLaws.{true≢false, distOf, between-on}
+use Rattle.ring_addresses.specs.SetLaws.{true≢false, distOf}
 use Rattle.ring.specs.Ring.{after, before, listed, afterOf, beforeOf, linksOf, put, linkOf, unlinkOf, behindOf, insertOf, sweepOf}
 use Rattle.ring.specs.Tables.{length-put, after-put, before-put}
-use Rattle.ring.specs.Sets.{links-same, links-is, after-links, before-links, after-at, before-at, after-none, length-links, listed-links, nearest-low, nearest-ext, gap-at, between-from, dist-by, beside}
+use Rattle.ring.specs.Sets.{links-same, links-is, after-links, before-links, after-at, before-at, after-none, length-links, listed-links, nearest-low, nearest-ext, gap-at}
+use Rattle.ring.specs.Distances.{dist-low, dist-some, up-dist, dist-up, between-from, beside, between-on-from}
 use Rattle.ring.specs.Near.{Near, near-is, near-some, near-member, near-alone, there-and-back, nearest-same, nearest-apart, nearest-over, nearest-else}
 
 -- two sets that differ in a alone: f has it, g has not, and there is another member
@@ -187,18 +188,6 @@ insert-links f a z l m h = go (f a) refl
 
 -- Going on from p towards d, a member.
 
-up-dist : (p d : ℕ) → p < 126 → d < 126 → up p (distOf p d) ≡ d
-up-dist p d l m = omega arith
-
-dist-up : (p e : ℕ) → p < 126 → e < 126 → distOf p (up p e) ≡ e
-dist-up p e l m = omega arith
-
-pub dist-low : (p d : ℕ) → distOf p d < 126
-dist-low p d = omega arith
-
-dist-some : (p d : ℕ) → p < 126 → d < 126 → (d ≡ p → ⊥) → 1 ≤ distOf p d
-dist-some p d l m n = omega arith
-
 dist-less : (p d e : ℕ) → p < 126 → d < 126 → 1 ≤ e → e ≤ distOf p d → distOf (up p e) d < distOf p d
 dist-less p d e l m a b = omega arith
 
@@ -207,7 +196,7 @@ ahead : (f : ℕ → Bool) (p d e : ℕ) → p < 126 → d < 126 → (d ≡ p �
 ahead f p d e l m far h n = go (ltb (distOf p d) e) refl
   where
     go : (b : Bool) → ltb (distOf p d) e ≡ b → e ≤ distOf p d
-    go true q = absurd (true≢false (sym h ∙ ap f (sym (up-dist p d l m)) ∙ n .none (distOf p d) (dist-some p d l m far) (ltb-true _ e q)))
+    go true q = absurd (true≢false (sym h ∙ ap f (sym (up-dist p d l m)) ∙ n .none (distOf p d) (dist-some p d l m (λ e. far (sym e))) (ltb-true _ e q)))
     go false q = ltb-false _ e q
 
 -- so it is nearer to d than p
@@ -246,32 +235,6 @@ out-a f a = rw (eq-eqb a a refl)
 out-else : (f : ℕ → Bool) (a x : ℕ) → x < 126 → (x ≡ a → ⊥) → takeOut a f x ≡ f x
 unfolding takeOut
 out-else f a x l n = rw (ne-eqb x a n)
-
-dist-way : (s m x : ℕ) → s < 126 → m < 126 → x < 126 → distOf s m + distOf m x < 126 → distOf s x ≡ distOf s m + distOf m x
-dist-way s m x ls lm lx h = go (ltb (distOf s x) (distOf s m)) refl
-  where
-    round : (a b : ℕ) → a < 126 → b < 126 → 0 < distOf a b → distOf a b + distOf b a ≡ 126
-    round a b la lb n = omega arith
-
-    go : (b : Bool) → ltb (distOf s x) (distOf s m) ≡ b → distOf s x ≡ distOf s m + distOf m x
-    go true q =
-        let near = ltb-true (distOf s x) (distOf s m) q in
-        let first = dist-by s x m ls lx lm (omega (arith, near)) in
-        let whole = round x m lx lm (omega (arith, first, near)) in
-        absurd (omega (arith, first, whole, h))
-    go false q = let far = ltb-false (distOf s x) (distOf s m) q in let sum = dist-by s m x ls lm lx far in omega (arith, sum)
-
--- what lies between m and d lies between s and d, where m does
-pub between-on-from : (s m d x : ℕ) → s < 126 → m < 126 → d < 126 → x < 126 → betweenOf s m d ≡ true → betweenOf m x d ≡ true → betweenOf s x d ≡ true
-between-on-from s m d x ls lm ld lx b c =
-    let u = between-on s m d ls lm ld b in
-    let v = between-on m x d lm lx ld c in
-    let whole = dist-by s m d ls lm ld (le-of (u .1)) in
-    let sum = dist-way s m x ls lm lx (omega (arith, v .1, whole, dist-low s d)) in
-    between-from s x d ls lx ld (omega (arith, sum, u .0)) (omega (arith, sum, v .1, whole))
-  where
-    le-of : {a b : ℕ} → a < b → a ≤ b
-    le-of l = omega arith
 
 -- the set without those between p and d, but for own
 abbrev pub swept : ℕ → ℕ → ℕ → (ℕ → Bool) → ℕ → Bool

@@ -1,19 +1,20 @@
 -- What a pass makes of the tables of a set: the tables of the set that it leaves; and the links say a pass already exactly if it
 -- leaves the set as it was.
-use Prim.Native.Nat.{ℕ, _+_, _<_, _≤_}
+use Prim.Native.Nat.{ℕ, _<_}
 use mathlib.Core.Path.{_≡_, refl, sym, ap, subst, _∙_}
 use mathlib.Core.Bool.{Bool, true, false, cond, not, _&&_, _||_, or-true}
 use mathlib.Core.List.{List}
-use mathlib.Core.Logic.{_⊎_, ⊎-elim}
+use mathlib.Core.Logic.{⊎-elim}
 use native.Mathlib.Omega.{arith}
 use lib.Dec.{ltb, eqb}
-use borrow.Author.Tests.{lt-ltb, eq-eqb, ne-eqb, ltb-true, eqb-true, eqb-false}
+use borrow.Author.Tests.{lt-ltb, eq-eqb, ltb-true, eqb-true, eqb-false}
 use Rattle.ring_addresses.specs.Set.{nearest, betweenOf, addTo, keeps, keepsAll, sameSet}
-use Rattle.ring_addresses.specs.SetLaws.{true≢false, distOf, between-on, keeps-start, keeps-end, keeps-own, keeps-between, keeps-else, same-if, same-then}
+use Rattle.ring_addresses.specs.SetLaws.{true≢false, keeps-start, keeps-end, keeps-own, keeps-between, keeps-else, same-if, same-then}
 use Rattle.ring.specs.Ring.{after, listed, linksOf, insertOf, sweepOf, relinkOf, followsOf, confirmsOf}
-use Rattle.ring.specs.Sets.{links-same, after-at, after-none, listed-links, nearest-low, gap-at, beside}
+use Rattle.ring.specs.Sets.{links-same, after-at, after-none, listed-links, nearest-low, gap-at}
+use Rattle.ring.specs.Distances.{dist-low, beside, between-on-from}
 use Rattle.ring.specs.Near.{near-member}
-use Rattle.ring.specs.Links.{insert-links, sweep-links, swept, passes, moves, between-on-from, dist-low}
+use Rattle.ring.specs.Links.{insert-links, sweep-links, swept, passes, moves}
 
 -- nothing lies between an address and itself
 between-none : (s x : ℕ) → betweenOf s x s ≡ false
