@@ -1,19 +1,16 @@
 -- Laws that link a ring's tables to its set.
-use Prim.Native.Nat.{ℕ, _+_, _-_, _%_, _^_, _<_, _≤_}
-use mathlib.Core.Path.{_≡_, refl, sym, ap, _∙_}
+use Prim.Native.Nat.{ℕ, _+_, _-_, _<_}
+use mathlib.Core.Path.{_≡_, refl, ap, _∙_}
 use mathlib.Core.Bool.{Bool, true, false, cond, not}
 use mathlib.Core.List.{List, [], _∷_}
-use mathlib.Core.Logic.{_⊎_, inl, inr}
 use native.Mathlib.Omega.{arith}
 use lib.ListN.{length, getD}
 use lib.Dec.{ltb, eqb}
 use borrow.Author.Tests.{lt-ltb, le-ltb, ne-eqb, ltb-true, ltb-false}
 use Rattle.ring_addresses.specs.Set.{up, placeOf, walk, headOr, nearest, betweenOf}
-use Rattle.ring_addresses.specs.SetLaws.{walk-ext, place-lt, first, distOf, between-is, between-on}
-use Rattle.ring_addresses.specs.Words.{bitOf, hasIn}
-use Rattle.ring_addresses.specs.WordLaws.{in-words, has-low, has-high, bit-short}
-use Rattle.ring.specs.Ring.{Ring, listed, afterOf, beforeOf, linkAt, linksOf, has, make}
-use Rattle.ring.specs.Tables.{tab-at, tab-ext, tab-is}
+use Rattle.ring_addresses.specs.SetLaws.{walk-ext, place-lt, first, distOf, between-on}
+use Rattle.ring.specs.Ring.{after, before, listed, afterOf, beforeOf, linkAt, linksOf}
+use Rattle.ring.specs.Tables.{length-tab, tab-at, tab-ext, tab-is}
 
 -- sets that agree on the addresses have the same neighbours
 pub nearest-ext : (way : Bool) (f g : ℕ → Bool) (a : ℕ) → ((x : ℕ) → x < 126 → f x ≡ g x) → nearest way f a ≡ nearest way g a
@@ -34,15 +31,6 @@ pub links-same : (f g : ℕ → Bool) → ((x : ℕ) → x < 126 → f x ≡ g x
 unfolding linksOf
 links-same f g h = tab-ext (linkAt f) (linkAt g) 252 (λ i l. link-ext f g i l h)
 
--- words whose bits are those of a set have the tables of the set
-pub links-words : (f : ℕ → Bool) (l h : ℕ) → ((a : ℕ) → a < 64 → bitOf l a ≡ f a) → ((k : ℕ) → k < 62 → bitOf h k ≡ f (64 + k))
-    → linksOf (hasIn l (h % 2 ^ 62)) ≡ linksOf f
-links-words f l h p q =
-    links-same (hasIn l (h % 2 ^ 62)) f
-    (in-words (λ x. hasIn l (h % 2 ^ 62) x ≡ f x)
-    (λ a m. has-low l (h % 2 ^ 62) a m ∙ p a m)
-    (λ k m. has-high l (h % 2 ^ 62) k m ∙ bit-short h 62 k m ∙ q k m))
-
 -- a list of 252 whose two halves are the entries is the tables
 pub links-is : (f : ℕ → Bool) (l : List ℕ) → length l ≡ 252 → ((k : ℕ) → k < 126 → getD l k 0 ≡ afterOf f k) → ((k : ℕ) → k < 126 → getD l (126 + k) 0 ≡ beforeOf f k) → l ≡ linksOf f
 unfolding linksOf linkAt
@@ -56,25 +44,38 @@ links-is f l e p q = tab-is 0 (linkAt f) 252 l e (λ i m. go i m (ltb i 126) ref
         rw c (rw back at (q (i - 126) (omega arith)))
 
 -- the entries of the tables of a set
-pub after-at : (f : ℕ → Bool) (x : ℕ) → x < 126 → f x ≡ true → getD (linksOf f) x 0 ≡ nearest true f x
-unfolding linksOf linkAt afterOf beforeOf
-after-at f x l h = tab-at 0 (linkAt f) 252 x (omega arith) ∙ rw (lt-ltb x 126 l, h)
+pub after-links : (f : ℕ → Bool) (x : ℕ) → x < 126 → after (linksOf f) x ≡ afterOf f x
+unfolding linksOf linkAt
+after-links f x l = tab-at 0 (linkAt f) 252 x (omega arith) ∙ rw (lt-ltb x 126 l)
 
-pub before-at : (f : ℕ → Bool) (x : ℕ) → x < 126 → f x ≡ true → getD (linksOf f) (126 + x) 0 ≡ nearest false f x
-unfolding linksOf linkAt afterOf beforeOf
-before-at f x l h =
+pub before-links : (f : ℕ → Bool) (x : ℕ) → x < 126 → before (linksOf f) x ≡ beforeOf f x
+unfolding linksOf linkAt
+before-links f x l =
     let back : 126 + x - 126 ≡ x = omega arith in
-    tab-at 0 (linkAt f) 252 (126 + x) (omega arith) ∙ rw (le-ltb (126 + x) 126 (omega arith), back, h)
+    tab-at 0 (linkAt f) 252 (126 + x) (omega arith) ∙ rw (le-ltb (126 + x) 126 (omega arith), back)
 
-pub after-none : (f : ℕ → Bool) (x : ℕ) → x < 126 → f x ≡ false → getD (linksOf f) x 0 ≡ 127
-unfolding linksOf linkAt afterOf beforeOf
-after-none f x l h = tab-at 0 (linkAt f) 252 x (omega arith) ∙ rw (lt-ltb x 126 l, h)
+-- of a member
+pub after-at : (f : ℕ → Bool) (x : ℕ) → x < 126 → f x ≡ true → after (linksOf f) x ≡ nearest true f x
+unfolding afterOf
+after-at f x l h = after-links f x l ∙ rw h
 
-pub before-none : (f : ℕ → Bool) (x : ℕ) → x < 126 → f x ≡ false → getD (linksOf f) (126 + x) 0 ≡ 127
-unfolding linksOf linkAt afterOf beforeOf
-before-none f x l h =
-    let back : 126 + x - 126 ≡ x = omega arith in
-    tab-at 0 (linkAt f) 252 (126 + x) (omega arith) ∙ rw (le-ltb (126 + x) 126 (omega arith), back, h)
+pub before-at : (f : ℕ → Bool) (x : ℕ) → x < 126 → f x ≡ true → before (linksOf f) x ≡ nearest false f x
+unfolding beforeOf
+before-at f x l h = before-links f x l ∙ rw h
+
+-- of a non-member
+pub after-none : (f : ℕ → Bool) (x : ℕ) → x < 126 → f x ≡ false → after (linksOf f) x ≡ 127
+unfolding afterOf
+after-none f x l h = after-links f x l ∙ rw h
+
+pub before-none : (f : ℕ → Bool) (x : ℕ) → x < 126 → f x ≡ false → before (linksOf f) x ≡ 127
+unfolding beforeOf
+before-none f x l h = before-links f x l ∙ rw h
+
+-- there are 252
+pub length-links : (f : ℕ → Bool) → length (linksOf f) ≡ 252
+unfolding linksOf
+length-links f = length-tab (linkAt f) 252 0
 
 -- a neighbour is an address
 pub nearest-low : (way : Bool) (f : ℕ → Bool) (a : ℕ) → a < 126 → nearest way f a < 126
@@ -122,54 +123,3 @@ gap-at f a x la lx b = go (walk f (up a) 125 1) refl (between-on a x (nearest tr
         let n : distOf a x < distOf a y = rw e at (h .1) in
         let back : up a (distOf a x) ≡ x = omega arith in
         rw back at (w .none (distOf a x) (omega arith) (omega arith))
-
--- what is nearer lies between
-pub between-from : (a x b : ℕ) → a < 126 → x < 126 → b < 126 → 0 < distOf a x → distOf a x < distOf a b → betweenOf a x b ≡ true
-between-from a x b la lx lb p q = between-is a x b la lx lb ∙ rw (lt-ltb 0 (distOf a x) p, lt-ltb (distOf a x) (distOf a b) q)
-
-dist-low : (a b : ℕ) → distOf a b < 126
-dist-low a b = omega arith
-
-dist-is : (a b : ℕ) → a < 126 → b < 126 → (distOf a b + a ≡ b) ⊎ (distOf a b + a ≡ b + 126)
-dist-is a b la lb = go (ltb b a) refl
-  where
-    go : (c : Bool) → ltb b a ≡ c → (distOf a b + a ≡ b) ⊎ (distOf a b + a ≡ b + 126)
-    go true q = let h = ltb-true b a q in inr (omega arith)
-    go false q = let h = ltb-false b a q in inl (omega arith)
-
-ways : (s m x p q e : ℕ) → p < 126 → q < 126 → e < 126 → p ≤ q
-    → (p + s ≡ m) ⊎ (p + s ≡ m + 126) → (q + s ≡ x) ⊎ (q + s ≡ x + 126) → (e + m ≡ x) ⊎ (e + m ≡ x + 126) → e + p ≡ q
-ways s m x p q e lp lq le l (inl f) (inl g) (inl h) = omega arith
-ways s m x p q e lp lq le l (inl f) (inl g) (inr h) = omega arith
-ways s m x p q e lp lq le l (inl f) (inr g) (inl h) = omega arith
-ways s m x p q e lp lq le l (inl f) (inr g) (inr h) = omega arith
-ways s m x p q e lp lq le l (inr f) (inl g) (inl h) = omega arith
-ways s m x p q e lp lq le l (inr f) (inl g) (inr h) = omega arith
-ways s m x p q e lp lq le l (inr f) (inr g) (inl h) = omega arith
-ways s m x p q e lp lq le l (inr f) (inr g) (inr h) = omega arith
-
--- the way from s to x, by m
-dist-by : (s m x : ℕ) → s < 126 → m < 126 → x < 126 → distOf s m ≤ distOf s x → distOf m x + distOf s m ≡ distOf s x
-dist-by s m x ls lm lx h =
-    ways s m x (distOf s m) (distOf s x) (distOf m x) (dist-low s m) (dist-low s x) (dist-low m x) h (dist-is s m ls lm) (dist-is s x ls lx) (dist-is m x lm lx)
-
-dist-some : (m x : ℕ) → m < 126 → x < 126 → (x ≡ m → ⊥) → 0 < distOf m x
-dist-some m x lm lx n = omega arith
-
-le-both : (a b c : ℕ) → a ≤ b → b < c → a ≤ c
-le-both a b c p q = omega arith
-
-sums : (a b c m : ℕ) → a + m ≡ b → c < b → (e : ℕ) → e + m ≡ c → e < a
-sums a b c m h l e q = omega arith
-
--- what lies between two addresses lies on the one or the other side of a third
-pub beside : (s m d x : ℕ) → s < 126 → m < 126 → d < 126 → x < 126 → (x ≡ m → ⊥) → betweenOf s x d ≡ true → (betweenOf s x m ≡ true) ⊎ (betweenOf m x d ≡ true)
-beside s m d x ls lm ld lx n b = go (ltb (distOf s x) (distOf s m)) refl (between-on s x d ls lx ld b)
-  where
-    go : (c : Bool) → ltb (distOf s x) (distOf s m) ≡ c → (0 < distOf s x) × (distOf s x < distOf s d) → (betweenOf s x m ≡ true) ⊎ (betweenOf m x d ≡ true)
-    go true q h = inl (between-from s x m ls lx lm (h .0) (ltb-true (distOf s x) (distOf s m) q))
-    go false q h =
-        let far = ltb-false (distOf s x) (distOf s m) q in
-        inr
-        (between-from m x d lm lx ld (dist-some m x lm lx n)
-        (sums (distOf m d) (distOf s d) (distOf s x) (distOf s m) (dist-by s m d ls lm ld (le-both (distOf s m) (distOf s x) (distOf s d) far (h .1))) (h .1) (distOf m x) (dist-by s m x ls lm lx far)))

@@ -1,18 +1,15 @@
--- Laws of tables: a list that is a function at every index, and the word of a set read bit by bit.
-use Prim.Native.Nat.{ℕ, zero, suc, _+_, _-_, _*_, _^_, _<_, _≤_}
+-- Laws of tables: a list that is a function at every index, and what a store changes.
+use Prim.Native.Nat.{ℕ, zero, suc, _+_, _<_}
 use mathlib.Core.Path.{_≡_, refl, sym, ap, _∙_}
 use mathlib.Core.Bool.{Bool, true, false, cond}
-use mathlib.Core.List.{List, [], _∷_}
+use mathlib.Core.List.{List}
 use native.Mathlib.Nat.{add-zero, zero-add}
-use native.Mathlib.Numerals.{add-one}
 use native.Mathlib.Omega.{arith}
 use lib.ListN.{length, getD, set, length-set}
 use lib.Seq.{getD-set-same, getD-set-other, ext-getD}
-use lib.Pow.{pow-mono}
-use borrow.Author.Count.{below-more}
-use Rattle.ring_addresses.specs.Words.{wordOf}
-use Rattle.ring_addresses.specs.WordLaws.{word-lt}
-use Rattle.ring.specs.Ring.{tab, listed, flagOf}
+use lib.Dec.{eqb}
+use borrow.Author.Tests.{eqb-true, eqb-false}
+use Rattle.ring.specs.Ring.{after, before, put, tab}
 
 getD-tab : (z : ℕ) (f : ℕ → ℕ) (n i x : ℕ) → x < n → getD (tab f n i) x z ≡ f (i + x)
 unfolding tab
@@ -36,51 +33,26 @@ tab-is z f n l e h = ext-getD z l (tab f n 0) (e ∙ sym (length-tab f n 0)) (λ
 pub tab-ext : (f g : ℕ → ℕ) (n : ℕ) → ((x : ℕ) → x < n → f x ≡ g x) → tab f n 0 ≡ tab g n 0
 tab-ext f g n h = tab-is 0 g n (tab f n 0) (length-tab f n 0) (λ x l. tab-at 0 f n x l ∙ h x l)
 
--- one more entry in each half of a list that is filled from the front of both
-pub fill-first : (f : ℕ → ℕ) (out : List ℕ) (x a b : ℕ) → x < 126 → length out ≡ 252 → ((k : ℕ) → k < x → getD out k 0 ≡ f k) → a ≡ f x
-    → (k : ℕ) → k < x + 1 → getD (set (set out x a) (126 + x) b) k 0 ≡ f k
-fill-first f out x a b l n h e =
-    below-more (λ k. getD (set (set out x a) (126 + x) b) k 0 ≡ f k) x
-    (λ k m. getD-set-other (set out x a) (126 + x) k b 0 (omega arith) ∙ getD-set-other out x k a 0 (omega arith) ∙ h k m)
-    (getD-set-other (set out x a) (126 + x) x b 0 (omega arith) ∙ getD-set-same out x a 0 (omega arith) ∙ e)
+-- a store leaves the length
+pub length-put : (l : List ℕ) (x u y v : ℕ) → length (put l x u y v) ≡ length l
+length-put l x u y v = length-set (set l x u) (126 + y) v ∙ length-set l x u
 
-pub fill-second : (f : ℕ → ℕ) (out : List ℕ) (x a b : ℕ) → x < 126 → length out ≡ 252 → ((k : ℕ) → k < x → getD out (126 + k) 0 ≡ f k) → b ≡ f x
-    → (k : ℕ) → k < x + 1 → getD (set (set out x a) (126 + x) b) (126 + k) 0 ≡ f k
-fill-second f out x a b l n h e =
-    let long : length (set out x a) ≡ 252 = length-set out x a ∙ n in
-    below-more (λ k. getD (set (set out x a) (126 + x) b) (126 + k) 0 ≡ f k) x
-    (λ k m. getD-set-other (set out x a) (126 + x) (126 + k) b 0 (omega arith) ∙ getD-set-other out x (126 + k) a 0 (omega arith) ∙ h k m)
-    (getD-set-same (set out x a) (126 + x) b 0 (omega arith) ∙ e)
-
--- the word of no places
-pub word-none : (f : ℕ → Bool) (e : ℕ) → 0 ≡ wordOf f e (e - e)
-unfolding wordOf
-word-none f e =
-    let none : e - e ≡ 0 = omega arith in
-    rw none
-
--- the word of the places from x up to e, by that of the places behind x
-word-more : (f : ℕ → Bool) (x k : ℕ) → wordOf f x (suc k) ≡ wordOf f (x + 1) k * 2 + cond (f x) 1 0
-unfolding wordOf
-word-more f x k = simp add-one
-
-pub word-down : (f : ℕ → Bool) (x e w b : ℕ) → 0 < x → x ≤ e → w ≡ wordOf f x (e - x) → b ≡ cond (f (x - 1)) 1 0 → w * 2 + b ≡ wordOf f (x - 1) (e - (x - 1))
-word-down f x e w b p l h q =
-    let here : x - 1 + 1 ≡ x = omega arith in
-    let more : e - (x - 1) ≡ suc (e - x) = omega arith in
-    rw (more, word-more f (x - 1) (e - x), here, h, q)
-
--- it fits where one place more is read
-pub word-fits : (f : ℕ → Bool) (x k w : ℕ) → k ≤ 63 → w ≡ wordOf f x k → w * 2 + 1 < 2 ^ 64
-word-fits f x k w l e =
-    let low : wordOf f x k < 2 ^ k = word-lt f x k in
-    let top : 2 ^ k ≤ 2 ^ 63 = pow-mono l in
-    omega arith
-
-pub flag-small : (l : List ℕ) (a : ℕ) → flagOf l a ≤ 1
-unfolding flagOf
-flag-small l a = go (listed l a)
+-- it changes one entry of the first table
+pub after-put : (l : List ℕ) (x u y v k : ℕ) → length l ≡ 252 → x < 126 → k < 126 → after (put l x u y v) k ≡ cond (eqb k x) u (after l k)
+after-put l x u y v k n lx lk = getD-set-other (set l x u) (126 + y) k v 0 (omega arith) ∙ go (eqb k x) refl
   where
-    go : (b : Bool) → cond b 1 0 ≤ 1
-    go true = omega arith
-    go false = omega arith
+    go : (b : Bool) → eqb k x ≡ b → getD (set l x u) k 0 ≡ cond b u (getD l k 0)
+    go true q = ap (λ (j : ℕ). getD (set l x u) j 0) (eqb-true k x q) ∙ getD-set-same l x u 0 (omega arith)
+    go false q = let far : k ≡ x → ⊥ = eqb-false k x q in getD-set-other l x k u 0 (omega arith)
+
+-- and one of the second
+pub before-put : (l : List ℕ) (x u y v k : ℕ) → length l ≡ 252 → x < 126 → y < 126 → k < 126 → before (put l x u y v) k ≡ cond (eqb k y) v (before l k)
+before-put l x u y v k n lx ly lk = go (eqb k y) refl
+  where
+    go : (b : Bool) → eqb k y ≡ b → getD (put l x u y v) (126 + k) 0 ≡ cond b v (getD l (126 + k) 0)
+    go true q =
+        let long : length (set l x u) ≡ 252 = length-set l x u ∙ n in
+        ap (λ (j : ℕ). getD (put l x u y v) (126 + j) 0) (eqb-true k y q) ∙ getD-set-same (set l x u) (126 + y) v 0 (omega arith)
+    go false q =
+        let far : k ≡ y → ⊥ = eqb-false k y q in
+        getD-set-other (set l x u) (126 + y) (126 + k) v 0 (omega arith) ∙ getD-set-other l x (126 + k) u 0 (omega arith)
