@@ -1,16 +1,19 @@
 -- Document 01's examples 1 to 12 hold, all under one theorem: each row by computing the definitions. Assumes nothing.
-use mathlib.Core.Bool.{true}
-use mathlib.Core.Path.{_≡_, refl, ap, _∙_}
+use Prim.Native.Nat.{ℕ}
+use mathlib.Core.Path.{_≡_, refl, sym, ap, _∙_}
+use mathlib.Core.Bool.{Bool, true, false, _&&_}
+use mathlib.Core.List.{List, [], _∷_}
 use lib.Dec.{eqb}
 use borrow.Author.Tests.{eqb-true}
+use Rattle.bit_times.specs.Laws.{and-true}
 use Rattle.bit_times.specs.Times.{baudOf, rounded, timeOf}
 use Rattle.settings.specs.Rules.{refuseBelow, refuseOutside, addressRefusal, baudRefusal, slotBitsRefusal, hsaRefusal, rotationRefusal, roomRefusal, gapWaitRefusal, retryRefusal, minTsdrRefusal, watchdogRefusal, factorsRefusal, applicationsRefusal}
 use Rattle.settings.specs.Settings.{newAt, unless, slotBitsOf, hsaOf, rotationOf, gapWaitOf, retryOf, minTsdrOf, withWatchdog, watchdogAt, watchdogOf, slotCheckOf, slotTimeOf, minTsdrTimeOf, tokenLostOf, rotationTimeOf, newOf}
 use Rattle.settings_watchdog.specs.Watchdog.{trial, factorsOf, watchdogTimeOf}
 use Rattle.settings_build.specs.Build.{earlyRefusal, firstRefusal, pairOf, builtAt, buildOf, plainOf}
-use Rattle.ring_addresses.specs.Set.{walk, nearest, betweenOf, addTo, takeOut, keeps, sameSet}
-use Rattle.ring_addresses.specs.Words.{bitOf, wordOf, hasIn}
-use Rattle.ring.specs.Ring.{Ring, has, make, claimOf, others, nextOf, prevOf, freshOf, addOf, removeOf, roundOf, lapsOf, passed, witnessOf, candidateOf, polls, gapOf}
+use Rattle.ring_addresses.specs.Set.{walk, nearest, betweenOf}
+use Rattle.ring_addresses.specs.SetLaws.{true≢false}
+use Rattle.ring.specs.Ring.{Ring, has, make, claimOf, others, nextOf, prevOf, freshOf, addOf, removeOf, roundOf, lapsOf, witnessOf, candidateOf, polls, gapOf, listed, afterOf, beforeOf, linkAt, tab, linksOf, linkOf, unlinkOf, behindOf, insertOf, sweepOf, relinkOf, followsOf, confirmsOf, counted}
 use Rattle.codec_fields.specs.Fields.{fieldOf, putOf, zerosOr14, beFrom, loadOf, overOf, storedOf}
 use Rattle.codec_telegrams.specs.Words.{responseStateOf, telegramOf, telegramRefusal, telegramWord}
 use Rattle.codec_decisions.specs.Decisions.{decisionOf, lengthRefusal, decisionRefusal, decisionWord}
@@ -35,14 +38,29 @@ use Rattle.trace.specs.Entries.{recordLength, entryOf}
 use Rattle.station.specs.Whole.{Station}
 use Rattle.theorem_examples.specs.Table.{TraceParts, leftOn, leftBy, traceBytes, afterEntries, example, example9, aloneStation, example10, neighbourStation, example11, collidedOnce, AllHold, table}
 
--- two rings are equal by their numbers, which is told by tests (a test computes where the rings' words would be compared bit by bit)
-same-ring : (x y : Ring) → eqb (x .low) (y .low) ≡ true → eqb (x .high) (y .high) ≡ true → eqb (x .own) (y .own) ≡ true → eqb (x .laps) (y .laps) ≡ true → x .ready ≡ y .ready → x ≡ y
-same-ring x y low high own laps ready =
-    let a = eqb-true (x .low) (y .low) low in
-    let b = eqb-true (x .high) (y .high) high in
-    let c = eqb-true (x .own) (y .own) own in
-    let d = eqb-true (x .laps) (y .laps) laps in
-    λ i. record { low = a i; high = b i; own = c i; laps = d i; ready = ready i }
+-- are two lists of numbers the same
+abbrev sameList : List ℕ → List ℕ → Bool
+sameList [] [] = true
+sameList [] (b ∷ m) = false
+sameList (a ∷ l) [] = false
+sameList (a ∷ l) (b ∷ m) = eqb a b && sameList l m
+
+same-list : (l m : List ℕ) → sameList l m ≡ true → l ≡ m
+same-list [] [] e = refl
+same-list [] (b ∷ m) e = absurd (true≢false (sym e))
+same-list (a ∷ l) [] e = absurd (true≢false (sym e))
+same-list (a ∷ l) (b ∷ m) e =
+    let both = and-true (eqb a b) (sameList l m) e in
+    let first = eqb-true a b (both .0) in
+    let rest = same-list l m (both .1) in
+    λ i. first i ∷ rest i
+
+-- two rings are equal by their tables, which is told by a test (a test computes where the tables would be compared as they came
+-- about), and by the rest
+same-ring : (x y : Ring) → sameList (x .links) (y .links) ≡ true → x .own ≡ y .own → x .laps ≡ y .laps → x .ready ≡ y .ready → x ≡ y
+same-ring x y links own laps ready =
+    let tables = same-list (x .links) (y .links) links in
+    λ i. record { links = tables i; own = own i; laps = laps i; ready = ready i }
 
 -- two stations are equal by their parts
 same-station : (x y : Station) → x .state ≡ y .state → x .core ≡ y .core → x .«token_ring» ≡ y .«token_ring» → x .p ≡ y .p → x .applications ≡ y .applications → x ≡ y
@@ -54,20 +72,20 @@ left-by trace fresh left start after = ap (λ (x : TraceStart). leftOn x (trace 
 
 -- the three stations that traces leave
 stations-left : (leftBy example9 ≡ Accepted aloneStation) × (leftBy example10 ≡ Accepted neighbourStation) × (leftBy example11 ≡ Accepted collidedOnce)
-unfolding baudOf rounded timeOf refuseBelow refuseOutside addressRefusal baudRefusal slotBitsRefusal hsaRefusal rotationRefusal roomRefusal gapWaitRefusal retryRefusal minTsdrRefusal watchdogRefusal factorsRefusal applicationsRefusal earlyRefusal firstRefusal pairOf builtAt buildOf plainOf slotTimeOf tokenLostOf rotationTimeOf has make claimOf others nextOf freshOf passed witnessOf polls gapOf walk nearest betweenOf addTo takeOut keeps sameSet roundOf lapsOf candidateOf bitOf wordOf hasIn fieldOf beFrom loadOf responseStateOf telegramOf zerosOr14 telegramRefusal decisionOf lengthRefusal decisionRefusal headOf decisionAt telegramAt entryRefusal wordsRefusal recordRefusal withActivity withGap withPending withTokenTimes withNextApplication withOnline freshCore freshStation withTokenTime knownAt elapsedOf markedAt busyOf ongoingOf waitedOf pauseOf sentAt busActivityOf rxOf slotExpiredOf tokenLostWaitOf doneOf transmitOf claimNext claimTokenOf declinesOn declinesAt usePassOf appTransmitOf firstOr turnOf askedFrom askedOf holdLess capped endOf holdEndOf holdsOf useAppsAfter useAppsOf useTokenTimed useTokenOf validResponse receivedOf awaitDataOf heardOf collided listenHeard listenTelegram activeCollided tokenWitnessed tokenHeard activeHeard handleTelegram heardTelegram heardAll receivedAll consumedAll listenTokenOn handleLostToken listenTokenOf activeIdleOn activeIdleOf gapAdvanced passSentOn passSend passPollOn passPoll passTokenOf awaitStatusOf connectedOf dispatchOf pollOnline pollInner polledOf acceptedAfter acceptedPoll pollOf onlineOf editionOf lengthOf headerIn headerOf headerRefusal settingsOf settingsAt startedWith startOf entryOf
+unfolding baudOf rounded timeOf refuseBelow refuseOutside addressRefusal baudRefusal slotBitsRefusal hsaRefusal rotationRefusal roomRefusal gapWaitRefusal retryRefusal minTsdrRefusal watchdogRefusal factorsRefusal applicationsRefusal earlyRefusal firstRefusal pairOf builtAt buildOf plainOf slotTimeOf tokenLostOf rotationTimeOf has make claimOf others nextOf freshOf witnessOf polls gapOf walk nearest betweenOf roundOf lapsOf candidateOf listed afterOf beforeOf linkAt tab linksOf linkOf unlinkOf behindOf insertOf sweepOf relinkOf followsOf confirmsOf counted fieldOf beFrom loadOf responseStateOf telegramOf zerosOr14 telegramRefusal decisionOf lengthRefusal decisionRefusal headOf decisionAt telegramAt entryRefusal wordsRefusal recordRefusal withActivity withGap withPending withTokenTimes withNextApplication withOnline freshCore freshStation withTokenTime knownAt elapsedOf markedAt busyOf ongoingOf waitedOf pauseOf sentAt busActivityOf rxOf slotExpiredOf tokenLostWaitOf doneOf transmitOf claimNext claimTokenOf declinesOn declinesAt usePassOf appTransmitOf firstOr turnOf askedFrom askedOf holdLess capped endOf holdEndOf holdsOf useAppsAfter useAppsOf useTokenTimed useTokenOf validResponse receivedOf awaitDataOf heardOf collided listenHeard listenTelegram activeCollided tokenWitnessed tokenHeard activeHeard handleTelegram heardTelegram heardAll receivedAll consumedAll listenTokenOn handleLostToken listenTokenOf activeIdleOn activeIdleOf gapAdvanced passSentOn passSend passPollOn passPoll passTokenOf awaitStatusOf connectedOf dispatchOf pollOnline pollInner polledOf acceptedAfter acceptedPoll pollOf onlineOf editionOf lengthOf headerIn headerOf headerRefusal settingsOf settingsAt startedWith startOf entryOf
 stations-left = (
   let fresh = freshStation (example 10) 1 in
       let after = afterEntries fresh (example9 .entries) in
-      left-by example9 fresh aloneStation refl (same-station after aloneStation refl refl (same-ring (after .«token_ring») (aloneStation .«token_ring») refl refl refl refl refl) refl refl),
+      left-by example9 fresh aloneStation refl (same-station after aloneStation refl refl (same-ring (after .«token_ring») (aloneStation .«token_ring») refl refl refl refl) refl refl),
   let fresh = freshStation (example 10) 1 in
       let after = afterEntries fresh (example10 .entries) in
-      left-by example10 fresh neighbourStation refl (same-station after neighbourStation refl refl (same-ring (after .«token_ring») (neighbourStation .«token_ring») refl refl refl refl refl) refl refl),
+      left-by example10 fresh neighbourStation refl (same-station after neighbourStation refl refl (same-ring (after .«token_ring») (neighbourStation .«token_ring») refl refl refl refl) refl refl),
   let fresh = freshStation (example 1) 2 in
       let after = afterEntries fresh (example11 .entries) in
-      left-by example11 fresh collidedOnce refl (same-station after collidedOnce refl refl (same-ring (after .«token_ring») (collidedOnce .«token_ring») refl refl refl refl refl) refl refl),
+      left-by example11 fresh collidedOnce refl (same-station after collidedOnce refl refl (same-ring (after .«token_ring») (collidedOnce .«token_ring») refl refl refl refl) refl refl),
 )
 
 -- every row of the table holds
 pub examples-1-to-12 : AllHold table
-unfolding baudOf rounded timeOf refuseBelow refuseOutside trial factorsOf newAt unless slotBitsOf hsaOf rotationOf gapWaitOf retryOf minTsdrOf withWatchdog watchdogAt watchdogOf slotCheckOf addressRefusal baudRefusal slotBitsRefusal hsaRefusal rotationRefusal roomRefusal gapWaitRefusal retryRefusal minTsdrRefusal watchdogRefusal factorsRefusal applicationsRefusal earlyRefusal firstRefusal pairOf builtAt buildOf plainOf slotTimeOf minTsdrTimeOf tokenLostOf rotationTimeOf watchdogTimeOf newOf has make claimOf others nextOf prevOf freshOf addOf removeOf passed witnessOf polls gapOf walk nearest betweenOf addTo takeOut keeps sameSet roundOf lapsOf candidateOf bitOf wordOf hasIn fieldOf putOf beFrom loadOf overOf storedOf responseStateOf telegramOf zerosOr14 telegramRefusal telegramWord decisionOf lengthRefusal decisionRefusal decisionWord headOf decisionAt telegramAt entryRefusal wordsRefusal recordRefusal outcomeOf sentFields sentFrom noticeFields noticeFrom refusedAnswer answerWord fullOf answerOf refusalKnown sentMeant meant unpackOf withActivity withGap withPending withTokenTimes withNextApplication withOnline freshCore freshStation withTokenTime knownAt elapsedOf markedAt busyOf ongoingOf waitedOf pauseOf sentAt busActivityOf rxOf slotExpiredOf tokenLostWaitOf doneOf transmitOf claimNext claimTokenOf declinesOn declinesAt usePassOf appTransmitOf firstOr turnOf askedFrom askedOf holdLess capped endOf holdEndOf holdsOf useAppsAfter useAppsOf useTokenTimed useTokenOf validResponse receivedOf withNotice timeoutOf awaitDataOf heardOf responseState listenAnswered listenResponse collided lastRequestToUs listened listenHeard listenTelegram activeCollided remembers acceptedOf tokenToUs tokenWitnessed tokenHeard activeRequested activeHeard handleTelegram heardTelegram heardAll receivedAll consumedAll listenTokenOn handleLostToken listenTokenOf activeResponse activeIdleOn activeIdleOf gapAdvanced passSentOn passSend passPollOn passPoll passTokenOf statusRingOn statusRing statusAnswered statusUnexpected statusReceived awaitStatusOf resendOf checkReceived checkTokenPassOf connectedOf dispatchOf pollOnline pollInner stepAnswer polledOf refusedPoll acceptedAfter acceptedPoll pollOf onlineOf offlineOf passiveOf editionOf lengthOf headerIn headerOf headerRefusal settingsOf settingsAt startedWith startOf recordLength entryOf runFrom ranOf replayOn replayOf numberOf written bufferOf
+unfolding baudOf rounded timeOf refuseBelow refuseOutside trial factorsOf newAt unless slotBitsOf hsaOf rotationOf gapWaitOf retryOf minTsdrOf withWatchdog watchdogAt watchdogOf slotCheckOf addressRefusal baudRefusal slotBitsRefusal hsaRefusal rotationRefusal roomRefusal gapWaitRefusal retryRefusal minTsdrRefusal watchdogRefusal factorsRefusal applicationsRefusal earlyRefusal firstRefusal pairOf builtAt buildOf plainOf slotTimeOf minTsdrTimeOf tokenLostOf rotationTimeOf watchdogTimeOf newOf has make claimOf others nextOf prevOf freshOf addOf removeOf witnessOf polls gapOf walk nearest betweenOf roundOf lapsOf candidateOf listed afterOf beforeOf linkAt tab linksOf linkOf unlinkOf behindOf insertOf sweepOf relinkOf followsOf confirmsOf counted fieldOf putOf beFrom loadOf overOf storedOf responseStateOf telegramOf zerosOr14 telegramRefusal telegramWord decisionOf lengthRefusal decisionRefusal decisionWord headOf decisionAt telegramAt entryRefusal wordsRefusal recordRefusal outcomeOf sentFields sentFrom noticeFields noticeFrom refusedAnswer answerWord fullOf answerOf refusalKnown sentMeant meant unpackOf withActivity withGap withPending withTokenTimes withNextApplication withOnline freshCore freshStation withTokenTime knownAt elapsedOf markedAt busyOf ongoingOf waitedOf pauseOf sentAt busActivityOf rxOf slotExpiredOf tokenLostWaitOf doneOf transmitOf claimNext claimTokenOf declinesOn declinesAt usePassOf appTransmitOf firstOr turnOf askedFrom askedOf holdLess capped endOf holdEndOf holdsOf useAppsAfter useAppsOf useTokenTimed useTokenOf validResponse receivedOf withNotice timeoutOf awaitDataOf heardOf responseState listenAnswered listenResponse collided lastRequestToUs listened listenHeard listenTelegram activeCollided remembers acceptedOf tokenToUs tokenWitnessed tokenHeard activeRequested activeHeard handleTelegram heardTelegram heardAll receivedAll consumedAll listenTokenOn handleLostToken listenTokenOf activeResponse activeIdleOn activeIdleOf gapAdvanced passSentOn passSend passPollOn passPoll passTokenOf statusRingOn statusRing statusAnswered statusUnexpected statusReceived awaitStatusOf resendOf checkReceived checkTokenPassOf connectedOf dispatchOf pollOnline pollInner stepAnswer polledOf refusedPoll acceptedAfter acceptedPoll pollOf onlineOf offlineOf passiveOf editionOf lengthOf headerIn headerOf headerRefusal settingsOf settingsAt startedWith startOf recordLength entryOf runFrom ranOf replayOn replayOf numberOf written bufferOf
 examples-1-to-12 = (refl, (refl, (refl, (refl, (refl, (refl, (refl, (refl, (refl, (refl, (refl, ((refl, refl), ((refl, refl), ((refl, refl), ((stations-left .0, refl), ((stations-left .1, refl), ((stations-left .2, refl), ((stations-left .2, refl), ((refl, refl, refl), tt)))))))))))))))))))

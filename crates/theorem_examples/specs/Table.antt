@@ -1,9 +1,10 @@
 -- Document 01, "Proved examples": the rows of the table, what a row says, and the table.
 use Prim.Native.Nat.{ℕ, zero, suc, _+_, _*_, _/_, _%_, _^_}
-use mathlib.Core.Bool.{true, false}
+use mathlib.Core.Bool.{Bool, true, false, _||_}
 use mathlib.Core.Path.{_≡_}
 use mathlib.Core.List.{List, [], _∷_, _++_, map}
 use lib.ListN.{length}
+use lib.Dec.{eqb}
 use Rattle.codec_fields.specs.Fields.{bytesOf}
 use Rattle.bit_times.specs.declared.Micros.{Micros}
 use Rattle.bit_times.specs.declared.Baud.the-variants.{B500000}
@@ -18,7 +19,7 @@ use Rattle.settings.specs.declared.Parameters.{Parameters}
 use Rattle.settings.specs.Settings.{slotTimeOf, tokenLostOf}
 use Rattle.ring.specs.declared.GapState.{GapState}
 use Rattle.ring.specs.declared.GapState.the-variants.{Waiting, DoPoll}
-use Rattle.ring.specs.Ring.{freshOf, gapOf}
+use Rattle.ring.specs.Ring.{linksOf, freshOf, gapOf}
 use Rattle.codec_answers.specs.declared.Answer.{Answer}
 use Rattle.codec_answers.specs.declared.Sent.{Sent}
 use Rattle.codec_answers.specs.declared.Sent.the-variants as sent
@@ -149,6 +150,11 @@ abbrev pub example12 : TraceParts
 example12 =
     record { header = headed 10 1; entries = onlineEntry ∷ pollEntry (pollRecord 1000 []) ∷ pollEntry (pollRecord 7399 []) ∷ pollEntry (pollRecord 7400 []) ∷ pollEntry (pollRecord 7532 []) ∷ pollEntry (pollRecord 7598 []) ∷ [] }
 
+-- is x one of these (a ring's tables are those of its members)
+abbrev pub among : List ℕ → ℕ → Bool
+among [] x = false
+among (a ∷ more) x = eqb x a || among more x
+
 -- Example 9's trace: example 12's and one poll more, in which the application declines, so that a token pass starts. The station
 -- is alone, gap wait 10, count 0.
 abbrev pub example9 : TraceParts
@@ -159,7 +165,7 @@ aloneStation =
     record {
       state = PassToken true First;
       core = record { «last_token_time» = record { 0 = 7532 }; «end_token_hold_time» = record { 0 = 64872 }; «last_bus_activity» = activity.At (record { 0 = 7598 }); «gap_state» = Waiting 0; «pending_bytes» = 0; «next_application» = 0; online = true };
-      «token_ring» = record { low = 2 ^ 5; high = 0; own = 5; laps = 0; ready = true };
+      «token_ring» = record { links = linksOf (among (5 ∷ [])); own = 5; laps = 0; ready = true };
       p = example 10;
       applications = 1;
     }
@@ -179,7 +185,7 @@ neighbourStation =
     record {
       state = PassToken true First;
       core = record { «last_token_time» = record { 0 = 7700 }; «end_token_hold_time» = record { 0 = 64872 }; «last_bus_activity» = activity.At (record { 0 = 7766 }); «gap_state» = Waiting 0; «pending_bytes» = 0; «next_application» = 0; online = true };
-      «token_ring» = record { low = 2 ^ 5 + 2 ^ 9; high = 0; own = 5; laps = 1; ready = true };
+      «token_ring» = record { links = linksOf (among (5 ∷ 9 ∷ [])); own = 5; laps = 1; ready = true };
       p = example 10;
       applications = 1;
     }
@@ -209,7 +215,7 @@ collidedOnce =
     record {
       state = ListenToken optionAddress.None 1;
       core = record { «last_token_time» = record { 0 = 9400 }; «end_token_hold_time» = record { 0 = 72672 }; «last_bus_activity» = activity.At (record { 0 = 10200 }); «gap_state» = DoPoll 6; «pending_bytes» = 7; «next_application» = 1; online = true };
-      «token_ring» = record { low = 2 ^ 5 + 2 ^ 9 + 2 ^ 12; high = 0; own = 5; laps = 2; ready = true };
+      «token_ring» = record { links = linksOf (among (5 ∷ 9 ∷ 12 ∷ [])); own = 5; laps = 2; ready = true };
       p = example 1;
       applications = 2;
     }
@@ -220,7 +226,7 @@ freshBut last =
     record {
       state = Offline;
       core = record { «last_token_time» = zeroTime; «end_token_hold_time» = zeroTime; «last_bus_activity» = last; «gap_state» = Waiting 0; «pending_bytes» = 0; «next_application» = 0; online = false };
-      «token_ring» = record { low = 2 ^ 5; high = 0; own = 5; laps = 0; ready = false };
+      «token_ring» = record { links = linksOf (among (5 ∷ [])); own = 5; laps = 0; ready = false };
       p = example 1;
       applications = 2;
     }

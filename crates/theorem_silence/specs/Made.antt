@@ -10,12 +10,11 @@ use borrow.Author.Tests.{lt-leb, lt-ltb, eq-eqb, ne-eqb}
 use Rattle.codec_fields.specs.Fields.{fieldOf, beFrom, loadOf, zerosOr14}
 use Rattle.bit_times.specs.Times.{rounded, timeOf}
 use Rattle.settings.specs.Settings.{slotTimeOf, tokenLostOf, rotationTimeOf}
-use Rattle.ring_addresses.specs.Set.{walk, nearest, betweenOf, keeps, sameSet}
+use Rattle.ring_addresses.specs.Set.{walk, nearest, betweenOf, sameSet}
 use Rattle.ring_addresses.specs.SetLaws.{same-then}
-use Rattle.ring_addresses.specs.Words.{bitOf, wordOf, hasIn}
 use Rattle.ring.specs.declared.GapState.{GapState}
 use Rattle.ring.specs.declared.GapState.the-variants.{Waiting, DoPoll}
-use Rattle.ring.specs.Ring.{Ring, has, make, freshOf, roundOf, lapsOf, passed, witnessOf, claimOf, addOf, others, nextOf, polls, candidateOf, gapOf}
+use Rattle.ring.specs.Ring.{Ring, has, make, freshOf, roundOf, lapsOf, witnessOf, claimOf, addOf, others, nextOf, polls, candidateOf, gapOf, listed, afterOf, beforeOf, linkAt, tab, linksOf, linkOf, unlinkOf, behindOf, insertOf, sweepOf, relinkOf, followsOf, confirmsOf, counted}
 use Rattle.codec_telegrams.specs.declared.Telegram.the-variants as telegram
 use Rattle.codec_telegrams.specs.Words as words
 use Rattle.codec_decisions.specs.Decisions as decisions
@@ -117,7 +116,7 @@ pub record FirstRuns : Type 0 where
   pub heard-but-one : run begun-question (hears-all 4200 2 6) ≡ listens-question 4900 ring-but-one
 
 pub first-runs : FirstRuns
-unfolding walk nearest betweenOf keeps sameSet roundOf lapsOf bitOf wordOf hasIn has make freshOf passed witnessOf claimOf others nextOf rounded timeOf slotTimeOf tokenLostOf rotationTimeOf withActivity withGap withPending withTokenTimes withNextApplication withOnline after run fieldOf beFrom loadOf zerosOr14 words.responseStateOf words.telegramRefusal words.telegramOf decisions.lengthRefusal decisions.decisionRefusal decisions.decisionOf records.headOf records.telegramAt records.decisionAt records.entryRefusal records.wordsRefusal records.recordRefusal steps.knownAt steps.elapsedOf steps.waitedOf steps.markedAt steps.busyOf steps.ongoingOf steps.busActivityOf steps.doneOf polling.connectedOf polling.dispatchOf polling.pollOnline polling.pollInner polling.acceptedAfter polling.acceptedPoll polling.pollOf answering.polledOf steps.rxOf steps.tokenLostWaitOf steps.heardOf hear.listenHeard hear.listenTelegram listening.heardTelegram listening.heardAll listening.receivedAll listening.consumedAll listening.listenTokenOn listening.handleLostToken listening.listenTokenOf steps.pauseOf steps.sentAt steps.transmitOf steps.withTokenTime claiming.claimNext claiming.claimTokenOf holding.declinesOn holding.declinesAt holding.usePassOf holding.appTransmitOf holding.firstOr holding.turnOf holding.askedFrom holding.askedOf holding.holdLess holding.capped holding.endOf holding.holdEndOf holding.holdsOf holding.useAppsAfter holding.useAppsOf holding.useTokenTimed holding.useTokenOf passing.gapAdvanced passing.passSentOn passing.passSend passing.passPollOn passing.passPoll passing.passTokenOf freshStation freshCore commands.onlineOf holding.validResponse holding.receivedOf holding.awaitDataOf listening.activeIdleOn listening.activeIdleOf active.activeCollided active.tokenHeard active.activeHeard active.handleTelegram
+unfolding walk nearest betweenOf sameSet roundOf lapsOf listed afterOf beforeOf linkAt tab linksOf linkOf unlinkOf behindOf insertOf sweepOf relinkOf followsOf confirmsOf counted has make freshOf witnessOf claimOf others nextOf rounded timeOf slotTimeOf tokenLostOf rotationTimeOf withActivity withGap withPending withTokenTimes withNextApplication withOnline after run fieldOf beFrom loadOf zerosOr14 words.responseStateOf words.telegramRefusal words.telegramOf decisions.lengthRefusal decisions.decisionRefusal decisions.decisionOf records.headOf records.telegramAt records.decisionAt records.entryRefusal records.wordsRefusal records.recordRefusal steps.knownAt steps.elapsedOf steps.waitedOf steps.markedAt steps.busyOf steps.ongoingOf steps.busActivityOf steps.doneOf polling.connectedOf polling.dispatchOf polling.pollOnline polling.pollInner polling.acceptedAfter polling.acceptedPoll polling.pollOf answering.polledOf steps.rxOf steps.tokenLostWaitOf steps.heardOf hear.listenHeard hear.listenTelegram listening.heardTelegram listening.heardAll listening.receivedAll listening.consumedAll listening.listenTokenOn listening.handleLostToken listening.listenTokenOf steps.pauseOf steps.sentAt steps.transmitOf steps.withTokenTime claiming.claimNext claiming.claimTokenOf holding.declinesOn holding.declinesAt holding.usePassOf holding.appTransmitOf holding.firstOr holding.turnOf holding.askedFrom holding.askedOf holding.holdLess holding.capped holding.endOf holding.holdEndOf holding.holdsOf holding.useAppsAfter holding.useAppsOf holding.useTokenTimed holding.useTokenOf passing.gapAdvanced passing.passSentOn passing.passSend passing.passPollOn passing.passPoll passing.passTokenOf freshStation freshCore commands.onlineOf holding.validResponse holding.receivedOf holding.awaitDataOf listening.activeIdleOn listening.activeIdleOf active.activeCollided active.tokenHeard active.activeHeard active.handleTelegram
 first-runs =
     record {
       look = refl;
@@ -136,7 +135,7 @@ record Tested : Type 0 where
   pub own-but-one : ring-but-one .own ≡ 0
 
 tested : Tested
-unfolding walk nearest betweenOf keeps sameSet roundOf lapsOf bitOf wordOf hasIn has make freshOf passed witnessOf claimOf others nextOf rounded timeOf slotTimeOf tokenLostOf rotationTimeOf withActivity withGap withPending withTokenTimes withNextApplication withOnline after run fieldOf beFrom loadOf zerosOr14 words.responseStateOf words.telegramRefusal words.telegramOf decisions.lengthRefusal decisions.decisionRefusal decisions.decisionOf records.headOf records.telegramAt records.decisionAt records.entryRefusal records.wordsRefusal records.recordRefusal steps.knownAt steps.elapsedOf steps.waitedOf steps.markedAt steps.busyOf steps.ongoingOf steps.busActivityOf steps.doneOf polling.connectedOf polling.dispatchOf polling.pollOnline polling.pollInner polling.acceptedAfter polling.acceptedPoll polling.pollOf answering.polledOf steps.rxOf steps.tokenLostWaitOf steps.heardOf hear.listenHeard hear.listenTelegram listening.heardTelegram listening.heardAll listening.receivedAll listening.consumedAll listening.listenTokenOn listening.handleLostToken listening.listenTokenOf steps.pauseOf steps.sentAt steps.transmitOf steps.withTokenTime claiming.claimNext claiming.claimTokenOf holding.declinesOn holding.declinesAt holding.usePassOf holding.appTransmitOf holding.firstOr holding.turnOf holding.askedFrom holding.askedOf holding.holdLess holding.capped holding.endOf holding.holdEndOf holding.holdsOf holding.useAppsAfter holding.useAppsOf holding.useTokenTimed holding.useTokenOf passing.gapAdvanced passing.passSentOn passing.passSend passing.passPollOn passing.passPoll passing.passTokenOf freshStation freshCore commands.onlineOf holding.validResponse holding.receivedOf holding.awaitDataOf listening.activeIdleOn listening.activeIdleOf active.activeCollided active.tokenHeard active.activeHeard active.handleTelegram
+unfolding walk nearest betweenOf sameSet roundOf lapsOf listed afterOf beforeOf linkAt tab linksOf linkOf unlinkOf behindOf insertOf sweepOf relinkOf followsOf confirmsOf counted has make freshOf witnessOf claimOf others nextOf rounded timeOf slotTimeOf tokenLostOf rotationTimeOf withActivity withGap withPending withTokenTimes withNextApplication withOnline after run fieldOf beFrom loadOf zerosOr14 words.responseStateOf words.telegramRefusal words.telegramOf decisions.lengthRefusal decisions.decisionRefusal decisions.decisionOf records.headOf records.telegramAt records.decisionAt records.entryRefusal records.wordsRefusal records.recordRefusal steps.knownAt steps.elapsedOf steps.waitedOf steps.markedAt steps.busyOf steps.ongoingOf steps.busActivityOf steps.doneOf polling.connectedOf polling.dispatchOf polling.pollOnline polling.pollInner polling.acceptedAfter polling.acceptedPoll polling.pollOf answering.polledOf steps.rxOf steps.tokenLostWaitOf steps.heardOf hear.listenHeard hear.listenTelegram listening.heardTelegram listening.heardAll listening.receivedAll listening.consumedAll listening.listenTokenOn listening.handleLostToken listening.listenTokenOf steps.pauseOf steps.sentAt steps.transmitOf steps.withTokenTime claiming.claimNext claiming.claimTokenOf holding.declinesOn holding.declinesAt holding.usePassOf holding.appTransmitOf holding.firstOr holding.turnOf holding.askedFrom holding.askedOf holding.holdLess holding.capped holding.endOf holding.holdEndOf holding.holdsOf holding.useAppsAfter holding.useAppsOf holding.useTokenTimed holding.useTokenOf passing.gapAdvanced passing.passSentOn passing.passSend passing.passPollOn passing.passPoll passing.passTokenOf freshStation freshCore commands.onlineOf holding.validResponse holding.receivedOf holding.awaitDataOf listening.activeIdleOn listening.activeIdleOf active.activeCollided active.tokenHeard active.activeHeard active.handleTelegram
 tested = record { all = refl; alone = refl; but-one = refl; own-all = refl; own-alone = refl; own-but-one = refl }
 
 pub record Members : Type 0 where

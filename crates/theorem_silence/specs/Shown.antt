@@ -15,11 +15,10 @@ use Rattle.settings.specs.declared.Parameters.{Parameters}
 use Rattle.settings.specs.Rules.{refuseBelow, refuseOutside, addressRefusal, baudRefusal, slotBitsRefusal, hsaRefusal, rotationRefusal, roomRefusal, gapWaitRefusal, retryRefusal, minTsdrRefusal, factorsRefusal, applicationsRefusal}
 use Rattle.settings.specs.Settings.{defaultOf, slotTimeOf, tokenLostOf, rotationTimeOf}
 use Rattle.settings_build.specs.Build.{earlyRefusal, firstRefusal, plainOf}
-use Rattle.ring_addresses.specs.Set.{takeOut, walk, nearest, betweenOf, keeps, sameSet}
-use Rattle.ring_addresses.specs.Words.{bitOf, wordOf, hasIn}
+use Rattle.ring_addresses.specs.Set.{walk, nearest, betweenOf}
 use Rattle.ring.specs.declared.GapState.{GapState}
 use Rattle.ring.specs.declared.GapState.the-variants.{Waiting, DoPoll}
-use Rattle.ring.specs.Ring.{Ring, has, make, others, removeOf, freshOf, roundOf, lapsOf, passed, witnessOf, claimOf, addOf, nextOf, prevOf}
+use Rattle.ring.specs.Ring.{Ring, has, make, others, removeOf, freshOf, roundOf, lapsOf, witnessOf, claimOf, addOf, nextOf, prevOf, listed, afterOf, beforeOf, linkAt, tab, linksOf, linkOf, unlinkOf, behindOf, insertOf, sweepOf, relinkOf, followsOf, confirmsOf, counted}
 use Rattle.ring.specs.Laws.{SoundRing, claim-has, claim-own, add-has, add-own, fresh-has, fresh-made, witness-own, sound-claim, sound-witness}
 use Rattle.codec_telegrams.specs.Words as words
 use Rattle.codec_decisions.specs.Decisions as decisions
@@ -266,7 +265,7 @@ here-accepted = refl
 
 -- worked out from the definitions
 pub letter-run : LetterRun
-unfolding fieldOf beFrom loadOf rounded timeOf slotTimeOf tokenLostOf rotationTimeOf walk nearest betweenOf keeps sameSet roundOf lapsOf bitOf wordOf hasIn has make others freshOf passed witnessOf claimOf nextOf prevOf freshStation freshCore withActivity withGap withPending withTokenTimes withNextApplication withOnline after run zerosOr14 decisions.lengthRefusal words.responseStateOf decisions.decisionRefusal words.telegramRefusal words.telegramOf decisions.decisionOf records.headOf records.telegramAt records.decisionAt records.entryRefusal records.wordsRefusal records.recordRefusal steps.knownAt steps.elapsedOf steps.waitedOf steps.markedAt steps.busyOf steps.ongoingOf steps.pauseOf steps.sentAt steps.busActivityOf steps.rxOf steps.slotExpiredOf steps.tokenLostWaitOf steps.doneOf steps.transmitOf steps.heardOf hear.listenHeard hear.listenTelegram listening.heardTelegram listening.heardAll listening.receivedAll listening.consumedAll listening.listenTokenOn listening.handleLostToken listening.listenTokenOf polling.connectedOf polling.dispatchOf polling.pollOnline polling.pollInner answering.polledOf polling.acceptedAfter polling.acceptedPoll polling.pollOf commands.onlineOf claiming.claimNext claiming.claimTokenOf steps.withTokenTime holding.declinesOn holding.declinesAt holding.usePassOf holding.appTransmitOf holding.firstOr holding.turnOf holding.askedFrom holding.askedOf holding.holdLess holding.capped holding.endOf holding.holdEndOf holding.holdsOf holding.useAppsAfter holding.useAppsOf holding.useTokenTimed holding.useTokenOf passing.gapAdvanced passing.passSentOn passing.passSend passing.passPollOn passing.passPoll passing.passTokenOf checking.resendOf checking.checkReceived checking.checkTokenPassOf removeOf takeOut counted countedIn slotAfter sentIn answering.stepAnswer gapDue
+unfolding fieldOf beFrom loadOf rounded timeOf slotTimeOf tokenLostOf rotationTimeOf walk nearest betweenOf roundOf lapsOf listed afterOf beforeOf linkAt tab linksOf linkOf unlinkOf behindOf insertOf sweepOf relinkOf followsOf confirmsOf counted has make others freshOf witnessOf claimOf nextOf prevOf freshStation freshCore withActivity withGap withPending withTokenTimes withNextApplication withOnline after run zerosOr14 decisions.lengthRefusal words.responseStateOf decisions.decisionRefusal words.telegramRefusal words.telegramOf decisions.decisionOf records.headOf records.telegramAt records.decisionAt records.entryRefusal records.wordsRefusal records.recordRefusal steps.knownAt steps.elapsedOf steps.waitedOf steps.markedAt steps.busyOf steps.ongoingOf steps.pauseOf steps.sentAt steps.busActivityOf steps.rxOf steps.slotExpiredOf steps.tokenLostWaitOf steps.doneOf steps.transmitOf steps.heardOf hear.listenHeard hear.listenTelegram listening.heardTelegram listening.heardAll listening.receivedAll listening.consumedAll listening.listenTokenOn listening.handleLostToken listening.listenTokenOf polling.connectedOf polling.dispatchOf polling.pollOnline polling.pollInner answering.polledOf polling.acceptedAfter polling.acceptedPoll polling.pollOf commands.onlineOf claiming.claimNext claiming.claimTokenOf steps.withTokenTime holding.declinesOn holding.declinesAt holding.usePassOf holding.appTransmitOf holding.firstOr holding.turnOf holding.askedFrom holding.askedOf holding.holdLess holding.capped holding.endOf holding.holdEndOf holding.holdsOf holding.useAppsAfter holding.useAppsOf holding.useTokenTimed holding.useTokenOf passing.gapAdvanced passing.passSentOn passing.passSend passing.passPollOn passing.passPoll passing.passTokenOf checking.resendOf checking.checkReceived checking.checkTokenPassOf removeOf counted countedIn slotAfter sentIn answering.stepAnswer gapDue
 letter-run =
     record {
       starts = start-of-calls letterStation (made-by here letterCalls letterStation here-accepted refl) refl true refl refl;
