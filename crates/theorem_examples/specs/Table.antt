@@ -1,10 +1,9 @@
 -- Document 01, "Proved examples": the rows of the table, what a row says, and the table.
 use Prim.Native.Nat.{ℕ, zero, suc, _+_, _*_, _/_, _%_, _^_}
-use mathlib.Core.Bool.{Bool, true, false, _||_}
+use mathlib.Core.Bool.{true, false}
 use mathlib.Core.Path.{_≡_}
 use mathlib.Core.List.{List, [], _∷_, _++_, map}
 use lib.ListN.{length}
-use lib.Dec.{eqb}
 use Rattle.codec_fields.specs.Fields.{bytesOf}
 use Rattle.bit_times.specs.declared.Micros.{Micros}
 use Rattle.bit_times.specs.declared.Baud.the-variants.{B500000}
@@ -20,6 +19,7 @@ use Rattle.settings.specs.Settings.{slotTimeOf, tokenLostOf}
 use Rattle.ring.specs.declared.GapState.{GapState}
 use Rattle.ring.specs.declared.GapState.the-variants.{Waiting, DoPoll}
 use Rattle.ring.specs.Ring.{linksOf, freshOf, gapOf}
+use Rattle.ring.specs.Worked.{among}
 use Rattle.codec_answers.specs.declared.Answer.{Answer}
 use Rattle.codec_answers.specs.declared.Sent.{Sent}
 use Rattle.codec_answers.specs.declared.Sent.the-variants as sent
@@ -149,11 +149,6 @@ timeAt bits Unknown = record { 0 = 0 }
 abbrev pub example12 : TraceParts
 example12 =
     record { header = headed 10 1; entries = onlineEntry ∷ pollEntry (pollRecord 1000 []) ∷ pollEntry (pollRecord 7399 []) ∷ pollEntry (pollRecord 7400 []) ∷ pollEntry (pollRecord 7532 []) ∷ pollEntry (pollRecord 7598 []) ∷ [] }
-
--- is x one of these (a ring's tables are those of its members)
-abbrev pub among : List ℕ → ℕ → Bool
-among [] x = false
-among (a ∷ more) x = eqb x a || among more x
 
 -- Example 9's trace: example 12's and one poll more, in which the application declines, so that a token pass starts. The station
 -- is alone, gap wait 10, count 0.
