@@ -70,6 +70,7 @@ def is_law(path, has_code):
         "Tables.antt",
         "Ways.antt",
         "Widths.antt",
+        "Worked.antt",
         "Written.antt",
     )
 
