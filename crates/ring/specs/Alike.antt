@@ -12,7 +12,7 @@ use Rattle.ring_addresses.specs.WordLaws.{has-words, has-out as bits-out}
 use Rattle.ring.specs.declared.NextStation.{NextStation}
 use Rattle.ring.specs.declared.GapState.the-variants.{Waiting, DoPoll}
 use Rattle.ring.specs.Ring.{Ring, has, others, firstOf, nextOf, prevOf, freshOf, addOf, removeOf, lapsOf, witnessOf, candidateOf, pollsOn, polls, gapOf}
-use Rattle.ring.specs.Sets.{nearest-ext}
+use Rattle.ring_links.specs.Sets.{nearest-ext}
 use Rattle.ring.specs.Laws.{SoundRing, MadeWith, has-out, fresh-made, fresh-has, claim-made, claim-has, add-made, add-has, add-out, remove-out, remove-made, remove-has, remove-me, witness-made, witness-has, witness-out-s, witness-out-d, lapsAfter, next-first, previous-nearest, sound-fresh, sound-after, sound-made, RingCall, claim, add, remove, witness, afterCall, afterCalls}
 use Rattle.ring.specs.BitRing.{BitRing, hasBit, makeBits, nextBits, prevBits, gapBits, freshBits, passedBits, afterBits, afterAllBits}
 

@@ -9,8 +9,8 @@ use mathlib.Core.Logic.{_⊎_, inl, inr}
 use Rattle.ring_addresses.specs.Set.{up, walk, headOr, nearest}
 use Rattle.ring_addresses.specs.SetLaws.{true≢false, Distinct, first, nobody, distOf, place-lt}
 use Rattle.ring.specs.Ring.{Ring, after, before, has, others, freshOf}
-use Rattle.ring.specs.Sets.{after-at, before-at, after-none, before-none, nearest-low, nearest-in}
-use Rattle.ring.specs.Near.{near-member, head-at, there-and-back}
+use Rattle.ring_links.specs.Sets.{after-at, before-at, after-none, before-none, nearest-low, nearest-in}
+use Rattle.ring_links.specs.Near.{near-member, head-at, there-and-back}
 use Rattle.ring.specs.Laws.{SoundRing, Other, others-distinct, RingCall, afterCalls, sound-made}
 
 -- y stands after x in the first table, and x before y in the second

@@ -12,7 +12,7 @@ use Rattle.ring_addresses.specs.Set.{up, down, walk, headOr, lastOr, nearest, b
 use Rattle.ring_addresses.specs.SetLaws.{true≢false, All, first, nobody, distOf, between-on, between-end}
 use Rattle.ring.specs.declared.NextStation.the-variants.{Neighbour}
 use Rattle.ring.specs.Ring.{Ring, has, others, nextOf, prevOf}
-use Rattle.ring.specs.Distances.{dist-low, dist-some, up-dist, dist-up, dist-by, between-from}
+use Rattle.ring_links.specs.Distances.{dist-low, dist-some, up-dist, dist-up, dist-by, between-from}
 use Rattle.ring.specs.Laws.{SoundRing, Other, others-all, last-all, next-is, previous-nearest, previous-last, previous-low, alone-has}
 
 -- the other members going down from own

@@ -1,7 +1,7 @@
 use Prim.Native.Nat.{ℕ}
 use lib.ListN.{replicate, length-replicate, getD-replicate}
 use borrow.Author.Needs.{needs}
-use Rattle.ring.specs.Links.{none-links, alone-links}
+use Rattle.ring_links.specs.LinkLaws.{none-links, alone-links}
 use Rattle.ring.proofs.alone.Statement.{statement}
 use Rattle.ring.proofs.alone.Tie as tie
 
