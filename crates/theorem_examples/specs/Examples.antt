@@ -10,7 +10,8 @@ use Rattle.settings.specs.Settings.{newAt, unless, slotBitsOf, hsaOf, rotationO
 use Rattle.settings_watchdog.specs.Watchdog.{trial, factorsOf, watchdogTimeOf}
 use Rattle.settings_build.specs.Build.{earlyRefusal, firstRefusal, pairOf, builtAt, buildOf, plainOf}
 use Rattle.ring_addresses.specs.Set.{walk, nearest, betweenOf, keeps, sameSet}
-use Rattle.ring.specs.Ring.{Ring, has, make, claimOf, others, nextOf, prevOf, freshOf, addOf, removeOf, roundOf, lapsOf, witnessOf, candidateOf, polls, gapOf, listed, afterOf, beforeOf, linkAt, tab, linksOf, linkOf, unlinkOf, behindOf, insertOf, sweepOf, relinkOf, followsOf, confirmsOf, counted}
+use Rattle.ring_links.specs.Links.{listed, afterOf, beforeOf, linkAt, tab, linksOf, linkOf, unlinkOf, behindOf, insertOf, sweepOf, relinkOf, followsOf, confirmsOf}
+use Rattle.ring.specs.Ring.{Ring, has, make, claimOf, others, nextOf, prevOf, freshOf, addOf, removeOf, roundOf, lapsOf, witnessOf, candidateOf, polls, gapOf, counted}
 use Rattle.ring.specs.Worked.{among, witness-of-members}
 use Rattle.ring.specs.Examples.{heard-nine}
 use Rattle.ring.specs.declared.GapState.the-variants.{DoPoll}

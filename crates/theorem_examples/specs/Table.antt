@@ -18,7 +18,8 @@ use Rattle.settings.specs.declared.Parameters.{Parameters}
 use Rattle.settings.specs.Settings.{slotTimeOf, tokenLostOf}
 use Rattle.ring.specs.declared.GapState.{GapState}
 use Rattle.ring.specs.declared.GapState.the-variants.{Waiting, DoPoll}
-use Rattle.ring.specs.Ring.{linksOf, freshOf, gapOf}
+use Rattle.ring_links.specs.Links.{linksOf}
+use Rattle.ring.specs.Ring.{freshOf, gapOf}
 use Rattle.ring.specs.Worked.{among}
 use Rattle.codec_answers.specs.declared.Answer.{Answer}
 use Rattle.codec_answers.specs.declared.Sent.{Sent}

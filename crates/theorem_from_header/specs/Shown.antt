@@ -16,7 +16,8 @@ use Rattle.settings_rules.specs.Rules as rules
 use Rattle.settings.specs.Settings.{slotTimeOf, tokenLostOf, rotationTimeOf}
 use Rattle.settings_build.specs.Build.{earlyRefusal, firstRefusal, pairOf, builtAt, buildOf}
 use Rattle.ring_addresses.specs.Set.{walk, nearest, betweenOf}
-use Rattle.ring.specs.Ring.{has, make, others, removeOf, freshOf, roundOf, lapsOf, witnessOf, claimOf, nextOf, prevOf, listed, afterOf, beforeOf, linkAt, tab, linksOf, linkOf, unlinkOf, behindOf, insertOf, sweepOf, relinkOf, followsOf, confirmsOf}
+use Rattle.ring_links.specs.Links.{listed, afterOf, beforeOf, linkAt, tab, linksOf, linkOf, unlinkOf, behindOf, insertOf, sweepOf, relinkOf, followsOf, confirmsOf}
+use Rattle.ring.specs.Ring.{has, make, others, removeOf, freshOf, roundOf, lapsOf, witnessOf, claimOf, nextOf, prevOf}
 use Rattle.ring.specs.Ring as rings
 use Rattle.codec_telegrams.specs.Words as words
 use Rattle.codec_decisions.specs.Decisions as decisions

@@ -14,7 +14,8 @@ use Rattle.ring_addresses.specs.Set.{walk, nearest, betweenOf, keeps, sameSet}
 use Rattle.ring_addresses.specs.SetLaws.{same-then}
 use Rattle.ring.specs.declared.GapState.{GapState}
 use Rattle.ring.specs.declared.GapState.the-variants.{Waiting, DoPoll}
-use Rattle.ring.specs.Ring.{Ring, has, make, freshOf, roundOf, lapsOf, witnessOf, claimOf, addOf, others, nextOf, polls, candidateOf, gapOf, listed, afterOf, beforeOf, linkAt, tab, linksOf, linkOf, unlinkOf, behindOf, insertOf, sweepOf, relinkOf, followsOf, confirmsOf, counted}
+use Rattle.ring_links.specs.Links.{listed, afterOf, beforeOf, linkAt, tab, linksOf, linkOf, unlinkOf, behindOf, insertOf, sweepOf, relinkOf, followsOf, confirmsOf}
+use Rattle.ring.specs.Ring.{Ring, has, make, freshOf, roundOf, lapsOf, witnessOf, claimOf, addOf, others, nextOf, polls, candidateOf, gapOf, counted}
 use Rattle.ring.specs.Laws.{SoundRing, fresh-has, fresh-made, sound-fresh}
 use Rattle.ring.specs.Worked.{witnessAll, keptAfter, addressesOnly, witnessed-own}
 use Rattle.codec_telegrams.specs.declared.Telegram.the-variants as telegram

@@ -18,7 +18,8 @@ use Rattle.settings_build.specs.Build.{earlyRefusal, firstRefusal, plainOf}
 use Rattle.ring_addresses.specs.Set.{walk, nearest, betweenOf}
 use Rattle.ring.specs.declared.GapState.{GapState}
 use Rattle.ring.specs.declared.GapState.the-variants.{Waiting, DoPoll}
-use Rattle.ring.specs.Ring.{Ring, has, make, others, removeOf, freshOf, roundOf, lapsOf, witnessOf, claimOf, addOf, nextOf, prevOf, listed, afterOf, beforeOf, linkAt, tab, linksOf, linkOf, unlinkOf, behindOf, insertOf, sweepOf, relinkOf, followsOf, confirmsOf}
+use Rattle.ring_links.specs.Links.{listed, afterOf, beforeOf, linkAt, tab, linksOf, linkOf, unlinkOf, behindOf, insertOf, sweepOf, relinkOf, followsOf, confirmsOf}
+use Rattle.ring.specs.Ring.{Ring, has, make, others, removeOf, freshOf, roundOf, lapsOf, witnessOf, claimOf, addOf, nextOf, prevOf}
 use Rattle.ring.specs.Ring as rings
 use Rattle.ring.specs.Laws.{SoundRing, claim-has, claim-own, add-has, add-own, fresh-has, fresh-made, witness-own, sound-claim, sound-witness}
 use Rattle.ring.specs.Worked.{among}

@@ -10,7 +10,8 @@ use Rattle.settings.specs.Settings.{slotTimeOf, tokenLostOf, rotationTimeOf}
 use Rattle.settings_build.specs.Finish.{site}
 use Rattle.ring_addresses.specs.Set.{walk, nearest, betweenOf}
 use Rattle.ring.specs.declared.GapState.the-variants.{DoPoll}
-use Rattle.ring.specs.Ring.{has, make, others, removeOf, freshOf, roundOf, lapsOf, witnessOf, claimOf, nextOf, prevOf, candidateOf, polls, gapOf, listed, afterOf, beforeOf, linkAt, tab, linksOf, linkOf, unlinkOf, behindOf, insertOf, sweepOf, relinkOf, followsOf, confirmsOf, counted}
+use Rattle.ring_links.specs.Links.{listed, afterOf, beforeOf, linkAt, tab, linksOf, linkOf, unlinkOf, behindOf, insertOf, sweepOf, relinkOf, followsOf, confirmsOf}
+use Rattle.ring.specs.Ring.{has, make, others, removeOf, freshOf, roundOf, lapsOf, witnessOf, claimOf, nextOf, prevOf, candidateOf, polls, gapOf, counted}
 use Rattle.codec_telegrams.specs.Words as words
 use Rattle.codec_decisions.specs.Decisions as decisions
 use Rattle.codec_records.specs.Records as records
