@@ -9,7 +9,7 @@ use borrow.Author.Tests.{ltb-true}
 use Rattle.ring_addresses.specs.Set.{keeps, keepsAll, sameSet}
 use Rattle.ring_addresses.specs.SetLaws.{and-left, and-right, same-then}
 use Rattle.ring.specs.Ring.{Ring, linksOf, has, make, lapsOf, passed, witnessOf}
-use Rattle.ring.specs.Sets.{links-same}
+use Rattle.ring_links.specs.Sets.{links-same}
 use Rattle.ring.specs.Laws.{SoundRing, make-sound, has-make, witness-is, witness-has, witness-own, sound-witness}
 use Rattle.ring.specs.Alike.{same-alike}
 
