@@ -8,7 +8,6 @@ use Rattle.ring.specs.Ring.{Ring, ringOf}
 use Rattle.theorem_determined.specs.Claim.{Determined}
 use Rattle.ring.proofs.next_station_number.Reads as next-station-number-reads
 use Rattle.ring.proofs.fresh.Reads as fresh-reads
-use Rattle.ring.proofs.member.Reads as member-reads
 use Rattle.ring.proofs.next_station.Reads as next-station-reads
 use Rattle.ring.proofs.previous_station.Reads as previous-station-reads
 use Rattle.ring.proofs.witness_token_pass.Reads as witness-token-pass-reads
@@ -37,9 +36,6 @@ pub fresh :
     → fresh-reads.Post κs a r₂ s₂
     → (r₁ ≡ r₂) × (now (s₁ .0) ≡ now (s₂ .0))
 fresh κs a r₁ r₂ s₁ s₂ p q = parts-same r₁ r₂ (now (s₁ .0)) (now (s₂ .0)) (p ∙ sym q)
-
-pub member : Determined member-reads.Post
-member κs a r₁ r₂ s₁ s₂ p q = p ∙ sym q
 
 pub next-station : Determined next-station-reads.Post
 next-station κs a r₁ r₂ s₁ s₂ p q = p ∙ sym q
