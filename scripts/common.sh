@@ -224,11 +224,35 @@ build_oracle() {
 need_library() {
     machine=$(uname -m)
     if [ "$machine" != x86_64 ]; then
-        echo "traces: not run: the static library of replay_trace is for x86-64, this machine is $machine"
+        echo "$me: not run: the static library is for x86-64, this machine is $machine"
         exit 3
     fi
     build_staticlib
     export AMSULFEZD_STATICLIB_DIR=$PWD/target/staticlib
+}
+
+# compare_proved COUNT PROVED PROGRAM ANSWERS FAILURE: compares the proved calls with the oracle's on what is generated, with
+# the seed that SEED says, else 1, and as many as COUNT in the environment says, else the first word. On x86-64 both stand in
+# one process, the program PROVED of oracle/linked; elsewhere, and on x86-64 with BY_PROGRAM=1, the proved calls stand in the
+# C program ANSWERS, which the oracle's PROGRAM asks. The last word is what has failed where it fails.
+compare_proved() {
+    local seed=${SEED:-1} count=${COUNT:-$1} proved=$2 program=$3 answers=$4 failure=$5 compare
+    [[ "$seed" =~ ^[0-9]{1,18}$ ]] || fail "SEED is a whole number of at most 18 digits, not '$seed'"
+    [[ "$count" =~ ^[1-9][0-9]{0,17}$ ]] || fail "COUNT is a whole number above 0 of at most 18 digits, not '$count'"
+    find_runner
+    need cargo cargo
+    if [ "$machine" = x86_64 ] && [ -z "${BY_PROGRAM:-}" ]; then
+        need_library
+        build_oracle --release -p linked
+        compare=("target/oracle/release/$proved" "$seed" "$count")
+    else
+        need_c_compiler
+        build_staticlib
+        c_host "target/oracle/$answers" "oracle/linked/$answers.c"
+        build_oracle --release --bin "$program"
+        compare=("target/oracle/release/$program" "$seed" "$count" -- "${emulator[@]}" "target/oracle/$answers")
+    fi
+    "${compare[@]}" || fail "$failure, or did not reach all (seed $seed)"
 }
 
 # find_answers PROGRAM: builds the program of hosts/rust/tools that is to read them, and sets `answers` to the answers to
