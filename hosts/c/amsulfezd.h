@@ -12,7 +12,8 @@
  *                                          amsulfezd_other_edition, amsulfezd_written; amsulfezd_number
  *   the calls on frames                    amsulfezd_read_frame, amsulfezd_write_frame, amsulfezd_frame_..
  *   the calls on captures                  amsulfezd_import_capture, amsulfezd_export_capture
- *   readers of an answer                   amsulfezd_answer, amsulfezd_answer_..
+ *   readers of an answer                   amsulfezd_answer, amsulfezd_answer_..; amsulfezd_state_name,
+ *                                          amsulfezd_refusal_words
  *   writers of a trace                     amsulfezd_write_header, amsulfezd_write_header_2, amsulfezd_write_command,
  *                                          amsulfezd_write_poll
  *
@@ -514,6 +515,75 @@ static inline const char *amsulfezd_state_name(unsigned state)
         return "CheckTokenPass";
     case AMSULFEZD_STATE_AWAIT_STATUS_RESPONSE:
         return "AwaitStatusResponse";
+    default:
+        return "unknown";
+    }
+}
+
+/* What a refusal number says, in the documents' words; "unknown" if none has it. */
+static inline const char *amsulfezd_refusal_words(unsigned number)
+{
+    switch (number) {
+    case AMSULFEZD_OK:
+        return "nothing was refused";
+    case AMSULFEZD_REFUSAL_ADDRESS:
+        return "address above 125";
+    case AMSULFEZD_REFUSAL_SLOT:
+        return "slot too small";
+    case AMSULFEZD_REFUSAL_HSA:
+        return "HSA";
+    case AMSULFEZD_REFUSAL_ROTATION:
+        return "rotation";
+    case AMSULFEZD_REFUSAL_GAP_WAIT:
+        return "gap wait";
+    case AMSULFEZD_REFUSAL_RETRY:
+        return "retry";
+    case AMSULFEZD_REFUSAL_MIN_TSDR:
+        return "min Tsdr";
+    case AMSULFEZD_REFUSAL_WATCHDOG:
+        return "watchdog outside 10..650,000 ms, or one factor zero in a header";
+    case AMSULFEZD_REFUSAL_FACTORS:
+        return "factors: u above 65,025";
+    case AMSULFEZD_REFUSAL_BAUD:
+        return "baud code above 10";
+    case AMSULFEZD_REFUSAL_APPLICATIONS:
+        return "applications not 1..8";
+    case AMSULFEZD_REFUSAL_RECORD_LENGTH:
+        return "poll record length";
+    case AMSULFEZD_REFUSAL_TELEGRAM_COUNT:
+        return "telegram count above 8";
+    case AMSULFEZD_REFUSAL_ZERO_BIT:
+        return "a bit that should be zero";
+    case AMSULFEZD_REFUSAL_NO_BYTES:
+        return "sending 0 bytes";
+    case AMSULFEZD_REFUSAL_PASSIVE:
+        return "passive";
+    case AMSULFEZD_REFUSAL_CUT:
+        return "trace ends inside header or entry, or is above 2^32 bytes (checked with the header)";
+    case AMSULFEZD_REFUSAL_NO_ROOM:
+        return "no 8 bytes left for an answer";
+    case AMSULFEZD_REFUSAL_FRAME_CUT:
+        return "frame empty or cut short";
+    case AMSULFEZD_REFUSAL_START_BYTE:
+        return "start byte";
+    case AMSULFEZD_REFUSAL_FRAME_HEADER:
+        return "SD2 header: its repeated bytes differ or the length is outside 4 to 249";
+    case AMSULFEZD_REFUSAL_CHECK_BYTE:
+        return "check byte";
+    case AMSULFEZD_REFUSAL_END_BYTE:
+        return "end byte";
+    case AMSULFEZD_REFUSAL_ADDRESS_EXTENSION:
+        return "address extension bit";
+    case AMSULFEZD_REFUSAL_GAP_ROOM:
+        return "rotation with no room for a gap poll";
+    case AMSULFEZD_REFUSAL_CAPTURE_LINE:
+        return "a line that is not a time, one space, a frame in pairs of hex digits and a line feed, or has bytes after its frame";
+    case AMSULFEZD_REFUSAL_CAPTURE_TIME:
+        return "a time below the one before";
+    case AMSULFEZD_REFUSAL_CAPTURE_COUNT:
+        return "more than 8 of one time";
+    case AMSULFEZD_REFUSAL_FUNCTION_CODE:
+        return "top bit of the function code set; to be written, any other request";
     default:
         return "unknown";
     }
