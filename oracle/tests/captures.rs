@@ -5,6 +5,7 @@ use oracle::captures::capture::{export_capture, import_capture, line_of, line_wi
 use oracle::captures::compare::{compare_captures, made, Call};
 use oracle::captures::tries::{parts, Try};
 use oracle::comparison::calls::{oracle, Left};
+use oracle::comparison::hex;
 use oracle::frames::frame::{frame_of, read};
 use std::process::{Command, Stdio};
 
@@ -194,4 +195,40 @@ fn bad_usage_is_one_line_and_status_2() {
         let (status, said, error) = program(&list);
         assert_eq!((status, said.as_str(), error.lines().count()), (2, "", 1), "{}: {}", words, error);
     }
+}
+
+/// The stories of traces/captures, stated by hand, by the oracle: what is given, and the room, the bytes and the three numbers
+/// that are left.
+#[test]
+fn the_stories_hold() {
+    let folder = concat!(env!("CARGO_MANIFEST_DIR"), "/../traces/captures");
+    let mut count = 0;
+    for file in std::fs::read_dir(folder).expect("the folder") {
+        let path = file.expect("a file").path();
+        let (given, import, call): (_, _, Call) = match path.extension().and_then(|ending| ending.to_str()) {
+            Some("imported") => ("capture", true, import_capture),
+            Some("exported") => ("entries", false, export_capture),
+            _ => continue,
+        };
+        let read = |path: &std::path::Path| std::fs::read(path).expect("a file");
+        let (stated, given) = (read(&path), read(&path.with_extension(given)));
+        let first = String::from_utf8_lossy(stated.split(|byte| *byte == b'\n').next().expect("a line")).into_owned();
+        let room = first.strip_prefix("room ").expect("the room").parse().expect("a number");
+        let (mut buffer, mut place, mut written) = (vec![0xa5; room], 0, 0);
+        let number = call(&given, &mut buffer, &mut place, &mut written);
+        let (bytes, kept) = buffer.split_at(written as usize);
+        assert!(kept.iter().all(|byte| *byte == 0xa5), "{}", path.display());
+        let mut left = format!("room {}\n", room).into_bytes();
+        let mut rest = bytes;
+        while import && !rest.is_empty() {
+            let (entry, after) = rest.split_at(1 + usize::from(rest[0]));
+            left.extend(format!("{}\n", hex(entry)).bytes());
+            rest = after;
+        }
+        left.extend(rest);
+        left.extend(format!("{} {} {}\n", number, place, written).bytes());
+        assert_eq!(String::from_utf8_lossy(&left), String::from_utf8_lossy(&stated), "{}", path.display());
+        count += 1;
+    }
+    assert!(count > 40, "{} stories", count);
 }

@@ -31,13 +31,22 @@ impl Program {
         Ok(Program { words: words.to_vec(), running })
     }
 
-    /// Has the program make the calls. If it ends, it makes them one by one, so that the call that ends it is known.
+    /// Has the program make the calls. If it ends, it makes them one by one up to the call that ends it, which so is known; those
+    /// after it are not made.
     pub fn calls<T: Try>(&self, tries: &[T]) -> Vec<Left> {
-        match self.together(tries) {
-            Ok(left) => left,
-            Err(_) if tries.len() == 1 => vec![None],
-            Err(_) => tries.chunks(1).flat_map(|one| self.calls(one)).collect(),
+        if let Ok(left) = self.together(tries) {
+            return left;
         }
+        let mut left = Vec::new();
+        for one in tries.chunks(1) {
+            let made = self.together(one).ok().and_then(|mut made| made.pop().flatten());
+            let ended = made.is_none();
+            left.push(made);
+            if ended {
+                break;
+            }
+        }
+        left
     }
 
     fn together<T: Try>(&self, tries: &[T]) -> Result<Vec<Left>> {
