@@ -117,13 +117,13 @@ pub fn parts(seed: u64, count: u64) -> Parts<Try> {
     let sample = |text: Vec<u8>| Try::Import(text, vec![FILL; 120]);
     let entries = |entries: Vec<u8>| Try::Export(entries, vec![FILL; 120]);
     vec![
-        ("lines of pieces", Box::new(of_pieces())),
-        ("short texts", Box::new(short_texts().map(sample))),
-        ("damaged texts", Box::new(each_damage(&sample_text()).chain(each_byte()).map(sample))),
         ("rooms for entries", Box::new(rooms_for_entries())),
-        ("damaged entries", Box::new(each_damage(&sample_entries()).chain(each_damage(&full_entry())).map(entries))),
         ("rooms for text", Box::new(rooms_for_text())),
         ("long texts and entries", Box::new(long())),
+        ("damaged entries", Box::new(each_damage(&sample_entries()).chain(each_damage(&full_entry())).map(entries))),
+        ("damaged texts", Box::new(each_damage(&sample_text()).chain(each_byte()).map(sample))),
+        ("lines of pieces", Box::new(of_pieces())),
+        ("short texts", Box::new(short_texts().map(sample))),
         ("texts at random", Box::new((0..count).map(move |i| text_at_random(seed, i)))),
         ("entries at random", Box::new((0..count).map(move |i| entries_at_random(seed, i)))),
     ]
