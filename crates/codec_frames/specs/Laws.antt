@@ -44,13 +44,19 @@ pub check-more : (l : List ℕ) (i : ℕ) → i < length l → checkOf (take (i 
 unfolding checkOf
 check-more l i h = rw (add-one, take-suc l i 0, sum-snoc, mod-add-mod)
 
--- a header of SD2 that holds gives at least 4 bytes
-pub head-long : (f : List ℕ) → headHolds f ≡ true → 4 ≤ getD f 1 0
-head-long f h =
+-- a header of SD2 that holds gives a length within its range
+head-range : (f : List ℕ) → headHolds f ≡ true → leb 4 (getD f 1 0) && leb (getD f 1 0) 249 ≡ true
+head-range f h =
     let range = leb 4 (getD f 1 0) && leb (getD f 1 0) 249 in
-    leb-true 4 (getD f 1 0)
-    (and-left (leb 4 (getD f 1 0)) (leb (getD f 1 0) 249)
-    (and-right (eqb (getD f 3 0) sd2) range (and-right (eqb (getD f 2 0) (getD f 1 0)) (eqb (getD f 3 0) sd2 && range) h)))
+    and-right (eqb (getD f 3 0) sd2) range (and-right (eqb (getD f 2 0) (getD f 1 0)) (eqb (getD f 3 0) sd2 && range) h)
+
+-- so at least 4 bytes
+pub head-long : (f : List ℕ) → headHolds f ≡ true → 4 ≤ getD f 1 0
+head-long f h = leb-true 4 (getD f 1 0) (and-left (leb 4 (getD f 1 0)) (leb (getD f 1 0) 249) (head-range f h))
+
+-- and at most 249
+pub head-short : (f : List ℕ) → headHolds f ≡ true → getD f 1 0 ≤ 249
+head-short f h = leb-true (getD f 1 0) 249 (and-right (leb 4 (getD f 1 0)) (leb (getD f 1 0) 249) (head-range f h))
 
 long : (n : ℕ) → 4 ≤ n → 3 + (n - 3) ≡ n
 long n h = omega arith
