@@ -8,14 +8,17 @@ use native.Mathlib.Numerals.{add-one}
 use native.Mathlib.Nat.{add-zero, zero-add, le-refl}
 use borrow.Author.Tests.{le-leb, lt-leb, lt-ltb, le-ltb, leb-true, leb-false, ltb-true, ltb-false, ne-eqb, eqb-true, eqb-false}
 use borrow.Table.Steps.{cases}
-use lib.ListN.{length, getD, take, drop, set, length-set, length-drop, drop-of-length-le}
-use lib.Seq.{take-nil, take-all, take-append-seam, length-take-le, drop-drop, drop-cons, set-out, sets, sets-eq}
+use lib.ListN.{length, getD, take, drop, set, length-set, length-append, length-drop, drop-of-length-le}
+use lib.Seq.{take-nil, take-all, take-append-seam, append-snoc, length-take-le, drop-at, drop-drop, drop-cons, set-out, sets, sets-eq}
 use lib.Dec.{eqb, ltb, leb, lit≤, eqb·suc-zero}
 use Rattle.codec_frames.specs.declared.FrameRead.{FrameRead}
+use Rattle.codec_frames.specs.declared.FrameRead.the-variants as frame
 use Rattle.codec_frames.specs.Frames.{frameOf}
+use Rattle.codec_frames.specs.Laws.{frame-numbered}
+use Rattle.codec_telegrams.specs.declared.Telegram.{Telegram}
 use Rattle.codec_frames.specs.Behind.{first-255}
 use Rattle.capture_lines.specs.declared.LineRead.{LineRead}
-use Rattle.capture_lines.specs.declared.LineRead.the-variants.{NotBuilt}
+use Rattle.capture_lines.specs.declared.LineRead.the-variants.{NotBuilt, Refused, Accepted}
 use Rattle.capture_lines.specs.declared.Digits.{Digits}
 use Rattle.capture_lines.specs.Lines.{space, lineFeed, zeroDigit, clockLimit, joined, linesOf, between, digitOf, isDecimal, isHex, digitsAt, afterDigits, decimalFrom, decimal, pairsAt, afterPairs, some, begins, isEnd, isTime, afterTime, isBuilt, saidOf, lineOf, firstSaid, lineAt}
 use Rattle.capture_lines.specs.Ways.{capped, cappedMore, digitsFrom, zeroLeads, restWay, lineWay}
@@ -567,3 +570,95 @@ module _ (text : List ℕ) (digits : Digits) (is : digits ≡ digitsFrom 0 0 tex
                 begins-at space text (digits .count) more,
                 h,
               ) at by-digits)
+
+-- What import cites
+
+-- the first line of a text that has bytes
+pub record FirstLine (text : List ℕ) : Type 0 where
+  pub line : List ℕ
+  pub others : List (List ℕ)
+  pub splits : linesOf text ≡ line ∷ others
+  pub says : lineOf line ≡ lineAt text
+
+pub first-line : (text : List ℕ) → 1 ≤ length text → FirstLine text
+unfolding lineAt
+first-line text h = by-first text h (first-of text)
+  where
+    by-first : (l : List ℕ) → 1 ≤ length l → First l → FirstLine l
+    by-first [] g f = absurd (omega arith)
+    by-first (b ∷ l) g (unended n) = record { line = b ∷ l; others = []; splits = lines-open b l n; says = rw (lines-open b l n) }
+    by-first (b ∷ l) g (ended line rest n e) =
+        let split : linesOf (b ∷ l) ≡ (line ++ (lineFeed ∷ [])) ∷ linesOf rest = ap linesOf e ∙ lines-ended line rest n in
+        record { line = line ++ (lineFeed ∷ []); others = linesOf rest; splits = split; says = rw split }
+
+-- an accepted line is the first, has its bytes, and the other lines are those of what follows them
+pub record Accepts (text : List ℕ) (used : ℕ) : Type 0 where
+  pub line : List ℕ
+  pub splits : linesOf text ≡ line ∷ linesOf (drop used text)
+  pub says : lineOf line ≡ lineAt text
+  pub some-used : 1 ≤ used
+  pub within : used ≤ length text
+
+-- a line says how many bytes it has
+said-used : (time count : ℕ) (read : FrameRead) {size at used : ℕ} {telegram : Telegram} → saidOf time read count size ≡ Accepted at telegram used → used ≡ size
+unfolding saidOf
+said-used time count (frame.Refused refusal) e = let z : _≡_ {A = ℕ} 0 1 = cc in absurd (omega arith)
+said-used time count (frame.Accepted telegram bytes) e =
+    cases (eqb bytes count) (λ a. let g = rw a at e in cc) (λ a. let g = rw a at e in let z : _≡_ {A = ℕ} 0 1 = cc in absurd (omega arith))
+
+line-used : (l : List ℕ) {at used : ℕ} {telegram : Telegram} → lineOf l ≡ Accepted at telegram used → used ≡ length l
+unfolding lineOf
+line-used l e =
+    cases (isBuilt l)
+    (λ a. said-used (decimal (digitsAt l)) (length (pairsAt (afterTime l))) (frameOf (pairsAt (afterTime l))) (rw a at e))
+    (λ a. let g = rw a at e in let z : _≡_ {A = ℕ} 0 1 = cc in absurd (omega arith))
+
+pub accepts : (text : List ℕ) {at used : ℕ} {telegram : Telegram} → lineAt text ≡ Accepted at telegram used → Accepts text used
+unfolding lineAt lineOf
+accepts text {at} {used} {telegram} says = by-first text says (first-of text)
+  where
+    by-first : (l : List ℕ) → lineAt l ≡ Accepted at telegram used → First l → Accepts l used
+    by-first [] g f = let z : _≡_ {A = ℕ} 0 1 = cc in absurd (omega arith)
+    by-first (b ∷ l) g (unended n) =
+        let h = rw (lines-open b l n, built-unended (b ∷ l) n .1) at g in
+        let z : _≡_ {A = ℕ} 0 1 = cc in
+        absurd (omega arith)
+    by-first (b ∷ l) g (ended line rest n e) =
+        let first = line ++ (lineFeed ∷ []) in
+        let split : linesOf (b ∷ l) ≡ first ∷ linesOf rest = ap linesOf e ∙ lines-ended line rest n in
+        let same : lineOf first ≡ lineAt (b ∷ l) = rw split in
+        let size : used ≡ length first = line-used first (same ∙ g) in
+        let whole : b ∷ l ≡ first ++ rest = e ∙ sym (append-snoc line lineFeed rest) in
+        let left : drop used (b ∷ l) ≡ rest = rw whole (drop-at first rest used (sym size)) in
+        record {
+          line = first;
+          splits = split ∙ ap (λ (x : List ℕ). first ∷ linesOf x) (sym left);
+          says = same;
+          some-used = omega (arith, length-append line (lineFeed ∷ []));
+          within = omega (arith, ap length whole, length-append first rest);
+        }
+
+-- a refused line has a number
+said-numbered : (time count size : ℕ) (f : List ℕ) (read : FrameRead) → frameOf f ≡ read → {at refusal : ℕ} → saidOf time read count size ≡ Refused at refusal → refusal ≡ 0 → ⊥
+unfolding saidOf
+said-numbered time count size f (frame.Refused n) g {at} {refusal} e z = let same : n ≡ refusal = cc in frame-numbered f g (same ∙ z)
+said-numbered time count size f (frame.Accepted telegram bytes) g {at} {refusal} e z =
+    cases (eqb bytes count)
+    (λ a. let h = rw a at e in let y : _≡_ {A = ℕ} 0 1 = cc in absurd (omega arith))
+    (λ a. let h = rw a at e in let same : refusal ≡ 31 = cc in absurd (omega arith))
+
+line-numbered : (l : List ℕ) {at refusal : ℕ} → lineOf l ≡ Refused at refusal → refusal ≡ 0 → ⊥
+unfolding lineOf
+line-numbered l e z =
+    let f = pairsAt (afterTime l) in
+    cases (isBuilt l)
+    (λ a. said-numbered (decimal (digitsAt l)) (length f) (length l) f (frameOf f) refl (rw a at e) z)
+    (λ a. let h = rw a at e in let y : _≡_ {A = ℕ} 0 1 = cc in absurd (omega arith))
+
+pub numbered : (text : List ℕ) {at refusal : ℕ} → lineAt text ≡ Refused at refusal → refusal ≡ 0 → ⊥
+unfolding lineAt
+numbered text {at} {refusal} e z = by-lines (linesOf text) e
+  where
+    by-lines : (ls : List (List ℕ)) → firstSaid ls ≡ Refused at refusal → ⊥
+    by-lines [] g = let y : _≡_ {A = ℕ} 0 1 = cc in absurd (omega arith)
+    by-lines (l ∷ ls) g = line-numbered l g z
