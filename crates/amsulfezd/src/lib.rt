@@ -1,8 +1,9 @@
 // The library for hosts: every call that C and Rust programs make of it, each thin over the crate that does the work. Their
 // names carry the prefix amsulfezd_, as a C library's names do. hosts/c/amsulfezd.h declares them. It leans on trace,
-// trace_headers and codec_frames.
+// trace_headers, codec_frames and capture_import.
 ghost use mathlib.Core.Path.{_≡_};
 ghost use lib.ListN.{length};
+ghost use Rattle.capture_import.specs.Import.{importOf, importedOf, bufferOf as importBuffer};
 ghost use Rattle.codec_frames.specs.Frames.{frameOf, readNumber, writeOf, writeNumber, writtenOver};
 ghost use Rattle.trace.specs.Trace.{replayOf, numberOf, bufferOf};
 ghost use Rattle.trace_headers.specs.Headers.{moveNumber, moveInto};
@@ -44,4 +45,25 @@ pub extern "C" fn amsulfezd_write_frame(word: u32, frame: &mut [u8]) -> u64
     ensures { λ _. ⌜ now (frame .exit) ≡ writtenOver (writeOf word (length (now (frame .entry)))) (now (frame .entry)) ⌝ }
 {
     codec_frames::write_frame(word as u64, frame)
+}
+
+// Imports a capture: the entries of its lines stand at the start of `entries`, the bytes past them stay as they were. The first bad
+// line decides: its number is returned, `line` says which, counted from 1, and all lines before it stand; else 0 and 0. `written`
+// says how many bytes the entries have. Both are always written.
+#[no_mangle]
+pub extern "C" fn amsulfezd_import_capture(
+    text: &[u8],
+    entries: &mut [u8],
+    line: &mut u64,
+    written: &mut u64,
+) -> u64
+    ensures { λ r. ⌜ r ≡ importedOf (importOf (now (text .entry)) (length (now (entries .entry)))) .refusal ⌝ }
+    ensures { λ _. ⌜ now (entries .exit) ≡ importBuffer (importOf (now (text .entry)) (length (now (entries .entry)))) (now (entries .entry)) ⌝ }
+    ensures { λ _. ⌜ now (line .exit) ≡ importedOf (importOf (now (text .entry)) (length (now (entries .entry)))) .line ⌝ }
+    ensures { λ _. ⌜ now (written .exit) ≡ importedOf (importOf (now (text .entry)) (length (now (entries .entry)))) .written ⌝ }
+{
+    let imported = capture_import::import_capture(text, entries);
+    *line = imported.line;
+    *written = imported.written;
+    imported.refusal as u64
 }
