@@ -10,74 +10,9 @@
  * source has it: 5, 6, the least of the baud code, 32436, 10, 126, 1, 11; edition 1.
  */
 #include "amsulfezd.h"
+#include "files.h"
 
-#include <errno.h>
 #include <inttypes.h>
-#include <stdarg.h>
-#include <stdio.h>
-#include <stdlib.h>
-#include <string.h>
-
-/* What the lines of the program begin with. */
-static const char *me = "capture_file";
-
-/* A file's content. */
-struct content {
-    uint8_t *bytes;
-    size_t length;
-};
-
-/* Ends the program with one line that says why. */
-static void fail(const char *format, ...)
-{
-    va_list words;
-    va_start(words, format);
-    fprintf(stderr, "%s: ", me);
-    vfprintf(stderr, format, words);
-    fputc('\n', stderr);
-    va_end(words);
-    exit(EXIT_FAILURE);
-}
-
-/* One byte more, as the calls ask for a pointer also where there is nothing to write. */
-static uint8_t *take(size_t size)
-{
-    uint8_t *bytes = malloc(size + 1);
-    if (bytes == NULL) {
-        fail("no memory for %zu bytes", size);
-    }
-    return bytes;
-}
-
-/* Reads a file to its end. */
-static struct content read_file(const char *name)
-{
-    FILE *file = fopen(name, "rb");
-    if (file == NULL) {
-        fail("%s: %s", name, strerror(errno));
-    }
-    struct content content = {NULL, 0};
-    size_t room = 0;
-    for (;;) {
-        if (content.length == room) {
-            room = room == 0 ? 4096 : 2 * room;
-            content.bytes = realloc(content.bytes, room);
-            if (content.bytes == NULL) {
-                fail("%s: no memory for %zu bytes", name, room);
-            }
-        }
-        size_t count = fread(content.bytes + content.length, 1, room - content.length, file);
-        if (count == 0) {
-            break;
-        }
-        content.length += count;
-    }
-    if (ferror(file)) {
-        fail("%s: %s", name, strerror(errno));
-    }
-    fclose(file);
-    return content;
-}
 
 static void print(const uint8_t *bytes, size_t length)
 {
@@ -264,6 +199,7 @@ static void show_exported(const char *name, size_t room)
 int main(int count, char **words)
 {
     const char *what = count < 3 ? "" : words[1];
+    me = "capture_file";
     if (strcmp(what, "import") == 0) {
         me = "import";
         import_file(words[2], count - 3, words + 3);
