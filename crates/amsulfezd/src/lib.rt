@@ -1,8 +1,9 @@
 // The library for hosts: every call that C and Rust programs make of it, each thin over the crate that does the work. Their
 // names carry the prefix amsulfezd_, as a C library's names do. hosts/c/amsulfezd.h declares them. It leans on trace,
-// trace_headers, codec_frames and capture_import.
+// trace_headers, codec_frames, capture_import and capture_export.
 ghost use mathlib.Core.Path.{_≡_};
 ghost use lib.ListN.{length};
+ghost use Rattle.capture_export.specs.Export.{exportOf, exportedOf, bufferOf as exportBuffer};
 ghost use Rattle.capture_import.specs.Import.{importOf, importedOf, bufferOf as importBuffer};
 ghost use Rattle.codec_frames.specs.Frames.{frameOf, readNumber, writeOf, writeNumber, writtenOver};
 ghost use Rattle.trace.specs.Trace.{replayOf, numberOf, bufferOf};
@@ -66,4 +67,25 @@ pub extern "C" fn amsulfezd_import_capture(
     *line = imported.line;
     *written = imported.written;
     imported.refusal as u64
+}
+
+// Exports trace entries as a capture: the lines stand at the start of `text`, the bytes past them stay as they were. The first bad
+// entry decides: its number is returned, `entry` says which, counted from 1, and all lines before it stand, without room those of
+// the same entry too; else 0 and 0. `written` says how many bytes the lines have. Both are always written.
+#[no_mangle]
+pub extern "C" fn amsulfezd_export_capture(
+    entries: &[u8],
+    text: &mut [u8],
+    entry: &mut u64,
+    written: &mut u64,
+) -> u64
+    ensures { λ r. ⌜ r ≡ exportedOf (exportOf (now (entries .entry)) (length (now (text .entry)))) .refusal ⌝ }
+    ensures { λ _. ⌜ now (text .exit) ≡ exportBuffer (exportOf (now (entries .entry)) (length (now (text .entry)))) (now (text .entry)) ⌝ }
+    ensures { λ _. ⌜ now (entry .exit) ≡ exportedOf (exportOf (now (entries .entry)) (length (now (text .entry)))) .entry ⌝ }
+    ensures { λ _. ⌜ now (written .exit) ≡ exportedOf (exportOf (now (entries .entry)) (length (now (text .entry)))) .written ⌝ }
+{
+    let exported = capture_export::export_capture(entries, text);
+    *entry = exported.entry;
+    *written = exported.written;
+    exported.refusal as u64
 }
