@@ -198,38 +198,47 @@ says() {
     [ "$said" = "$words" ] || fail "$* says: $said"
 }
 
-# make import and make export: the site's files, both editions, settings; a refusal and bad usage are one line and status 1, and
-# no file is left or changed then.
+# make import and make export: the site's files there and back, and their program with both editions and settings. A refusal and
+# bad usage are one line and status 1, and no file is left or changed then.
 test_capture_commands() {
-    local folder=target/hosts/captures stored=traces/captures out said line
+    local folder=target/hosts/captures stored=traces/captures file=("${emulator[@]}" "$built/capture_file") said line
     { rm -rf "$folder" && mkdir -p "$folder"; } || fail "$folder could not be made"
-    out=$folder/site.trace
-    { said=$(CAPTURE=$stored/site.capture OUT=$out bash scripts/import.sh) && [ "$said" = "$out" ]; } || fail "make import says: $said"
-    cmp "$out" "$stored/site.trace" || fail "make import makes another trace of the site's capture"
-    CAPTURE=$stored/site.capture OUT=$folder/site-2.trace EDITION=2 bash scripts/import.sh >/dev/null || fail "make import EDITION=2 fails"
+    { said=$(CAPTURE=$stored/site.capture OUT=$folder/site.trace bash scripts/import.sh) && [ "$said" = "$folder/site.trace" ]; } ||
+        fail "make import says: $said"
+    cmp "$folder/site.trace" "$stored/site.trace" || fail "make import makes another trace of the site's capture"
+    { said=$(TRACE=$folder/site.trace OUT=$folder/site.capture bash scripts/export.sh) && [ "$said" = "$folder/site.capture" ]; } ||
+        fail "make export says: $said"
+    cmp "$folder/site.capture" "$stored/site-again.capture" || fail "make export gives another text of the site's trace"
+    TRACE=$folder/site.trace bash scripts/explain.sh | grep -q 'entries answered: 126. Ending number 0' ||
+        fail "make explain does not take an imported trace"
+
+    # Edition 2, and every setting.
+    "${file[@]}" import "$stored/site.capture" EDITION=2 >"$folder/site-2.trace" || fail "the import with edition 2 fails"
     { head -c 14 traces/edition-2/example12.trace && tail -c +17 "$stored/site.trace"; } | cmp - "$folder/site-2.trace" ||
-        fail "make import EDITION=2 makes another trace"
-    for said in site site-2; do
-        TRACE=$folder/$said.trace OUT=$folder/$said.capture bash scripts/export.sh >/dev/null || fail "make export fails"
-        cmp "$folder/$said.capture" "$stored/site-again.capture" || fail "make export gives another text of $said.trace"
-    done
-    CAPTURE=$stored/empty.capture OUT=$folder/settings.trace ADDRESS=7 BAUD=10 ROTATION=40000 GAP=9 HSA=100 RETRY=2 TSDR=12 \
-        bash scripts/import.sh >/dev/null || fail "make import with settings fails"
-    printf '\x07\x0a\x03\xe8\x00\x00\x9c\x40\x09\x64\x02\x0c\x01\x00\x00\x00\x00' | cmp - "$folder/settings.trace" ||
-        fail "make import writes other settings than it is told"
-    TRACE=$out bash scripts/explain.sh | tail -n 1 | grep -q 'entries answered: 126. Ending number 0' || fail "make explain does not take an imported trace"
-    said=$(find "$folder" -type f | sort | xargs cksum)
+        fail "the import with edition 2 makes another trace"
+    "${file[@]}" export "$folder/site-2.trace" | cmp - "$stored/site-again.capture" || fail "the export of edition 2 gives another text"
+    "${file[@]}" import "$stored/empty.capture" ADDRESS=7 BAUD=10 ROTATION=40000 GAP=9 HSA=100 RETRY=2 TSDR=12 SLOT= |
+        cmp - <(printf '\x07\x0a\x03\xe8\x00\x00\x9c\x40\x09\x64\x02\x0c\x01\x00\x00\x00\x00') ||
+        fail "the import writes other settings than it is told"
+
+    # Refusals, in words.
     line="a line that is not a time, one space, a frame in pairs of hex digits and a line feed, or has bytes after its frame"
-    says "import: $stored/31-tab.capture, line 2: refused with 31 ($line)" env CAPTURE=$stored/31-tab.capture OUT="$out" bash scripts/import.sh
+    says "import: $stored/31-tab.capture, line 2: refused with 31 ($line)" "${file[@]}" import $stored/31-tab.capture
+    says "import: $stored/33-ninth.capture, line 9: refused with 33 (more than 8 of one time)" "${file[@]}" import $stored/33-ninth.capture
+    says "import: $stored/22-check-byte.capture, line 2: refused with 22 (check byte)" "${file[@]}" import $stored/22-check-byte.capture
+    says "import: the settings are refused with 10 (baud code above 10)" "${file[@]}" import $stored/site.capture BAUD=11
+    says "import: SLOT is a whole number from 0 to 65535, not '1e3'" "${file[@]}" import $stored/site.capture SLOT=1e3
+    says "import: there is no setting 'SPEED=6'" "${file[@]}" import $stored/site.capture SPEED=6
+    says "export: traces/headers/03-hsa.trace: its header is refused with 3 (HSA)" "${file[@]}" export traces/headers/03-hsa.trace
+    says "export: traces/applications.trace: it has 3 applications, and a capture is of a trace with one" \
+        "${file[@]}" export traces/applications.trace
+
+    # Through the commands, onto files that are there.
+    said=$(find "$folder" -type f | sort | xargs cksum)
     says "import: $stored/32-time-falls.capture, line 2: refused with 32 (a time below the one before)" \
-        env CAPTURE=$stored/32-time-falls.capture OUT="$out" bash scripts/import.sh
-    says "import: $stored/33-ninth.capture, line 9: refused with 33 (more than 8 of one time)" \
-        env CAPTURE=$stored/33-ninth.capture OUT="$out" bash scripts/import.sh
-    says "import: $stored/22-check-byte.capture, line 2: refused with 22 (check byte)" \
-        env CAPTURE=$stored/22-check-byte.capture OUT="$out" bash scripts/import.sh
-    says "import: the settings are refused with 10 (baud code above 10)" \
-        env CAPTURE=$stored/site.capture OUT="$out" BAUD=11 bash scripts/import.sh
-    says "import: SLOT is a whole number from 0 to 65535, not '1e3'" env CAPTURE=$stored/site.capture OUT="$out" SLOT=1e3 bash scripts/import.sh
+        env CAPTURE=$stored/32-time-falls.capture OUT="$folder/site.trace" bash scripts/import.sh
+    says "export: traces/cut-short-entry.trace, entry 2: refused with 17 (trace ends inside header or entry, or is above 2^32 bytes (checked with the header))" \
+        env TRACE=traces/cut-short-entry.trace OUT="$folder/site.capture" bash scripts/export.sh
     says "make import: CAPTURE=file names no capture" bash scripts/import.sh
     says "make import: there is no file $folder/nosuch" env CAPTURE="$folder/nosuch" bash scripts/import.sh
     says "make import: there is no folder $folder/nosuch for $folder/nosuch/a" \
@@ -237,14 +246,8 @@ test_capture_commands() {
     says "make import: $folder/site.capture is the file that it is made from" \
         env CAPTURE="$folder/site.capture" OUT="$folder/site.capture" bash scripts/import.sh
     says "make export: TRACE=file names no trace" bash scripts/export.sh
-    says "export: traces/cut-short-entry.trace, entry 2: refused with 17 (trace ends inside header or entry, or is above 2^32 bytes (checked with the header))" \
-        env TRACE=traces/cut-short-entry.trace OUT="$folder/site.capture" bash scripts/export.sh
-    says "export: traces/headers/03-hsa.trace: its header is refused with 3 (HSA)" \
-        env TRACE=traces/headers/03-hsa.trace OUT="$folder/site.capture" bash scripts/export.sh
-    says "export: traces/applications.trace: it has 3 applications, and a capture is of a trace with one" \
-        env TRACE=traces/applications.trace OUT="$folder/site.capture" bash scripts/export.sh
     [ "$(find "$folder" -type f | sort | xargs cksum)" = "$said" ] || fail "a refused make import or make export changed a file of $folder"
-    echo "make import and make export: the site's capture there and back in both editions, settings, and each refusal on one line"
+    echo "make import and make export: the site's capture there and back, both editions, settings, and each refusal on one line"
 }
 
 # The Rust host's tests hold with the proved library linked, and its example replays every trace. Where another machine

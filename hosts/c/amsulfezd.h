@@ -31,7 +31,7 @@
  * defined this file has them and not the calls.
  *
  * Stack. A call uses at most AMSULFEZD_STACK_BYTES of the caller's stack, its return address included, whatever the
- * trace's length. Measured: 1,554 bytes, with the library of the toolchain rattle-kit-5b. The method: the call runs on
+ * trace's length. Measured: 1,490 bytes, with the library of the toolchain rattle-kit-5b. The method: the call runs on
  * a stack of its own that was filled with a pattern, and the deepest byte that changed is looked for, over all traces
  * of traces/, one of 100,000 entries and 1,000 traces made at random, which reach every state and every kind of send;
  * each is replayed, its header moved to the other edition, and its entries exported; over a frame of each start byte and a
