@@ -14,6 +14,10 @@ pub mod CodecFrames
 pub mod CodecDecisions
 pub mod CodecRecords
 pub mod CodecAnswers
+pub mod CaptureLines
+pub mod CaptureText
+pub mod CaptureImport
+pub mod CaptureExport
 pub mod Station
 pub mod StationClaim
 pub mod StationHold

@@ -1,0 +1,3 @@
+-- The theorems on captures.
+pub mod Accepted
+pub mod Again
