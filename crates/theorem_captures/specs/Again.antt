@@ -22,8 +22,11 @@ use Rattle.codec_records.specs.Records.{headOf as recordHead, telegramWordAt, t
 use Rattle.codec_records.specs.Whole.{RecordFits, Says}
 use Rattle.codec_records.specs.Written.{round-trip}
 use Rattle.codec_records.specs.Laws.{good, good-telegram}
+use Rattle.capture_lines.specs.declared.LineRead.{LineRead}
+use Rattle.capture_lines.specs.declared.LineRead.the-variants.{NotBuilt, Refused, Accepted}
+use Rattle.capture_lines.specs.Lines.{lineOf, linesOf as lines}
 use Rattle.capture_text.specs.Text.{lineText}
-use Rattle.capture_import.specs.Import.{Poll, headOf, declines, telegramOf, pollBytes, entryBytes, entriesOf, importOf}
+use Rattle.capture_import.specs.Import.{Poll, headOf, declines, telegramOf, pollBytes, entryBytes, entriesOf, heardAfter, pollsAfter, lineRefusal, importFrom, importOf}
 use Rattle.capture_import.specs.Laws.{poll-length, Good}
 use Rattle.capture_export.specs.Export.{wordLine, linesFrom, recordLines, andThen, linesFitted, entryFitted, entryUsed, Export, preceded, exportFrom, exportOf}
 use Rattle.theorem_captures.specs.Accepted.{AllFit, Fit, poll-fits, poll-accepted, import-holds}
@@ -234,3 +237,65 @@ imported-again text room wide fits =
     rw (← turned-text polls)
     (ap (λ (l : List ℕ). exportFrom (length (entriesOf polls)) l 0 wide) (sym (turned-entries polls))
     ∙ export-all (turned polls) (length (entriesOf polls)) 0 wide (both .0) (both .1) (turned-few polls) (rw (turned-text polls) fits))
+
+-- Line by line
+
+-- what an export gives again of a line: the line of its telegram
+abbrev pub saidAgain : LineRead → List ℕ
+saidAgain NotBuilt = []
+saidAgain (Refused time refusal) = []
+saidAgain (Accepted time t used) = telegramLine time t
+
+abbrev pub linesAgain : List (List ℕ) → List ℕ
+linesAgain [] = []
+linesAgain (l ∷ ls) = saidAgain (lineOf l) ++ linesAgain ls
+
+-- one telegram more of a time
+telegrams-more : (time : ℕ) (ts : List Telegram) (t : Telegram) → telegramsText time (ts ++ (t ∷ [])) ≡ telegramsText time ts ++ telegramLine time t
+telegrams-more time [] t = append-nil (telegramLine time t)
+telegrams-more time (x ∷ ts) t =
+    ap (λ (l : List ℕ). telegramLine time x ++ l) (telegrams-more time ts t) ∙ sym (append-assoc (telegramLine time x) (telegramsText time ts) (telegramLine time t))
+
+-- its line stands behind those of the polls before
+heard-text : (polls : List Poll) (time : ℕ) (t : Telegram) → pollsText (heardAfter polls time t) ≡ pollsText polls ++ telegramLine time t
+unfolding heardAfter
+heard-text [] time t = append-nil (telegramLine time t)
+heard-text (p ∷ older) time t =
+    let own = telegramsText (p .time) (p .telegrams) in
+    cases (eqb time (p .time))
+    (λ a.
+    rw (a, eqb-true time (p .time) a)
+    (ap (λ (l : List ℕ). pollsText older ++ l) (telegrams-more (p .time) (p .telegrams) t) ∙ sym (append-assoc (pollsText older) own (telegramLine (p .time) t))))
+    (λ a. rw a (ap (λ (l : List ℕ). (pollsText older ++ own) ++ l) (append-nil (telegramLine time t))))
+
+said-text : (polls : List Poll) (said : LineRead) → pollsText (pollsAfter polls said) ≡ pollsText polls ++ saidAgain said
+said-text polls NotBuilt = sym (append-nil (pollsText polls))
+said-text polls (Refused time n) = sym (append-nil (pollsText polls))
+said-text polls (Accepted time t used) = heard-text polls time t
+
+lines-text :
+    (polls : List Poll) (before : ℕ) (ls : List (List ℕ)) (room : ℕ)
+    → importFrom polls before ls room .refusal ≡ 0
+    → pollsText (importFrom polls before ls room .polls) ≡ pollsText polls ++ linesAgain ls
+unfolding importFrom
+lines-text polls before [] room ok = sym (append-nil (pollsText polls))
+lines-text polls before (l ∷ ls) room ok =
+    let number = lineRefusal polls (lineOf l) room in
+    cases (eqb number 0)
+    (λ a.
+    rw a
+    (lines-text (pollsAfter polls (lineOf l)) (before + 1) ls room (rw a at ok)
+    ∙ rw (said-text polls (lineOf l)) (append-assoc (pollsText polls) (saidAgain (lineOf l)) (linesAgain ls))))
+    (λ a. absurd (eqb-false number 0 a (rw a at ok)))
+
+-- An export of an accepted capture's entries gives with room for it the lines of the capture again, in their order: each as the line
+-- of its telegram in lower case, and none for a telegram that P1 cannot write
+pub capture-again :
+    (text : List ℕ) (room wide : ℕ)
+    → importOf text room .refusal ≡ 0
+    → length (linesAgain (lines text)) ≤ wide
+    → exportOf (entriesOf (importOf text room .polls)) wide ≡ record { text = linesAgain (lines text); refusal = 0; entry = 0 }
+unfolding importOf
+capture-again text room wide ok fits =
+    let same : pollsText (importOf text room .polls) ≡ linesAgain (lines text) = lines-text [] 0 (lines text) room ok in
+    imported-again text room wide (rw same fits) ∙ rw same
