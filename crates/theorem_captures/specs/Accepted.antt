@@ -87,7 +87,7 @@ entries-accepted (p ∷ older) good fit =
 
 -- What a line says fits
 
-and-both : (a b : Bool) → a && b ≡ true → (a ≡ true) × (b ≡ true)
+pub and-both : (a b : Bool) → a && b ≡ true → (a ≡ true) × (b ≡ true)
 and-both true b h = (refl, h)
 and-both false b h = let z : _≡_ {A = ℕ} 0 1 = cc in absurd (omega arith)
 
