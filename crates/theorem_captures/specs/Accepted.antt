@@ -92,7 +92,7 @@ and-both true b h = (refl, h)
 and-both false b h = let z : _≡_ {A = ℕ} 0 1 = cc in absurd (omega arith)
 
 -- pairs of hex digits are bytes
-pairs-bytes : (text : List ℕ) → Bytes (pairsAt text)
+pub pairs-bytes : (text : List ℕ) → Bytes (pairsAt text)
 pairs-bytes [] = tt
 pairs-bytes (a ∷ []) = tt
 pairs-bytes (a ∷ b ∷ rest) =
@@ -102,35 +102,43 @@ pairs-bytes (a ∷ b ∷ rest) =
     rw h (omega (arith, ltb-true (digitOf a) 16 (both .0), ltb-true (digitOf b) 16 (both .1)), pairs-bytes rest))
     (λ h. rw h tt)
 
-said-fits :
-    (time count size : ℕ) (f : List ℕ) → Bytes f → (read : FrameRead) → frameOf f ≡ read → {at used : ℕ} {t : Telegram} → saidOf time read count size ≡ Accepted at t used → (at ≡ time) × TelegramFits t
+-- what an accepted line says of its time and its frame
+said-is :
+    (time count size : ℕ) (read : FrameRead) {at used : ℕ} {t : Telegram} → saidOf time read count size ≡ Accepted at t used → (at ≡ time) × (read ≡ frame.Accepted t count)
 unfolding saidOf
-said-fits time count size f bytes (frame.Refused n) g e = let z : _≡_ {A = ℕ} 0 1 = cc in absurd (omega arith)
-said-fits time count size f bytes (frame.Accepted telegram used) g {at} {used = u} {t} e =
-    cases (eqb used count)
+said-is time count size (frame.Refused n) e = let z : _≡_ {A = ℕ} 0 1 = cc in absurd (omega arith)
+said-is time count size (frame.Accepted telegram bytes) {at} {used} {t} e =
+    cases (eqb bytes count)
     (λ a.
     let h = rw a at e in
     let same : telegram ≡ t = cc in
     let clock : at ≡ time = cc in
-    (clock, rw same at (read-fits f bytes g)))
+    (clock, rw (same, eqb-true bytes count a)))
+    (λ a. let h = rw a at e in let z : _≡_ {A = ℕ} 0 1 = cc in absurd (omega arith))
+
+pub line-is :
+    (l : List ℕ) {at used : ℕ} {t : Telegram}
+    → lineOf l ≡ Accepted at t used
+    → (isBuilt l ≡ true) × (at ≡ decimal (digitsAt l)) × (frameOf (pairsAt (afterTime l)) ≡ frame.Accepted t (length (pairsAt (afterTime l))))
+unfolding lineOf
+line-is l e =
+    let f = pairsAt (afterTime l) in
+    cases (isBuilt l)
+    (λ a. let said = said-is (decimal (digitsAt l)) (length f) (length l) (frameOf f) (rw a at e) in (a, said .0, said .1))
     (λ a. let h = rw a at e in let z : _≡_ {A = ℕ} 0 1 = cc in absurd (omega arith))
 
 line-fits : (l : List ℕ) {at used : ℕ} {t : Telegram} → lineOf l ≡ Accepted at t used → (at < 2 ^ 48) × TelegramFits t
-unfolding lineOf isBuilt
+unfolding isBuilt
 line-fits l e =
     let f = pairsAt (afterTime l) in
     let d = digitsAt l in
     let time = isTime d in
     let spaced = begins space (afterDigits l) in
     let paired = some f in
-    let ended = isEnd (afterPairs (afterTime l)) in
-    cases (isBuilt l)
-    (λ a.
-    let said = said-fits (decimal d) (length f) (length l) f (pairs-bytes (afterTime l)) (frameOf f) refl (rw a at e) in
-    let timed = and-both time spaced (and-both (time && spaced) paired (and-both (time && spaced && paired) ended a .0) .0) .0 in
+    let said = line-is l e in
+    let timed = and-both time spaced (and-both (time && spaced) paired (and-both (time && spaced && paired) (isEnd (afterPairs (afterTime l))) (said .0) .0) .0) .0 in
     let below = and-both (some d && not (begins zeroDigit d && not (eqb (length d) 1))) (ltb (decimal d) clockLimit) timed .1 in
-    (rw (said .0) (ltb-true (decimal d) clockLimit below), said .1))
-    (λ a. let h = rw a at e in let z : _≡_ {A = ℕ} 0 1 = cc in absurd (omega arith))
+    (rw (said .1) (ltb-true (decimal d) clockLimit below), read-fits f (pairs-bytes (afterTime l)) (said .2))
 
 -- polls after a telegram that fits
 heard-fit : (polls : List Poll) (time : ℕ) (t : Telegram) → Fit polls → time < 2 ^ 48 → TelegramFits t → Fit (heardAfter polls time t)

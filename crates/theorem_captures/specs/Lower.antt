@@ -17,10 +17,14 @@ use Rattle.codec_frames.specs.declared.FrameRead.the-variants as frame
 use Rattle.codec_frames.specs.Frames.{frameOf, frameBytes, isOtherRequest, startOf}
 use Rattle.capture_lines.specs.declared.LineRead.{LineRead}
 use Rattle.capture_lines.specs.declared.LineRead.the-variants.{NotBuilt, Refused, Accepted}
-use Rattle.capture_lines.specs.Lines.{space, lineFeed, zeroDigit, clockLimit, between, digitOf, isDecimal, isHex, digitsAt, afterDigits, decimalFrom, decimal, pairsAt, afterPairs, some, begins, isEnd, isTime, afterTime, isBuilt, saidOf, lineOf}
+use Rattle.capture_lines.specs.Lines.{space, lineFeed, zeroDigit, clockLimit, between, digitOf, isDecimal, isHex, digitsAt, afterDigits, decimalFrom, decimal, pairsAt, afterPairs, some, begins, isEnd, isTime, afterTime, isBuilt, lineOf, joined, linesOf}
 use Rattle.capture_lines.specs.Laws.{between-is}
 use Rattle.capture_text.specs.Text.{digitCount, lastDigits, mostDigits, decimalText, hexDigit, hexText, lineText}
-use Rattle.theorem_captures.specs.Accepted.{and-both}
+use Rattle.theorem_captures.specs.Accepted.{and-both, line-is, pairs-bytes}
+use Rattle.theorem_captures.specs.Again.{saidAgain, linesAgain, capture-again}
+use Rattle.theorem_frames.specs.RoundTrip.{isWritten, frame-writes-back}
+use Rattle.capture_import.specs.Import.{entriesOf, importOf}
+use Rattle.capture_export.specs.Export.{exportOf}
 
 -- a byte in lower case: A to F as a to f; and bytes
 abbrev pub lower : ℕ → ℕ
@@ -256,3 +260,59 @@ built-again l h =
     ap (λ (x : List ℕ). hexText (pairsAt r) ++ lowerCase x) (sym (end-is (afterPairs r) (four .1))) ∙ hex-again r in
     rw (time-again d (digits-decimal l) (two .0), hex)
     (sym (ap lowerCase (sym whole) ∙ lower-append d (space ∷ r) ∙ rw (digits-lower d (digits-decimal l))))
+
+-- a line whose frame is an SD1, SD4 or SC of a telegram that P1 writes
+pub record WrittenLine (l : List ℕ) : Type 0 where
+  pub time : ℕ
+  pub telegram : Telegram
+  pub used : ℕ
+  pub says : lineOf l ≡ Accepted time telegram used
+  pub start : isWritten (startOf (getD (pairsAt (afterTime l)) 0 0)) ≡ true
+  pub other : isOtherRequest telegram ≡ false
+
+-- comes back as it was, in lower case
+pub line-again : (l : List ℕ) → WrittenLine l → saidAgain (lineOf l) ≡ lowerCase l
+line-again l w =
+    let f = pairsAt (afterTime l) in
+    let is = line-is l (w .says) in
+    let bytes : frameBytes (w .telegram) ≡ f =
+    frame-writes-back f (pairs-bytes (afterTime l)) (is .2) (w .start) (w .other) ∙ take-all (length f) f (omega arith) in
+    rw (w .says, w .other, bytes, is .1) (built-again l (is .0))
+
+-- each of some lines
+abbrev pub WrittenLines : List (List ℕ) → Type 0
+WrittenLines [] = Unit {0}
+WrittenLines (l ∷ ls) = WrittenLine l × WrittenLines ls
+
+-- lines one behind the other
+abbrev together : List (List ℕ) → List ℕ
+together [] = []
+together (l ∷ ls) = l ++ together ls
+
+joined-together : (b : ℕ) (ls : List (List ℕ)) → together (joined b ls) ≡ b ∷ together ls
+joined-together b [] = refl
+joined-together b (l ∷ ls) = refl
+
+-- are the text
+lines-together : (text : List ℕ) → together (linesOf text) ≡ text
+lines-together [] = refl
+lines-together (b ∷ rest) =
+    cases (eqb b lineFeed)
+    (λ a. rw a (ap (λ (l : List ℕ). b ∷ l) (lines-together rest)))
+    (λ a. rw a (joined-together b (linesOf rest) ∙ ap (λ (l : List ℕ). b ∷ l) (lines-together rest)))
+
+again-together : (ls : List (List ℕ)) → WrittenLines ls → linesAgain ls ≡ lowerCase (together ls)
+again-together [] w = refl
+again-together (l ∷ ls) w = rw (line-again l (w .0), again-together ls (w .1)) (sym (lower-append l (together ls)))
+
+-- An export of an accepted capture's entries, where P1 writes each frame of the capture as it stands there, gives with room for it
+-- the capture back, in lower case
+pub capture-back :
+    (text : List ℕ) (room wide : ℕ)
+    → importOf text room .refusal ≡ 0
+    → WrittenLines (linesOf text)
+    → length (lowerCase text) ≤ wide
+    → exportOf (entriesOf (importOf text room .polls)) wide ≡ record { text = lowerCase text; refusal = 0; entry = 0 }
+capture-back text room wide ok w fits =
+    let same : linesAgain (linesOf text) ≡ lowerCase text = again-together (linesOf text) w ∙ ap lowerCase (lines-together text) in
+    capture-again text room wide ok (rw same fits) ∙ rw same
