@@ -11,7 +11,7 @@ use Rattle.codec_decisions.specs.declared.Decision.{Decision}
 use Rattle.codec_decisions.specs.declared.Decision.the-variants.{Decline}
 use Rattle.codec_records.specs.declared.Head.{Head}
 use Rattle.codec_records.specs.Records.{mostTelegrams}
-use Rattle.codec_records.specs.Whole.{recordBytes}
+use Rattle.codec_records_written.specs.Whole.{recordBytes}
 use Rattle.capture_lines.specs.declared.LineRead.{LineRead}
 use Rattle.capture_lines.specs.declared.LineRead.the-variants.{NotBuilt, Refused, Accepted}
 use Rattle.capture_lines.specs.Lines.{linesOf, lineOf}

@@ -19,9 +19,9 @@ use Rattle.codec_telegrams.specs.declared.Telegram.{Telegram}
 use Rattle.codec_telegrams.specs.declared.Telegram.the-variants.{ShortConfirmation}
 use Rattle.codec_telegrams.specs.Words.{telegramWord}
 use Rattle.codec_records.specs.declared.Head.{Head}
-use Rattle.codec_records.specs.Records.{headWord, headStored, telegramStored}
-use Rattle.codec_records.specs.Whole.{each, applicationBytes, telegramBytes, recordBytes, recordStored}
-use Rattle.codec_records.specs.Written.{round-trip}
+use Rattle.codec_records_written.specs.Stored.{headWord, headStored, telegramStored}
+use Rattle.codec_records_written.specs.Whole.{each, applicationBytes, telegramBytes, recordBytes, recordStored}
+use Rattle.codec_records_written.specs.Written.{round-trip}
 use Rattle.capture_lines.specs.declared.LineRead.{LineRead}
 use Rattle.capture_lines.specs.declared.LineRead.the-variants.{NotBuilt, Refused, Accepted}
 use Rattle.capture_lines.specs.Lines.{linesOf, lineOf, lineAt}

@@ -5,7 +5,7 @@ use mathlib.Core.Bool.{Bool, false, cond}
 use lib.ListN.{length, take, drop}
 use lib.Dec.{eqb, ltb}
 use Rattle.codec_telegrams.specs.declared.Telegram.{Telegram}
-use Rattle.codec_records.specs.Records.{headStored, telegramStored}
+use Rattle.codec_records_written.specs.Stored.{headStored, telegramStored}
 use Rattle.capture_lines.specs.declared.LineRead.{LineRead}
 use Rattle.capture_lines.specs.declared.LineRead.the-variants.{NotBuilt, Refused, Accepted}
 use Rattle.capture_import.specs.declared.Newest.{Newest}

@@ -1,12 +1,12 @@
 // A bus monitor's capture, imported (document 02, P13): one pass over its text, and each line's telegram is written where it
 // belongs, into a new trace entry or into the newest one, whose length and count then change in place. The entries are poll records
-// for a station with one application that declines. It leans on capture_lines for the lines and on codec_records for the records.
+// for a station with one application that declines. It leans on capture_lines for the lines and on codec_records_written for the records.
 ghost use mathlib.Core.Path.{_≡_};
 ghost use Prim.Native.Nat.{_+_, _*_, _≤_};
 ghost use mathlib.Core.List.{[], _∷_};
 ghost use lib.ListN.{length};
-ghost use Rattle.codec_records.specs.Records.{headStored, telegramStored};
-ghost use Rattle.codec_records.specs.Whole.{recordStored};
+ghost use Rattle.codec_records_written.specs.Stored.{headStored, telegramStored};
+ghost use Rattle.codec_records_written.specs.Whole.{recordStored};
 ghost use Rattle.capture_lines.specs.Lines.{lineAt};
 ghost use Rattle.capture_import.specs.Import.{headOf, declines, telegramOf, newPoll, entryBytes, timeRefusal, importOf, importedOf, bufferOf};
 ghost use Rattle.capture_import.specs.Turns.{Fits, isNewest, refusedTaken, addedTaken, addedLeft, extendedBytes, extendedTaken, extendedLeft, hearTaken, hearLeft, lineTaken, lineLeft};
@@ -14,9 +14,9 @@ use capture_lines::LineRead;
 use capture_lines::read_line;
 use codec_decisions::Decision;
 use codec_records::Head;
-use codec_records::store_decision;
-use codec_records::store_head;
-use codec_records::store_telegram;
+use codec_records_written::store_decision;
+use codec_records_written::store_head;
+use codec_records_written::store_telegram;
 use codec_telegrams::Telegram;
 
 // What an import comes to: the refused line, counted from 1, or 0; the bytes written; the refusal's number, or 0.

@@ -19,8 +19,8 @@ use Rattle.codec_frames.specs.declared.FrameRead.{FrameRead}
 use Rattle.codec_frames.specs.declared.FrameRead.the-variants as frame
 use Rattle.codec_frames.specs.Frames.{frameOf}
 use Rattle.codec_records.specs.Records.{recordRefusal}
-use Rattle.codec_records.specs.Whole.{RecordFits}
-use Rattle.codec_records.specs.Written.{round-trip}
+use Rattle.codec_records_written.specs.Whole.{RecordFits}
+use Rattle.codec_records_written.specs.Written.{round-trip}
 use Rattle.capture_lines.specs.declared.LineRead.{LineRead}
 use Rattle.capture_lines.specs.declared.LineRead.the-variants.{NotBuilt, Refused, Accepted}
 use Rattle.capture_lines.specs.Lines.{clockLimit, digitOf, isHex, digitsAt, afterDigits, decimal, pairsAt, afterPairs, some, begins, zeroDigit, isEnd, isTime, afterTime, isBuilt, saidOf, lineOf, linesOf, space}

@@ -1,6 +1,6 @@
 -- `capture_import::write_record` meets its contract, call by call. Assumes nothing.
 use mathlib.Core.Path.{_∙_}
-use Rattle.codec_records.specs.Whole.{decisionsStored, telegramsStored, recordStored}
+use Rattle.codec_records_written.specs.Whole.{decisionsStored, telegramsStored, recordStored}
 use borrow.Author.Needs.{needs}
 use native.Mathlib.Omega.{arith}
 use borrow.Author.Needs.{needs}
