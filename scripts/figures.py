@@ -54,7 +54,6 @@ def is_law(path, has_code):
         "Examples.antt",
         "Finish.antt",
         "Finished.antt",
-        "Links.antt",
         "Loops.antt",
         "Made.antt",
         "Moves.antt",

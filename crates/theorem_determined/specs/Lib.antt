@@ -8,6 +8,7 @@ pub mod Settings
 pub mod SettingsInPlace
 pub mod SettingsBuild
 pub mod RingAddresses
+pub mod RingLinks
 pub mod Ring
 pub mod CodecFields
 pub mod CodecSlices

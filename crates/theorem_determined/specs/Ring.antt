@@ -7,7 +7,6 @@ use Rattle.theorem_determined.specs.Claim.{Determined, DeterminedLent}
 use Rattle.theorem_determined.specs.Joins.{parts-same}
 use Rattle.ring.proofs.next_station_number.Reads as next-station-number-reads
 use Rattle.ring.proofs.fresh.Reads as fresh-reads
-use Rattle.ring.proofs.member.Reads as member-reads
 use Rattle.ring.proofs.next_station.Reads as next-station-reads
 use Rattle.ring.proofs.previous_station.Reads as previous-station-reads
 use Rattle.ring.proofs.witness_token_pass.Reads as witness-token-pass-reads
@@ -22,9 +21,6 @@ next-station-number κs a r₁ r₂ s₁ s₂ p q = p ∙ sym q
 
 pub fresh : DeterminedLent fresh-reads.Post (λ k s. now (s .0))
 fresh κs a r₁ r₂ s₁ s₂ p q = parts-same r₁ r₂ (now (s₁ .0)) (now (s₂ .0)) (p ∙ sym q)
-
-pub member : Determined member-reads.Post
-member κs a r₁ r₂ s₁ s₂ p q = p ∙ sym q
 
 pub next-station : Determined next-station-reads.Post
 next-station κs a r₁ r₂ s₁ s₂ p q = p ∙ sym q
