@@ -9,18 +9,10 @@ me="make picture"
 
 find_trace
 name=$(basename -- "$trace")
-out=${OUT:-target/pictures/${name%.trace}.svg}
-folder=$(dirname -- "$out")
-[ -n "${OUT:-}" ] || mkdir -p "$folder" || fail "the folder $folder could not be made"
-[ -d "$folder" ] || fail "there is no folder $folder for $out"
-[ ! -e "$out" ] || [ -f "$out" ] || fail "$out is not a file"
-[ ! "$out" -ef "$trace" ] || fail "$out is the trace itself"
+find_out "target/pictures/${name%.trace}.svg" "$trace"
 
 find_answers picture
-# The picture gets its name when it is whole.
-part=$out.part-$$
-trap 'rm -f -- "$part"' EXIT
-(: >"$part") 2>/dev/null || fail "$out could not be written"
-target/hosts/release/picture "$trace" "FROM=${FROM:-}" "TO=${TO:-}" <<<"$answers" >"$part" || exit 1
-mv -f -- "$part" "$out" || fail "$out could not be written"
-echo "$out"
+draw() {
+    target/hosts/release/picture "$trace" "FROM=${FROM:-}" "TO=${TO:-}" <<<"$answers"
+}
+write_out draw

@@ -4,18 +4,21 @@
  * A trace is a header and then entries: commands and poll records. A header has 16 bytes (edition 1), or 14 that begin
  * with 82h (edition 2, for slow lines). The proved call amsulfezd_replay_trace runs a trace and writes an answer of 8
  * bytes for each entry; amsulfezd_other_edition moves a header to the other edition. amsulfezd_read_frame reads a frame
- * as it stands on the bus, amsulfezd_write_frame writes one. In this file, in this order:
+ * as it stands on the bus, amsulfezd_write_frame writes one. amsulfezd_import_capture makes entries of a bus monitor's
+ * text, amsulfezd_export_capture text of entries. In this file, in this order:
  *
  *   the numbers in traces and answers      enum amsulfezd_..
  *   the calls on traces                    amsulfezd_replay_trace, amsulfezd_entries, amsulfezd_ending;
  *                                          amsulfezd_other_edition, amsulfezd_written; amsulfezd_number
  *   the calls on frames                    amsulfezd_read_frame, amsulfezd_write_frame, amsulfezd_frame_..
- *   readers of an answer                   amsulfezd_answer, amsulfezd_answer_..
+ *   the calls on captures                  amsulfezd_import_capture, amsulfezd_export_capture
+ *   readers of an answer                   amsulfezd_answer, amsulfezd_answer_..; amsulfezd_state_name,
+ *                                          amsulfezd_refusal_words
  *   writers of a trace                     amsulfezd_write_header, amsulfezd_write_header_2, amsulfezd_write_command,
  *                                          amsulfezd_write_poll
  *
- * example.c uses all but the frames. The field widths are document 01's, "Station" and "Trace", and document 02's, P9; a
- * frame's bytes are document 02's, P1.
+ * example.c uses all but the frames and captures. The field widths are document 01's, "Station" and "Trace", and document
+ * 02's, P9; a frame's bytes are document 02's, P1, a capture's text P13.
  *
  * Linking. `rt staticlib amsulfezd` proves the library and writes target/staticlib/libamsulfezd.a. From the
  * repository's root:
@@ -28,11 +31,11 @@
  * defined this file has them and not the calls.
  *
  * Stack. A call uses at most AMSULFEZD_STACK_BYTES of the caller's stack, its return address included, whatever the
- * trace's length. Measured: 1,554 bytes, with the library of the toolchain rattle-kit-5b. The method: the call runs on
+ * trace's length. Measured: 1,490 bytes, with the library of the toolchain rattle-kit-5b. The method: the call runs on
  * a stack of its own that was filled with a pattern, and the deepest byte that changed is looked for, over all traces
  * of traces/, one of 100,000 entries and 1,000 traces made at random, which reach every state and every kind of send;
- * each is replayed, and its header moved to the other edition; and over a frame of each start byte and a word of each
- * kind. hosts/c/stack.c does this and is part of the tests, so that a library that uses more than AMSULFEZD_STACK_BYTES is
+ * each is replayed, its header moved to the other edition, and its entries exported; over a frame of each start byte and a
+ * word of each kind; and over the captures of traces/. hosts/c/stack.c does this and is part of the tests, so that a library that uses more than AMSULFEZD_STACK_BYTES is
  * found. The library's code has no recursion, takes no stack by a computed length and calls nothing outside itself.
  */
 #ifndef AMSULFEZD_H
@@ -71,7 +74,8 @@ extern "C" {
 /*
  * The refusal numbers of documents 01 and 02. As ending number of a run: 0, the number of a refused header (1 to 8, 10, 11,
  * 14, 25), 17 or 18. In an answer: 0, or 12 to 16. Of a frame that is read: 0, 19 to 24 or 34; of a word to be written: 0,
- * 14, 18 or 34. Number 9 belongs to a settings call and is never answered here.
+ * 14, 18 or 34. Of a capture's line: 0, 18 to 24, 31 to 34; of an entry to be exported: 0, 12 to 15, 17 or 18. Number 9
+ * belongs to a settings call and is never answered here.
  */
 enum amsulfezd_refusal {
     AMSULFEZD_OK = 0,
@@ -92,8 +96,8 @@ enum amsulfezd_refusal {
     AMSULFEZD_REFUSAL_NO_BYTES = 15,        /* sending 0 bytes */
     AMSULFEZD_REFUSAL_PASSIVE = 16,         /* passive */
     AMSULFEZD_REFUSAL_CUT = 17,             /* trace ends inside header or entry, or is above 2^32 bytes */
-    AMSULFEZD_REFUSAL_NO_ROOM = 18,         /* no 8 bytes left for an answer; no room for a header or a frame */
-    /* Document 02's: 25 of a header, the others of a frame. */
+    AMSULFEZD_REFUSAL_NO_ROOM = 18,         /* no 8 bytes left for an answer; no room for what is to be written */
+    /* Document 02's: 25 of a header, 31 to 33 of a capture, the others of a frame. */
     AMSULFEZD_REFUSAL_FRAME_CUT = 19,         /* frame empty or cut short */
     AMSULFEZD_REFUSAL_START_BYTE = 20,        /* start byte */
     AMSULFEZD_REFUSAL_FRAME_HEADER = 21,      /* SD2 header: its repeated bytes differ, or the length is outside 4..249 */
@@ -101,6 +105,9 @@ enum amsulfezd_refusal {
     AMSULFEZD_REFUSAL_END_BYTE = 23,          /* end byte */
     AMSULFEZD_REFUSAL_ADDRESS_EXTENSION = 24, /* address extension bit */
     AMSULFEZD_REFUSAL_GAP_ROOM = 25,          /* rotation with no room for a gap poll: below slot bits + 100 */
+    AMSULFEZD_REFUSAL_CAPTURE_LINE = 31,      /* a capture's line that is not built as it should be, or bytes after its frame */
+    AMSULFEZD_REFUSAL_CAPTURE_TIME = 32,      /* a time below the one before */
+    AMSULFEZD_REFUSAL_CAPTURE_COUNT = 33,     /* more than 8 lines of one time */
     AMSULFEZD_REFUSAL_FUNCTION_CODE = 34      /* top bit of the function code set; to be written: any other request */
 };
 
@@ -179,6 +186,15 @@ enum amsulfezd_frame_byte {
 /* The longest frame that is read, and the longest that is written, in bytes. */
 #define AMSULFEZD_FRAME_READ_LENGTH 255
 #define AMSULFEZD_FRAME_WRITTEN_LENGTH 6
+
+/*
+ * Of captures: the telegrams of one time at most, the bytes of an entry that a line begins and those that a further line of
+ * its time adds, and the longest line that is written, in bytes.
+ */
+#define AMSULFEZD_CAPTURE_TELEGRAMS 8
+#define AMSULFEZD_CAPTURE_ENTRY 19
+#define AMSULFEZD_CAPTURE_ADDED 4
+#define AMSULFEZD_CAPTURE_LINE_LENGTH 29
 
 /* ---- The calls on traces ----------------------------------------------------------------------------------------- */
 
@@ -311,6 +327,58 @@ static inline uint32_t amsulfezd_frame_word(uint64_t returned)
 {
     return (uint32_t)(returned / 65536);
 }
+
+/* ---- The calls on captures --------------------------------------------------------------------------------------- */
+
+#ifndef AMSULFEZD_WITHOUT_CALL
+/*
+ * Makes trace entries of a bus monitor's text. A line is a decimal time in microseconds, one space, a frame as pairs of hex
+ * digits in either case, and a line feed. Lines of equal time make one poll record, for a station with one application that
+ * declines: their telegrams in their order, at most 8, no pending byte, not transmitting. There is no header and no online
+ * among what is written: a trace needs both before it.
+ *
+ * text, text_len        The text. It is read only.
+ * entries, entries_len  Where the entries go: AMSULFEZD_CAPTURE_ENTRY bytes for the first line of a time,
+ *                       AMSULFEZD_CAPTURE_ADDED for each other. 19 bytes for each line feed of the text are always enough.
+ * line                  The refused line, counted from 1, or 0. It is always written.
+ * written               How many bytes of `entries` were written. It is always written.
+ *
+ * Returns the refusal number, 0 if nothing was refused. The first bad line decides, and nothing of it or after it is
+ * written; the lines before it stand, those of its own time among them. In a line, in this order: 31 if it is not built so
+ * (the time has no leading zero, 0 itself apart, and is below 2^48; a last line without line feed is such); 32 if its time is
+ * below the one before; 33 if it is the ninth of its time; the number of a frame that is not read (19 to 24, 34); 31 for
+ * bytes after the frame; 18 if there is no room for its entry or telegram.
+ *
+ * Which bytes change: the first `written` bytes of `entries`, `line` and `written`. All others keep their value.
+ *
+ * What the caller must ensure: all four point to memory that is theirs for the time of the call and do not overlap; none is
+ * NULL, not even with length 0; nobody else writes to them during the call. Any content is allowed. The call keeps no
+ * pointer, allocates nothing, has no state and always returns; its time grows with the text's length.
+ */
+uint64_t amsulfezd_import_capture(const uint8_t *text, size_t text_len, uint8_t *entries, size_t entries_len,
+                                  uint64_t *line, uint64_t *written);
+
+/*
+ * Makes a capture's text of trace entries: a line for each telegram of each poll record, in lower case. Telegrams that are
+ * not written as frames (requests that are no status requests) and the commands online, offline and passive give no line.
+ *
+ * entries, entries_len  The entries, without header, with records for one application. They are read only.
+ * text, text_len        Where the text goes. AMSULFEZD_CAPTURE_LINE_LENGTH bytes for each 4 bytes of entries are always
+ *                       enough.
+ * entry                 The refused entry, counted from 1, or 0. It is always written.
+ * written               How many bytes of `text` were written. It is always written.
+ *
+ * Returns the refusal number, 0 if nothing was refused: 17 if the entries end inside one, 12 to 15 for a record that a trace
+ * would answer so, and then nothing of that entry is written; 18 if there is no room for a line, and then the lines before
+ * it stand, those of the same entry among them. Clocks that go back are written as they are.
+ *
+ * Which bytes change: the first `written` bytes of `text`, `entry` and `written`. All others keep their value.
+ *
+ * What the caller must ensure and the rest: as for amsulfezd_import_capture.
+ */
+uint64_t amsulfezd_export_capture(const uint8_t *entries, size_t entries_len, uint8_t *text, size_t text_len,
+                                  uint64_t *entry, uint64_t *written);
+#endif
 
 /* ---- Readers of an answer ---------------------------------------------------------------------------------------- */
 
@@ -447,6 +515,75 @@ static inline const char *amsulfezd_state_name(unsigned state)
         return "CheckTokenPass";
     case AMSULFEZD_STATE_AWAIT_STATUS_RESPONSE:
         return "AwaitStatusResponse";
+    default:
+        return "unknown";
+    }
+}
+
+/* What a refusal number says, in the documents' words; "unknown" if none has it. */
+static inline const char *amsulfezd_refusal_words(unsigned number)
+{
+    switch (number) {
+    case AMSULFEZD_OK:
+        return "nothing was refused";
+    case AMSULFEZD_REFUSAL_ADDRESS:
+        return "address above 125";
+    case AMSULFEZD_REFUSAL_SLOT:
+        return "slot too small";
+    case AMSULFEZD_REFUSAL_HSA:
+        return "HSA";
+    case AMSULFEZD_REFUSAL_ROTATION:
+        return "rotation";
+    case AMSULFEZD_REFUSAL_GAP_WAIT:
+        return "gap wait";
+    case AMSULFEZD_REFUSAL_RETRY:
+        return "retry";
+    case AMSULFEZD_REFUSAL_MIN_TSDR:
+        return "min Tsdr";
+    case AMSULFEZD_REFUSAL_WATCHDOG:
+        return "watchdog outside 10..650,000 ms, or one factor zero in a header";
+    case AMSULFEZD_REFUSAL_FACTORS:
+        return "factors: u above 65,025";
+    case AMSULFEZD_REFUSAL_BAUD:
+        return "baud code above 10";
+    case AMSULFEZD_REFUSAL_APPLICATIONS:
+        return "applications not 1..8";
+    case AMSULFEZD_REFUSAL_RECORD_LENGTH:
+        return "poll record length";
+    case AMSULFEZD_REFUSAL_TELEGRAM_COUNT:
+        return "telegram count above 8";
+    case AMSULFEZD_REFUSAL_ZERO_BIT:
+        return "a bit that should be zero";
+    case AMSULFEZD_REFUSAL_NO_BYTES:
+        return "sending 0 bytes";
+    case AMSULFEZD_REFUSAL_PASSIVE:
+        return "passive";
+    case AMSULFEZD_REFUSAL_CUT:
+        return "trace ends inside header or entry, or is above 2^32 bytes (checked with the header)";
+    case AMSULFEZD_REFUSAL_NO_ROOM:
+        return "no 8 bytes left for an answer";
+    case AMSULFEZD_REFUSAL_FRAME_CUT:
+        return "frame empty or cut short";
+    case AMSULFEZD_REFUSAL_START_BYTE:
+        return "start byte";
+    case AMSULFEZD_REFUSAL_FRAME_HEADER:
+        return "SD2 header: its repeated bytes differ or the length is outside 4 to 249";
+    case AMSULFEZD_REFUSAL_CHECK_BYTE:
+        return "check byte";
+    case AMSULFEZD_REFUSAL_END_BYTE:
+        return "end byte";
+    case AMSULFEZD_REFUSAL_ADDRESS_EXTENSION:
+        return "address extension bit";
+    case AMSULFEZD_REFUSAL_GAP_ROOM:
+        return "rotation with no room for a gap poll";
+    case AMSULFEZD_REFUSAL_CAPTURE_LINE:
+        return "a line that is not a time, one space, a frame in pairs of hex digits and a line feed, or has bytes after its frame";
+    case AMSULFEZD_REFUSAL_CAPTURE_TIME:
+        return "a time below the one before";
+    case AMSULFEZD_REFUSAL_CAPTURE_COUNT:
+        return "more than 8 of one time";
+    case AMSULFEZD_REFUSAL_FUNCTION_CODE:
+        return "top bit of the function code set; to be written, any other request";
     default:
         return "unknown";
     }

@@ -1,8 +1,9 @@
 //! The published Rust with document 01's helpers, and what holds other calls to it by running.
 //!
 //! Each folder leans on those before it: `helpers` (with the published text), then `generator` and `coverage`, which do not
-//! know each other, then `comparison`, then the programs. `frames` has a reader and a writer of frames and what holds others
-//! to them; it leans on the records of `helpers`, and takes seeds, points and words from the others.
+//! know each other, then `comparison`, then the programs. `frames` has a reader and a writer of frames, `captures` an importer and an
+//! exporter of captures, and what is tried of them; they lean on the records of `helpers`, `captures` on the frames, and take
+//! seeds, points, words and the comparison of calls from the others.
 #![forbid(unsafe_code)]
 
 /// The published text writes `log::warn!`: the macros of `helpers/log.rs` stand at the root of this crate.
@@ -57,6 +58,8 @@ pub mod coverage {
 
 /// Holding other calls to the oracle's.
 pub mod comparison {
+    pub mod calls;
+    pub mod calls_program;
     pub mod compare;
     pub mod program;
     pub mod run;
@@ -71,7 +74,14 @@ pub mod frames {
     pub mod compare;
     pub mod frame;
     mod met;
-    pub mod program;
+    pub mod tries;
+}
+
+/// Captures (document 02, P13): an importer and an exporter, and holding others to them.
+pub mod captures {
+    pub mod capture;
+    pub mod compare;
+    mod met;
     pub mod tries;
 }
 

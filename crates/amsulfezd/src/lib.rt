@@ -1,8 +1,10 @@
 // The library for hosts: every call that C and Rust programs make of it, each thin over the crate that does the work. Their
 // names carry the prefix amsulfezd_, as a C library's names do. hosts/c/amsulfezd.h declares them. It leans on trace,
-// trace_editions and codec_frames.
+// trace_editions, codec_frames, capture_import and capture_export.
 ghost use mathlib.Core.Path.{_≡_};
 ghost use lib.ListN.{length};
+ghost use Rattle.capture_export.specs.Export.{exportOf, exportedOf, bufferOf as exportBuffer};
+ghost use Rattle.capture_import.specs.Import.{importOf, importedOf, bufferOf as importBuffer};
 ghost use Rattle.codec_frames.specs.Frames.{frameOf, readNumber, writeOf, writeNumber, writtenOver};
 ghost use Rattle.trace.specs.Trace.{replayOf, numberOf, bufferOf};
 ghost use Rattle.trace_editions.specs.Editions.{moveNumber, moveInto};
@@ -44,4 +46,46 @@ pub extern "C" fn amsulfezd_write_frame(word: u32, frame: &mut [u8]) -> u64
     ensures { λ _. ⌜ now (frame .exit) ≡ writtenOver (writeOf word (length (now (frame .entry)))) (now (frame .entry)) ⌝ }
 {
     codec_frames::write_frame(word as u64, frame)
+}
+
+// Imports a capture: the entries of its lines stand at the start of `entries`, the bytes past them stay as they were. The first bad
+// line decides: its number is returned, `line` says which, counted from 1, and all lines before it stand; else 0 and 0. `written`
+// says how many bytes the entries have. Both are always written.
+#[no_mangle]
+pub extern "C" fn amsulfezd_import_capture(
+    text: &[u8],
+    entries: &mut [u8],
+    line: &mut u64,
+    written: &mut u64,
+) -> u64
+    ensures { λ r. ⌜ r ≡ importedOf (importOf (now (text .entry)) (length (now (entries .entry)))) .refusal ⌝ }
+    ensures { λ _. ⌜ now (entries .exit) ≡ importBuffer (importOf (now (text .entry)) (length (now (entries .entry)))) (now (entries .entry)) ⌝ }
+    ensures { λ _. ⌜ now (line .exit) ≡ importedOf (importOf (now (text .entry)) (length (now (entries .entry)))) .line ⌝ }
+    ensures { λ _. ⌜ now (written .exit) ≡ importedOf (importOf (now (text .entry)) (length (now (entries .entry)))) .written ⌝ }
+{
+    let imported = capture_import::import_capture(text, entries);
+    *line = imported.line;
+    *written = imported.written;
+    imported.refusal as u64
+}
+
+// Exports trace entries as a capture: the lines stand at the start of `text`, the bytes past them stay as they were. The first bad
+// entry decides: its number is returned, `entry` says which, counted from 1, and all lines before it stand, without room those of
+// the same entry too; else 0 and 0. `written` says how many bytes the lines have. Both are always written.
+#[no_mangle]
+pub extern "C" fn amsulfezd_export_capture(
+    entries: &[u8],
+    text: &mut [u8],
+    entry: &mut u64,
+    written: &mut u64,
+) -> u64
+    ensures { λ r. ⌜ r ≡ exportedOf (exportOf (now (entries .entry)) (length (now (text .entry)))) .refusal ⌝ }
+    ensures { λ _. ⌜ now (text .exit) ≡ exportBuffer (exportOf (now (entries .entry)) (length (now (text .entry)))) (now (text .entry)) ⌝ }
+    ensures { λ _. ⌜ now (entry .exit) ≡ exportedOf (exportOf (now (entries .entry)) (length (now (text .entry)))) .entry ⌝ }
+    ensures { λ _. ⌜ now (written .exit) ≡ exportedOf (exportOf (now (entries .entry)) (length (now (text .entry)))) .written ⌝ }
+{
+    let exported = capture_export::export_capture(entries, text);
+    *entry = exported.entry;
+    *written = exported.written;
+    exported.refusal as u64
 }

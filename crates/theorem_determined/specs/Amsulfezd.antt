@@ -6,6 +6,8 @@ use Rattle.amsulfezd.proofs.amsulfezd_replay_trace.Reads as replay-trace-reads
 use Rattle.amsulfezd.proofs.amsulfezd_other_edition.Reads as other-edition-reads
 use Rattle.amsulfezd.proofs.amsulfezd_read_frame.Reads as read-frame-reads
 use Rattle.amsulfezd.proofs.amsulfezd_write_frame.Reads as write-frame-reads
+use Rattle.amsulfezd.proofs.amsulfezd_import_capture.Reads as import-capture-reads
+use Rattle.amsulfezd.proofs.amsulfezd_export_capture.Reads as export-capture-reads
 
 -- `amsulfezd_replay_trace` returns a number and writes: both are fixed, the lent buffer in every byte
 pub amsulfezd-replay-trace :
@@ -33,3 +35,19 @@ pub amsulfezd-write-frame :
     → write-frame-reads.Post κs a r₂ s₂
     → (r₁ ≡ r₂) × (now (s₁ .1 .0) ≡ now (s₂ .1 .0))
 amsulfezd-write-frame κs a r₁ r₂ s₁ s₂ p q = (p .0 ∙ sym (q .0), p .1 ∙ sym (q .1))
+
+-- `amsulfezd_import_capture` returns a number, writes, and leaves two numbers: all are fixed
+pub amsulfezd-import-capture :
+    (κs : _) (a : _) (r₁ r₂ : _) (s₁ s₂ : _)
+    → import-capture-reads.Post κs a r₁ s₁
+    → import-capture-reads.Post κs a r₂ s₂
+    → (r₁ ≡ r₂) × (now (s₁ .1 .0) ≡ now (s₂ .1 .0)) × (now (s₁ .1 .1 .0) ≡ now (s₂ .1 .1 .0)) × (now (s₁ .1 .1 .1 .0) ≡ now (s₂ .1 .1 .1 .0))
+amsulfezd-import-capture κs a r₁ r₂ s₁ s₂ p q = (p .0 ∙ sym (q .0), p .1 .0 ∙ sym (q .1 .0), p .1 .1 .0 ∙ sym (q .1 .1 .0), p .1 .1 .1 ∙ sym (q .1 .1 .1))
+
+-- so does `amsulfezd_export_capture`
+pub amsulfezd-export-capture :
+    (κs : _) (a : _) (r₁ r₂ : _) (s₁ s₂ : _)
+    → export-capture-reads.Post κs a r₁ s₁
+    → export-capture-reads.Post κs a r₂ s₂
+    → (r₁ ≡ r₂) × (now (s₁ .1 .0) ≡ now (s₂ .1 .0)) × (now (s₁ .1 .1 .0) ≡ now (s₂ .1 .1 .0)) × (now (s₁ .1 .1 .1 .0) ≡ now (s₂ .1 .1 .1 .0))
+amsulfezd-export-capture κs a r₁ r₂ s₁ s₂ p q = (p .0 ∙ sym (q .0), p .1 .0 ∙ sym (q .1 .0), p .1 .1 .0 ∙ sym (q .1 .1 .0), p .1 .1 .1 ∙ sym (q .1 .1 .1))

@@ -18,6 +18,10 @@ pub mod CodecDecisions
 pub mod CodecRecords
 pub mod CodecRecordsWritten
 pub mod CodecAnswers
+pub mod CaptureLines
+pub mod CaptureText
+pub mod CaptureImport
+pub mod CaptureExport
 pub mod Station
 pub mod StationClaim
 pub mod StationHold

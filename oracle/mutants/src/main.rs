@@ -1,6 +1,6 @@
 //! Runs generated traces through the oracle and through a copy of it for each planted error, their headers through the call
-//! that moves them, the settings table where the list says so, and the calls on frames for the errors in those, and prints
-//! for each error which run shows it. Status 0: each is shown by the run that the list names.
+//! that moves them, the settings table where the list says so, and the calls on frames and on captures for the errors in those,
+//! and prints for each error which run shows it. Status 0: each is shown by the run that the list names.
 #![forbid(unsafe_code)]
 
 /// The published text writes `log::warn!`.
@@ -9,6 +9,8 @@ extern crate oracle as log;
 #[path = "../list.rs"]
 mod list;
 
+#[path = "../captures.rs"]
+mod captures;
 #[path = "../frames.rs"]
 mod frames;
 
@@ -18,13 +20,17 @@ mod copies {
     include!(concat!(env!("OUT_DIR"), "/index.rs"));
 }
 
+use captures::CAPTURES;
 use frames::FRAMES;
 use list::{By, PLANTED};
+use oracle::captures::compare::{made as made_of_captures, Call};
+use oracle::captures::tries::{parts as parts_of_captures, Try as CaptureTry};
+use oracle::comparison::calls::{first_difference as first_call, shortened, Left as CallLeft, Parts, Try};
 use oracle::comparison::hex;
 use oracle::comparison::run::{first_difference, moves_otherwise, run, Left};
 use oracle::comparison::shorten::shorten;
-use oracle::frames::compare::{first_difference as first_frame, made, shortened, Left as FrameLeft};
-use oracle::frames::tries::{parts, Try};
+use oracle::frames::compare::made as made_of_frames;
+use oracle::frames::tries::{parts as parts_of_frames, Try as FrameTry};
 use oracle::generator::trace;
 use oracle::settings_table::table;
 use oracle::trace::replay_trace;
@@ -41,6 +47,12 @@ pub struct Runs {
 pub struct FrameRuns {
     read: fn(&[u8]) -> u64,
     write: fn(u32, &mut [u8]) -> u64,
+}
+
+/// What is run of a copy of the importer and exporter of captures.
+pub struct CaptureRuns {
+    import: Call,
+    export: Call,
 }
 
 /// The seed of the traces, and how many are tried.
@@ -105,54 +117,87 @@ fn shown_by_table(table: &str, copy: &Runs) -> Option<String> {
     Some(format!("line {}", line + 1))
 }
 
-/// So many frames are made at random.
-const AT_RANDOM: u64 = 100_000;
+/// So many frames, and so many texts and lists of entries, are made at random.
+const FRAMES_AT_RANDOM: u64 = 100_000;
+const CAPTURES_AT_RANDOM: u64 = 20_000;
 
-/// The call that shows an error in the reader or the writer of frames, in words.
-fn shown_by_frames(copy: &FrameRuns) -> Option<String> {
-    let quiet = |tries: &[Try]| std::panic::catch_unwind(|| made(copy.read, copy.write, tries)).ok();
+/// The part of what is tried that shows an error in calls that know no station, and the shortest call that does.
+fn shown_by_calls<T: Try + std::panic::RefUnwindSafe>(
+    parts: Parts<T>,
+    made: &(dyn Fn(&[T]) -> Vec<CallLeft> + std::panic::RefUnwindSafe),
+) -> Option<(&'static str, T)> {
+    let quiet = |tries: &[T]| std::panic::catch_unwind(|| made(tries)).ok();
     // where one panics, each is made alone
-    let calls = |tries: &[Try]| -> Vec<FrameLeft> {
+    let calls = |tries: &[T]| -> Vec<CallLeft> {
         quiet(tries).unwrap_or_else(|| tries.chunks(1).map(|one| quiet(one)?.pop()?).collect())
     };
-    parts(SEED, AT_RANDOM).into_iter().find_map(|(name, tries)| {
-        let one = first_frame(&calls, tries, &mut |_, _| ()).err()?;
-        Some(match shortened(&calls, &one) {
-            Try::Read(frame) if frame.is_empty() => format!("{} | no byte", name),
-            Try::Read(frame) => format!("{} | `{}`", name, hex(&frame)),
-            Try::Write(word, buffer) => format!("{} | word `{:08x}`, room {}", name, word, buffer.len()),
-        })
+    parts.into_iter().find_map(|(name, tries)| {
+        let one = first_call(&calls, tries, &mut |_, _| ()).err()?;
+        Some((name, shortened(&calls, &one)))
     })
 }
 
-/// Prints the table of the errors in the reader and the writer of frames; gives how many were not found.
-fn frame_table() -> usize {
+/// The call that shows an error in the reader or the writer of frames, in words.
+fn shown_by_frames(copy: &FrameRuns) -> Option<String> {
+    let made = |tries: &[FrameTry]| made_of_frames(copy.read, copy.write, tries);
+    let (name, one) = shown_by_calls(parts_of_frames(SEED, FRAMES_AT_RANDOM), &made)?;
+    Some(match one {
+        FrameTry::Read(frame) if frame.is_empty() => format!("{} | no byte", name),
+        FrameTry::Read(frame) => format!("{} | `{}`", name, hex(&frame)),
+        FrameTry::Write(word, buffer) => format!("{} | word `{:08x}`, room {}", name, word, buffer.len()),
+    })
+}
+
+/// The call that shows an error in the importer or the exporter of captures, in words.
+fn shown_by_captures(copy: &CaptureRuns) -> Option<String> {
+    let made = |tries: &[CaptureTry]| made_of_captures(copy.import, copy.export, tries);
+    let (name, one) = shown_by_calls(parts_of_captures(SEED, CAPTURES_AT_RANDOM), &made)?;
+    let (bytes, room) = match &one {
+        CaptureTry::Import(bytes, buffer) => {
+            let text =
+                bytes.iter().flat_map(|byte| std::ascii::escape_default(*byte)).map(char::from).collect::<String>();
+            (text, buffer.len())
+        }
+        CaptureTry::Export(bytes, buffer) => (hex(bytes), buffer.len()),
+    };
+    let lent = if bytes.is_empty() { "nothing".to_string() } else { format!("`{}`", bytes.replace('|', "\\|")) };
+    Some(format!("{} | {}, room {}", name, lent, room))
+}
+
+/// Prints the table of the errors in calls that know no station; gives how many were not found.
+fn table_of<R>(what: &str, planted: &[(&str, &str)], copies: &[R], shown: fn(&R) -> Option<String>) -> usize {
     println!("| No. | Text | Planted | Run | Shown by |");
     println!("|---|---|---|---|---|");
     let mut missed = 0;
-    for (i, ((old, new), copy)) in FRAMES.iter().zip(copies::FRAME_RUNS).enumerate() {
-        let shown = shown_by_frames(copy).unwrap_or_else(|| {
+    for (i, ((old, new), copy)) in planted.iter().zip(copies).enumerate() {
+        let shown = shown(copy).unwrap_or_else(|| {
             missed += 1;
             "NOT FOUND |".to_string()
         });
         println!("| {} | {} | {} | {} |", i + 1, cell(old), cell(new), shown);
     }
     println!();
-    println!("{} planted errors in frames: {} found, {} missed.", FRAMES.len(), FRAMES.len() - missed, missed);
+    println!("{} planted errors in {}: {} found, {} missed.", planted.len(), what, planted.len() - missed, missed);
     missed
 }
 
 fn main() {
     let words: Vec<String> = std::env::args().skip(1).collect();
-    if words == ["frames"] {
-        std::panic::set_hook(Box::new(|_| {}));
-        std::process::exit(i32::from(frame_table() > 0));
-    }
-    if std::env::args().len() > 1 {
-        eprintln!("mutants: usage: mutants [frames]");
-        std::process::exit(2);
-    }
     std::panic::set_hook(Box::new(|_| {}));
+    let missed = match words.iter().map(String::as_str).collect::<Vec<_>>()[..] {
+        [] => trace_table(),
+        ["frames"] => table_of("frames", FRAMES, copies::FRAME_RUNS, shown_by_frames),
+        ["captures"] => table_of("captures", CAPTURES, copies::CAPTURE_RUNS, shown_by_captures),
+        _ => {
+            eprintln!("mutants: usage: mutants [frames | captures]");
+            std::process::exit(2);
+        }
+    };
+    std::process::exit(i32::from(missed > 0));
+}
+
+/// Prints the table of the errors in the station, its traces, headers and settings; gives how many were not found.
+fn trace_table() -> usize {
     let table = table();
     let (mut by_traces, mut by_moves, mut by_table, mut explained, mut missed) = (0, 0, 0, 0, 0);
     println!("| No. | File | Text | Planted | Run | Shown by | Shortest |");
@@ -199,5 +244,5 @@ fn main() {
         explained,
         missed
     );
-    std::process::exit(i32::from(missed > 0));
+    missed
 }

@@ -1,5 +1,4 @@
-//! The proved calls `amsulfezd_replay_trace`, `amsulfezd_read_frame` and `amsulfezd_write_frame` for Rust hosts, and the
-//! records and answers that go with them.
+//! The proved calls on traces, frames and captures for Rust hosts, and the records and answers that go with them.
 //!
 //! | Module | What it holds |
 //! |---|---|
@@ -10,6 +9,7 @@
 //! | [`run`] | what the call returns, and the text that the program `replay` prints |
 //! | `replay` | the calls on traces, safe; only where the static library is linked |
 //! | [`frame`] | the bytes of frames; reading and writing them, safe, only where the static library is linked |
+//! | [`capture`] | a bus monitor's text; importing and exporting it, safe, only where the static library is linked |
 //! | [`number`] | the error of a number that the documents do not have |
 //! | [`words`] | numbers and settings in words |
 //!
@@ -46,6 +46,7 @@
 
 pub mod answer;
 mod bits;
+pub mod capture;
 pub mod frame;
 pub mod number;
 pub mod record;
