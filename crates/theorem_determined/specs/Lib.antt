@@ -26,6 +26,7 @@ pub mod StationCheckPass
 pub mod StationAnswer
 pub mod StationCommand
 pub mod StationPoll
+pub mod Heard
 pub mod TraceHeaders
 pub mod Trace
 pub mod Amsulfezd
