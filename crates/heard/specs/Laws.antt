@@ -10,6 +10,8 @@ use borrow.Table.Steps.{cases}
 use lib.ListN.{length, take, drop, replicate, length-replicate}
 use lib.Dec.{eqb, ltb, lit≤, lit<}
 use Rattle.codec_fields.specs.Fields.{upTo}
+use Rattle.codec_records.specs.Records.{headOf, telegramAt}
+use Rattle.codec_records.specs.Laws.{clock-below}
 use Rattle.codec_telegrams.specs.declared.Telegram.{Telegram}
 use Rattle.codec_telegrams.specs.declared.Telegram.the-variants.{Token, ShortConfirmation, Request, Response}
 use Rattle.heard.specs.declared.LastType.{LastType}
@@ -17,7 +19,7 @@ use Rattle.heard.specs.declared.LastType.the-variants.{Unseen, Seen}
 use Rattle.heard.specs.declared.AddressEntry.{AddressEntry}
 use Rattle.heard.specs.declared.Found.{Found}
 use Rattle.heard.specs.declared.Found.the-variants.{Heard, Never, Refused}
-use Rattle.heard.specs.Heard.{lastAddress, entryLength, mostTimes, heardRefusal, entryOf, noEntry, oneMore, firstClock, newerType, entryAfter, entryPlace, heardFrom, hearOf, Hearing, hearAll, lookupOn, lookupOf}
+use Rattle.heard.specs.Heard.{lastAddress, entryLength, mostTimes, heardRefusal, entryOf, noEntry, oneMore, firstClock, newerType, entryAfter, entryPlace, heardFrom, hearOf, Hearing, hearAll, consumedIn, lookupOn, lookupOf, lookupNumber, summaryNumber, summaryInto}
 use Rattle.heard.specs.Afresh.{sentBy, ofAddress, lastClock, typeAfter, lastResponse, foundIn, afreshOf, Clocked, tableLength, freshTable}
 use Rattle.heard.specs.Places.{EntryFits, written-there, before-stays, behind-stays, changed-long, zeros-unheard}
 
@@ -220,3 +222,26 @@ lookup-afresh hs address clocked =
     rw t
     (ap lookupOn (table-all address (ltb-false lastAddress address t) hs freshTable long (subst EntryFits (sym none) none-fits) clocked ∙ ap (λ (x : AddressEntry). entryAll x (ofAddress address hs)) none)
     ∙ found-all (ofAddress address hs)))
+
+-- What a record consumes has its clock, which is of 48 bits.
+
+-- telegrams after telegrams
+pub clocked-append : (hs more : List Hearing) → Clocked hs → Clocked more → Clocked (hs ++ more)
+clocked-append [] more h m = m
+clocked-append (x ∷ hs) more h m = (h .0, clocked-append hs more (h .1) m)
+
+pub consumed-clocked : (s : List ℕ) (n k : ℕ) → Clocked (consumedIn s n k)
+unfolding consumedIn
+consumed-clocked s n zero = tt
+consumed-clocked s n (suc k) = clocked-append (consumedIn s n k) (record { clock = headOf s .clock; telegram = telegramAt s n k } ∷ []) (consumed-clocked s n k) (clock-below s, tt)
+
+-- without room nothing is shown
+pub summary-no-room : (found : Found) (before : List ℕ) → length before < entryLength → summaryInto found before ≡ before
+unfolding summaryInto summaryNumber
+summary-no-room found before short =
+    cases (eqb (lookupNumber found) 0) (λ t. rw (t, lt-ltb (length before) entryLength short)) (λ t. rw (t, t))
+
+-- nor of an address that is refused
+pub summary-refused : (hs : List Hearing) (address : ℕ) (before : List ℕ) → (heardRefusal address ≡ 0 → ⊥) → summaryInto (afreshOf hs address) before ≡ before
+unfolding summaryInto summaryNumber afreshOf lookupNumber
+summary-refused hs address before refused = let n = ne-eqb (heardRefusal address) 0 refused in rw (n, n, n)

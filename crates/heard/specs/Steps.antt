@@ -1,5 +1,5 @@
 -- What the functions' proofs lean on: an entry's numbers fit, its four stores are its bytes, a tail of the table is back in its place,
--- and one telegram more is heard. Assumes nothing.
+-- and telegrams are heard after telegrams. Assumes nothing.
 use Prim.Native.Nat.{ℕ, zero, suc, _+_, _-_, _*_, _^_, _<_, _≤_}
 use mathlib.Core.Path.{_≡_, refl, sym, ap, _∙_}
 use mathlib.Core.List.{List, [], _∷_, _++_, append-nil}
@@ -102,8 +102,13 @@ unfolding lookupOf
 lookup-there table address was few e =
     rw (few, e, take-all (length table - entryPlace address) (drop (entryPlace address) table) (rw length-drop (le-refl (length table - entryPlace address))))
 
+-- a table fed with telegrams after telegrams
+pub hear-append : (table : List ℕ) (hs more : List Hearing) → hearAll table (hs ++ more) ≡ hearAll (hearAll table hs) more
+unfolding hearAll
+hear-append table [] more = refl
+hear-append table (h ∷ hs) more = hear-append (hearOf table (h .clock) (h .telegram)) hs more
+
 -- one telegram more
 pub hear-more : (table : List ℕ) (hs : List Hearing) (h : Hearing) → hearAll table (hs ++ (h ∷ [])) ≡ hearOf (hearAll table hs) (h .clock) (h .telegram)
 unfolding hearAll
-hear-more table [] h = refl
-hear-more table (g ∷ hs) h = hear-more (hearOf table (g .clock) (g .telegram)) hs h
+hear-more table hs h = hear-append table hs (h ∷ [])

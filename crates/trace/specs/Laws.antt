@@ -166,7 +166,7 @@ module _ {fresh : Station} {trace : List ℕ} {room : ℕ} {given : List Answer}
     fuel = omega (arith, g .begun)
 
     -- the entry's first byte, and what follows it
-    here : drop at trace ≡ getD trace at 0 ∷ drop (at + 1) trace
+    pub here : drop at trace ≡ getD trace at 0 ∷ drop (at + 1) trace
     here = rw (add-one at) (drop-cons trace at 0 some)
 
     -- how much follows it
