@@ -16,7 +16,7 @@ use Rattle.codec_fields.specs.Stores.{bytes-take}
 use Rattle.settings.specs.declared.Parameters.{Parameters}
 use Rattle.settings.specs.declared.Created.{Created}
 use Rattle.settings.specs.declared.Created.the-variants as created
-use Rattle.station.specs.declared.Station.{Station}
+use Rattle.station.specs.Whole.{Station}
 use Rattle.trace_headers.specs.declared.Header.{Header}
 use Rattle.trace_headers.specs.declared.Edition.{Edition}
 use Rattle.trace_headers.specs.declared.Edition.the-variants.{First, Second}

@@ -10,7 +10,7 @@ use Rattle.settings_watchdog.specs.Watchdog.{trial, factorsOf, watchdogTimeOf}
 use Rattle.settings_build.specs.Build.{earlyRefusal, firstRefusal, pairOf, builtAt, buildOf, plainOf}
 use Rattle.ring_addresses.specs.Set.{walk, nearest, betweenOf, addTo, takeOut, keeps, sameSet}
 use Rattle.ring_addresses.specs.Words.{bitOf, wordOf, hasIn}
-use Rattle.ring.specs.Ring.{has, make, claimOf, others, nextOf, prevOf, freshOf, addOf, removeOf, roundOf, lapsOf, passed, witnessOf, candidateOf, polls, gapOf}
+use Rattle.ring.specs.Ring.{Ring, has, make, claimOf, others, nextOf, prevOf, freshOf, addOf, removeOf, roundOf, lapsOf, passed, witnessOf, candidateOf, polls, gapOf}
 use Rattle.codec_fields.specs.Fields.{fieldOf, putOf, zerosOr14, beFrom, loadOf, overOf, storedOf}
 use Rattle.codec_telegrams.specs.Words.{responseStateOf, telegramOf, telegramRefusal, telegramWord}
 use Rattle.codec_decisions.specs.Decisions.{decisionOf, lengthRefusal, decisionRefusal, decisionWord}
@@ -32,8 +32,7 @@ use Rattle.station_command.specs.Command.{onlineOf, offlineOf, passiveOf}
 use Rattle.trace_headers.specs.Headers.{editionOf, lengthOf, headerIn, headerOf, headerRefusal}
 use Rattle.trace.specs.Trace.{TraceStart, Accepted, settingsOf, settingsAt, startedWith, startOf, runFrom, ranOf, replayOn, replayOf, numberOf, written, bufferOf}
 use Rattle.trace.specs.Entries.{recordLength, entryOf}
-use Rattle.ring.specs.declared.Ring.{Ring}
-use Rattle.station.specs.declared.Station.{Station}
+use Rattle.station.specs.Whole.{Station}
 use Rattle.theorem_examples.specs.Table.{TraceParts, leftOn, leftBy, traceBytes, afterEntries, example, example9, aloneStation, example10, neighbourStation, example11, collidedOnce, AllHold, table}
 
 -- two rings are equal by their numbers, which is told by tests (a test computes where the rings' words would be compared bit by bit)

@@ -28,9 +28,9 @@ use Rattle.station.specs.declared.Activity.{Activity}
 use Rattle.station.specs.declared.Activity.the-variants as activity
 use Rattle.station.specs.declared.PassTokenAttempt.the-variants.{First}
 use Rattle.station.specs.declared.State.the-variants.{Offline, ListenToken, PassToken}
-use Rattle.station.specs.declared.Station.{Station}
+use Rattle.station.specs.Whole.{Station}
 use Rattle.station.specs.Parts.{withGap, zeroTime}
-use Rattle.station_answer.specs.declared.Polled.{Polled}
+use Rattle.station_answer.specs.Answer.{Polled}
 use Rattle.station_poll.specs.Poll.{pollOf}
 use Rattle.trace.specs.Entries.{entryOf}
 use Rattle.trace.specs.Trace.{TraceStart, Accepted, Refused, startOf, replayOf}

@@ -25,7 +25,7 @@ use Rattle.codec_answers.specs.declared.Sent.{Sent}
 use Rattle.codec_answers.specs.declared.Sent.the-variants.{Token}
 use Rattle.station.specs.declared.PassTokenAttempt.the-variants.{First}
 use Rattle.station.specs.declared.State.the-variants.{PassToken}
-use Rattle.station.specs.declared.Station.{Station}
+use Rattle.station.specs.Whole.{Station}
 use Rattle.station.specs.Parts.{freshStation, freshCore, withActivity, withGap, withPending, withTokenTimes, withNextApplication, withOnline}
 use Rattle.station.specs.Steps as steps
 use Rattle.station_hear_listen.specs.HearListen as hear

@@ -6,7 +6,7 @@ use mathlib.Core.Path.{_≡_, sym, subst}
 use mathlib.Core.List.{[], _∷_}
 use Rattle.bit_times.specs.declared.Micros.{Micros}
 use Rattle.settings.specs.declared.Parameters.{Parameters}
-use Rattle.ring.specs.declared.Ring.{Ring}
+use Rattle.ring.specs.Ring.{Ring}
 use Rattle.station.specs.declared.PassTokenAttempt.the-variants.{First, Third}
 use Rattle.station.specs.declared.Core.{Core}
 use Rattle.station.specs.Steps.{pauseOf}

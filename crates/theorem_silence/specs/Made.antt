@@ -13,10 +13,9 @@ use Rattle.settings.specs.Settings.{slotTimeOf, tokenLostOf, rotationTimeOf}
 use Rattle.ring_addresses.specs.Set.{walk, nearest, betweenOf, keeps, sameSet}
 use Rattle.ring_addresses.specs.SetLaws.{same-then}
 use Rattle.ring_addresses.specs.Words.{bitOf, wordOf, hasIn}
-use Rattle.ring.specs.declared.Ring.{Ring}
 use Rattle.ring.specs.declared.GapState.{GapState}
 use Rattle.ring.specs.declared.GapState.the-variants.{Waiting, DoPoll}
-use Rattle.ring.specs.Ring.{has, make, freshOf, roundOf, lapsOf, passed, witnessOf, claimOf, addOf, others, nextOf, polls, candidateOf, gapOf}
+use Rattle.ring.specs.Ring.{Ring, has, make, freshOf, roundOf, lapsOf, passed, witnessOf, claimOf, addOf, others, nextOf, polls, candidateOf, gapOf}
 use Rattle.codec_telegrams.specs.declared.Telegram.the-variants as telegram
 use Rattle.codec_telegrams.specs.Words as words
 use Rattle.codec_decisions.specs.Decisions as decisions
@@ -27,7 +26,7 @@ use Rattle.station.specs.declared.PassTokenAttempt.the-variants.{First}
 use Rattle.station.specs.declared.State.{State}
 use Rattle.station.specs.declared.State.the-variants.{PassToken, AwaitStatusResponse}
 use Rattle.station.specs.declared.Core.{Core}
-use Rattle.station.specs.declared.Station.{Station}
+use Rattle.station.specs.Whole.{Station}
 use Rattle.station.specs.Parts.{freshStation, freshCore, withActivity, withGap, withPending, withTokenTimes, withNextApplication, withOnline}
 use Rattle.station.specs.Steps as steps
 use Rattle.station_hear_listen.specs.HearListen as hear
@@ -37,7 +36,7 @@ use Rattle.station_hold.specs.Hold as holding
 use Rattle.station_pass.specs.Pass as passing
 use Rattle.station_await_status.specs.AwaitStatus as status
 use Rattle.station_claim.specs.Claim as claiming
-use Rattle.station_answer.specs.declared.Polled.{Polled}
+use Rattle.station_answer.specs.Answer.{Polled}
 use Rattle.station_answer.specs.Answer as answering
 use Rattle.station_command.specs.Command as commands
 use Rattle.station_poll.specs.Poll as polling

@@ -9,10 +9,9 @@ use Rattle.settings.specs.declared.Parameters.{Parameters}
 use Rattle.settings.specs.Settings.{slotTimeOf}
 use Rattle.ring_addresses.specs.Set.{headOr}
 use Rattle.ring_addresses.specs.SetLaws.{true≢false}
-use Rattle.ring.specs.declared.Ring.{Ring}
 use Rattle.ring.specs.declared.GapState.{GapState}
 use Rattle.ring.specs.declared.GapState.the-variants.{Waiting, DoPoll}
-use Rattle.ring.specs.Ring.{others, nextOf, witnessOf, removeOf}
+use Rattle.ring.specs.Ring.{Ring, others, nextOf, witnessOf, removeOf}
 use Rattle.ring.specs.Laws.{next-is, next-alone, others-witness, others-remove}
 use Rattle.codec_answers.specs.declared.Outcome.the-variants as outcome
 use Rattle.codec_answers.specs.declared.Sent.the-variants as sent
@@ -22,7 +21,7 @@ use Rattle.station.specs.declared.PassTokenAttempt.the-variants.{First, Second,
 use Rattle.station.specs.declared.State.{State}
 use Rattle.station.specs.declared.State.the-variants.{PassToken, CheckTokenPass}
 use Rattle.station.specs.declared.Core.{Core}
-use Rattle.station.specs.declared.RingStep.{RingStep}
+use Rattle.station.specs.Whole.{RingStep}
 use Rattle.station.specs.Parts.{withActivity, withGap}
 use Rattle.station.specs.Steps.{toUseToken, markedAt, sentAt, busyOf, waitedOf, pauseOf, slotExpiredOf, doneOf, transmitOf, ringStepOf}
 use Rattle.station_pass.specs.Pass.{gapAdvanced, destinationOf, passSentOn, passSend, passPollOn, passPoll, passTokenOf}

@@ -10,9 +10,8 @@ use borrow.Author.Tests.{le-leb, lt-leb, le-ltb, lt-ltb, ne-eqb, leb-true, leb-f
 use borrow.Table.Steps.{cases}
 use Rattle.ring_addresses.specs.Set.{up, walk, betweenOf, keeps}
 use Rattle.ring_addresses.specs.SetLaws.{true≢false, walk-ext, walk-nobody}
-use Rattle.ring.specs.declared.Ring.{Ring}
 use Rattle.ring.specs.declared.NextStation.{NextStation}
-use Rattle.ring.specs.Ring.{has, others, firstOf, nextOf, pollsOn, polls, witnessOf}
+use Rattle.ring.specs.Ring.{Ring, has, others, firstOf, nextOf, pollsOn, polls, witnessOf}
 use Rattle.ring.specs.Laws.{SoundRing, next-first, next-other, witness-has}
 
 -- the members are 0, 1, .. k

@@ -12,8 +12,7 @@ use Rattle.bit_times.specs.declared.Micros.{Micros}
 use Rattle.settings.specs.declared.Parameters.{Parameters}
 use Rattle.settings.specs.Settings.{slotTimeOf}
 use Rattle.ring_addresses.specs.SetLaws.{true≢false}
-use Rattle.ring.specs.declared.Ring.{Ring}
-use Rattle.ring.specs.Ring.{others}
+use Rattle.ring.specs.Ring.{Ring, others}
 use Rattle.codec_records.specs.Records.{headOf}
 use Rattle.codec_answers.specs.declared.Outcome.the-variants as outcome
 use Rattle.codec_answers.specs.declared.Sent.{Sent}
@@ -22,8 +21,7 @@ use Rattle.station.specs.declared.PassTokenAttempt.{PassTokenAttempt}
 use Rattle.station.specs.declared.State.{State}
 use Rattle.station.specs.declared.State.the-variants.{PassToken, CheckTokenPass}
 use Rattle.station.specs.declared.Core.{Core}
-use Rattle.station.specs.declared.Station.{Station}
-use Rattle.station.specs.declared.RingStep.{RingStep}
+use Rattle.station.specs.Whole.{Station, RingStep}
 use Rattle.station.specs.Parts.{stateNumber}
 use Rattle.station.specs.Steps.{ongoingOf, busActivityOf, doneOf, ringStepOf}
 use Rattle.station_poll.specs.Poll.{connectedOf, pollOnline, pollInner, acceptedAfter, acceptedPoll, pollOf}

@@ -16,7 +16,7 @@ use Rattle.settings_build.specs.Passes.{address-low, rotation-top, rotation-roo
 use Rattle.settings_build.specs.Finish.{site}
 use Rattle.ring.specs.declared.GapState.{GapState}
 use Rattle.ring.specs.declared.GapState.the-variants.{Waiting, DoPoll}
-use Rattle.station.specs.declared.Station.{Station}
+use Rattle.station.specs.Whole.{Station}
 use Rattle.station.specs.Parts.{freshStation}
 use Rattle.station_hold.specs.Hold.{holdLess, endOf}
 use Rattle.station_hold.specs.Laws.{capped-fits}

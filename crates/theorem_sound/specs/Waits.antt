@@ -27,7 +27,7 @@ use Rattle.codec_answers.specs.declared.Notice.{Notice}
 use Rattle.codec_answers.specs.declared.Notice.the-variants as notice
 use Rattle.station.specs.declared.Activity.{Activity}
 use Rattle.station.specs.declared.Activity.the-variants as activity
-use Rattle.station.specs.declared.Station.{Station}
+use Rattle.station.specs.Whole.{Station}
 use Rattle.station.specs.Parts.{stateNumber, freshStation}
 use Rattle.theorem_sound.specs.Moves.{lists}
 use Rattle.theorem_sound.specs.Sound.{Call, after, clockOf}

@@ -19,10 +19,9 @@ use Rattle.codec_answers.specs.Answers.{answerWord}
 use Rattle.settings.specs.declared.Parameters.{Parameters}
 use Rattle.settings.specs.declared.Created.{Created}
 use Rattle.settings.specs.declared.Created.the-variants as created
-use Rattle.station.specs.declared.Station.{Station}
-use Rattle.station.specs.declared.Started.{Started}
+use Rattle.station.specs.Whole.{Station, Started}
 use Rattle.station.specs.Parts.{freshStation, newStation}
-use Rattle.station_answer.specs.declared.Polled.{Polled}
+use Rattle.station_answer.specs.Answer.{Polled}
 use Rattle.trace.specs.Trace.{settingsOf, settingsAt, TraceStart, Accepted, Refused, startedWith, startOf, Run, ended, answered, runFrom, runOf, ranOf, replayOn, replayOf, numberOf, written, bufferOf}
 use Rattle.trace.specs.Entries.{recordLength, entryOf}
 use Rattle.trace_headers.specs.declared.Header.{Header}

@@ -11,7 +11,7 @@ use Rattle.settings.specs.declared.Created.the-variants as created
 use Rattle.settings_build.specs.Build.{buildOf}
 use Rattle.codec_answers.specs.declared.Answer.{Answer}
 use Rattle.codec_answers.specs.Answers.{answerWord}
-use Rattle.station.specs.declared.Station.{Station}
+use Rattle.station.specs.Whole.{Station}
 use Rattle.station.specs.Parts.{freshStation}
 use Rattle.trace_headers.specs.declared.Header.{Header}
 use Rattle.trace_headers.specs.Headers.{headerLength, headerOf, headerRefusal}
