@@ -29,4 +29,5 @@ pub mod StationPoll
 pub mod Heard
 pub mod TraceHeaders
 pub mod Trace
+pub mod TraceHeard
 pub mod Amsulfezd

@@ -11,10 +11,9 @@ use Rattle.codec_answers.specs.declared.Answer.{Answer}
 use Rattle.settings.specs.declared.Parameters.{Parameters}
 use Rattle.settings.specs.declared.Created.{Created}
 use Rattle.settings.specs.declared.Created.the-variants as created
-use Rattle.station.specs.declared.Station.{Station}
-use Rattle.station.specs.declared.Started.{Started}
+use Rattle.station.specs.Whole.{Station, Started}
 use Rattle.station.specs.Parts.{newStation}
-use Rattle.station_answer.specs.declared.Polled.{Polled}
+use Rattle.station_answer.specs.Answer.{Polled}
 use Rattle.heard.specs.declared.Found.{Found}
 use Rattle.heard.specs.Heard.{entryLength, heardRefusal, Hearing, hearAll, consumedIn, lookupOf, summaryInto}
 use Rattle.heard.specs.Afresh.{Clocked, freshTable}

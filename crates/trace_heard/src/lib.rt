@@ -5,6 +5,7 @@ ghost use mathlib.Core.Path.{_≡_};
 ghost use Prim.Native.Nat.{_≤_, _^_};
 ghost use lib.ListN.{length, drop};
 ghost use Rattle.heard.specs.Heard.{hearAll};
+ghost use Rattle.station.specs.Whole.{stationAt};
 ghost use Rattle.trace_headers.specs.Headers.{headerLength};
 ghost use Rattle.trace.specs.Trace.{roomFor, ranOf, numberOf};
 ghost use Rattle.trace_heard.specs.TraceHeard.{consumedOver, heardNumber, heardInto};
@@ -18,10 +19,16 @@ const ENTRY_LENGTH: usize = 17;
 const TABLE_LENGTH: usize = 2142;
 
 // Answers the entries after the header one by one, from a fresh station, and feeds the table with the telegrams that each consumed.
-fn listen(fresh: Station, applications: u8, trace: &[u8], table: &mut [u8]) -> u64
+fn listen(
+    fresh: Station,
+    links: &mut [u8; 252],
+    applications: u8,
+    trace: &[u8],
+    table: &mut [u8],
+) -> u64
     requires { ⌜ (headerLength (now trace) ≤ length (now trace)) × (length (now trace) ≤ 2 ^ 32) ⌝ }
-    ensures { λ r. ⌜ r ≡ numberOf (ranOf fresh (now (trace .entry)) (roomFor (now (trace .entry)))) ⌝ }
-    ensures { λ _. ⌜ now (table .exit) ≡ hearAll (now (table .entry)) (consumedOver applications (drop (headerLength (now (trace .entry))) (now (trace .entry))) (ranOf fresh (now (trace .entry)) (roomFor (now (trace .entry))) .answers)) ⌝ }
+    ensures { λ r. ⌜ r ≡ numberOf (ranOf (stationAt fresh (now (links .entry))) (now (trace .entry)) (roomFor (now (trace .entry)))) ⌝ }
+    ensures { λ _. ⌜ now (table .exit) ≡ hearAll (now (table .entry)) (consumedOver applications (drop (headerLength (now (trace .entry))) (now (trace .entry))) (ranOf (stationAt fresh (now (links .entry))) (now (trace .entry)) (roomFor (now (trace .entry))) .answers)) ⌝ }
 {
     let mut station = fresh;
     let mut at = trace_headers::header_length(trace);
@@ -34,7 +41,7 @@ fn listen(fresh: Station, applications: u8, trace: &[u8], table: &mut [u8]) -> u
             return entries * 256 + 17;
         }
         let end = begin + length;
-        let polled = trace::answer_entry(station, kind, &trace[begin..end]);
+        let polled = trace::answer_entry(station, links, kind, &trace[begin..end]);
         let answer = polled.answer;
         heard::hear_record(table, &trace[begin..end], applications, answer.consumed);
         station = polled.station;
@@ -62,9 +69,16 @@ pub fn trace_heard(trace: &[u8], address: u8, entry: &mut [u8]) -> u64
                 return 18;
             }
             let header = trace_headers::read_header(trace);
-            let started = Station::new(p, header.applications);
+            let mut links = [127u8; 252];
+            let started = Station::new(p, header.applications, &mut links);
             let mut table = [0u8; TABLE_LENGTH];
-            let number = listen(started.station, header.applications, trace, &mut table);
+            let number = listen(
+                started.station,
+                &mut links,
+                header.applications,
+                trace,
+                &mut table,
+            );
             heard::summary(&table, address, entry);
             number
         }
