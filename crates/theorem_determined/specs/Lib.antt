@@ -1,5 +1,6 @@
--- What is claimed of each contract, then a file for each crate with the claim proved for each of its public calls.
+-- What is claimed of each contract, what a ring's join says, then a file for each crate with the claim proved for each of its public calls.
 pub mod Claim
+pub mod Joins
 pub mod BitTimes
 pub mod SettingsWatchdog
 pub mod Settings

@@ -1,11 +1,10 @@
 -- Determined, for the public calls of ring.
-use Prim.Native.Nat.{ℕ}
 use mathlib.Core.Path.{_≡_, ap, _∙_, sym}
-use mathlib.Core.List.{List, []}
+use mathlib.Core.List.{[]}
 use denote.Ref.{now}
-use Rattle.ring.specs.declared.Head.{Head}
-use Rattle.ring.specs.Ring.{Ring, ringOf}
-use Rattle.theorem_determined.specs.Claim.{Determined}
+use Rattle.ring.specs.Ring.{Ring}
+use Rattle.theorem_determined.specs.Claim.{Determined, DeterminedLent}
+use Rattle.theorem_determined.specs.Joins.{parts-same}
 use Rattle.ring.proofs.next_station_number.Reads as next-station-number-reads
 use Rattle.ring.proofs.fresh.Reads as fresh-reads
 use Rattle.ring.proofs.member.Reads as member-reads
@@ -18,24 +17,10 @@ use Rattle.ring.proofs.remove_station.Reads as remove-station-reads
 use Rattle.ring.proofs.ready_for_ring.Reads as ready-for-ring-reads
 use Rattle.ring.proofs.next_gap_poll.Reads as next-gap-poll-reads
 
--- what of a ring travels by value
-abbrev headOf : Ring → Head
-headOf r = record { laps = r .laps; own = r .own; ready = r .ready }
-
--- one ring has one head and one pair of tables
-pub parts-same : (h k : Head) (l m : List ℕ) → ringOf h l ≡ ringOf k m → (h ≡ k) × (l ≡ m)
-parts-same h k l m e =
-    (ap (λ (r : Ring). headOf r) e, ap (λ (r : Ring). r .links) e)
-
 pub next-station-number : Determined next-station-number-reads.Post
 next-station-number κs a r₁ r₂ s₁ s₂ p q = p ∙ sym q
 
--- `fresh` returns a head and writes: both are fixed, the lent tables in every byte
-pub fresh :
-    (κs : _) (a : _) (r₁ r₂ : _) (s₁ s₂ : _)
-    → fresh-reads.Post κs a r₁ s₁
-    → fresh-reads.Post κs a r₂ s₂
-    → (r₁ ≡ r₂) × (now (s₁ .0) ≡ now (s₂ .0))
+pub fresh : DeterminedLent fresh-reads.Post (λ k s. now (s .0))
 fresh κs a r₁ r₂ s₁ s₂ p q = parts-same r₁ r₂ (now (s₁ .0)) (now (s₂ .0)) (p ∙ sym q)
 
 pub member : Determined member-reads.Post
@@ -47,12 +32,7 @@ next-station κs a r₁ r₂ s₁ s₂ p q = p ∙ sym q
 pub previous-station : Determined previous-station-reads.Post
 previous-station κs a r₁ r₂ s₁ s₂ p q = p ∙ sym q
 
--- so does `witness_token_pass`
-pub witness-token-pass :
-    (κs : _) (a : _) (r₁ r₂ : _) (s₁ s₂ : _)
-    → witness-token-pass-reads.Post κs a r₁ s₁
-    → witness-token-pass-reads.Post κs a r₂ s₂
-    → (r₁ ≡ r₂) × (now (s₁ .1 .0) ≡ now (s₂ .1 .0))
+pub witness-token-pass : DeterminedLent witness-token-pass-reads.Post (λ k s. now (s .1 .0))
 witness-token-pass κs a r₁ r₂ s₁ s₂ p q = parts-same r₁ r₂ (now (s₁ .1 .0)) (now (s₂ .1 .0)) (p ∙ sym q)
 
 -- `claim_token` touches no table
