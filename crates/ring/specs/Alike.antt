@@ -47,7 +47,7 @@ made-alike r own laps ready f m h own′ laps′ ready′ g eo el er eg =
     }
 
 -- sets that agree compare alike
-same-alike : (f f′ g g′ : ℕ → Bool) (n : ℕ) → ((x : ℕ) → x < n → f x ≡ f′ x) → ((x : ℕ) → x < n → g x ≡ g′ x) → sameSet f g n ≡ sameSet f′ g′ n
+pub same-alike : (f f′ g g′ : ℕ → Bool) (n : ℕ) → ((x : ℕ) → x < n → f x ≡ f′ x) → ((x : ℕ) → x < n → g x ≡ g′ x) → sameSet f g n ≡ sameSet f′ g′ n
 unfolding sameSet
 same-alike f f′ g g′ zero p q = refl
 same-alike f f′ g g′ (suc n) p q =

@@ -16,11 +16,12 @@ use Rattle.ring_addresses.specs.Set.{up, down, placeOf, walk, headOr, la
 pub true≢false : true ≡ false → ⊥
 true≢false e = let z : _≡_ {A = ℕ} 0 1 = cc in omega arith
 
-and-left : (a b : Bool) → a && b ≡ true → a ≡ true
+-- both of two that hold together
+pub and-left : (a b : Bool) → a && b ≡ true → a ≡ true
 and-left true b e = refl
 and-left false b e = e
 
-and-right : (a b : Bool) → a && b ≡ true → b ≡ true
+pub and-right : (a b : Bool) → a && b ≡ true → b ≡ true
 and-right true b e = e
 and-right false b e = absurd (true≢false (sym e))
 
