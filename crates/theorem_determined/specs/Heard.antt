@@ -35,5 +35,5 @@ pub summary :
     (κs : _) (a : _) (r₁ r₂ : _) (s₁ s₂ : _)
     → summary-reads.Post κs a r₁ s₁
     → summary-reads.Post κs a r₂ s₂
-    → (r₁ ≡ r₂) × (now (s₁ .2 .0) ≡ now (s₂ .2 .0))
+    → (r₁ ≡ r₂) × (now (s₁ .1 .1 .0) ≡ now (s₂ .1 .1 .0))
 summary κs a r₁ r₂ s₁ s₂ p q = (p .0 ∙ sym (q .0), p .1 ∙ sym (q .1))

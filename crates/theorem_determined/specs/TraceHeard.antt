@@ -8,5 +8,5 @@ pub trace-heard :
     (κs : _) (a : _) (r₁ r₂ : _) (s₁ s₂ : _)
     → trace-heard-reads.Post κs a r₁ s₁
     → trace-heard-reads.Post κs a r₂ s₂
-    → (r₁ ≡ r₂) × (now (s₁ .2 .0) ≡ now (s₂ .2 .0))
+    → (r₁ ≡ r₂) × (now (s₁ .1 .1 .0) ≡ now (s₂ .1 .1 .0))
 trace-heard κs a r₁ r₂ s₁ s₂ p q = (p .0 ∙ sym (q .0), p .1 ∙ sym (q .1))
