@@ -1,5 +1,5 @@
 //! Runs generated traces through the oracle and through a copy of it for each planted error, their headers through the call
-//! that moves them, the settings table where the list says so, and the calls on frames for the errors in those, and prints
+//! that moves them, the call that is asked who was heard, the settings table where the list says so, and the calls on frames for the errors in those, and prints
 //! for each error which run shows it. Status 0: each is shown by the run that the list names.
 #![forbid(unsafe_code)]
 
@@ -21,7 +21,7 @@ mod copies {
 use frames::FRAMES;
 use list::{By, PLANTED};
 use oracle::comparison::hex;
-use oracle::comparison::run::{first_difference, moves_otherwise, run, Left};
+use oracle::comparison::run::{first_difference, hears_otherwise, moves_otherwise, parts_from_oracle, run, Left};
 use oracle::comparison::shorten::shorten;
 use oracle::frames::compare::{first_difference as first_frame, made, shortened, Left as FrameLeft};
 use oracle::frames::tries::{parts, Try};
@@ -29,11 +29,12 @@ use oracle::generator::trace;
 use oracle::settings_table::table;
 use oracle::trace::replay_trace;
 
-/// What is run of a copy: its trace call, the call that moves a header, and its settings table where the error can stand in
-/// that.
+/// What is run of a copy: its trace call, the call that moves a header, the call that is asked who was heard, and its settings
+/// table where the error can stand in that.
 pub struct Runs {
     traces: fn(&[u8], &mut [u8]) -> u64,
     moves: fn(&[u8], &mut [u8]) -> u64,
+    heard: fn(&[u8], u8, &mut [u8]) -> u64,
     table: fn() -> String,
 }
 
@@ -46,6 +47,8 @@ pub struct FrameRuns {
 /// The seed of the traces, and how many are tried.
 const SEED: u64 = 1;
 const TRACES: u64 = 20_000;
+/// Of so many of them it is asked who was heard: each is run for every address.
+const ASKED: u64 = 1_000;
 
 /// A text on one line, for a cell of the table.
 fn cell(text: &str) -> String {
@@ -67,7 +70,7 @@ fn kind_of(expected: &Left, got: &Left) -> &'static str {
     }
 }
 
-/// For each error that traces or moves may show, the trace that does, in words, and how many entries the shortened one has or
+/// For each error that traces, moves or questions may show, the trace that does, in words, and how many entries the shortened one has or
 /// how many bytes were lent.
 fn shown_by_traces() -> Vec<Option<(String, String)>> {
     let mut shown = vec![None; PLANTED.len()];
@@ -77,19 +80,30 @@ fn shown_by_traces() -> Vec<Option<(String, String)>> {
         let expected = run(&replay_trace, &made);
         left.retain(|i| {
             let copy = &copies::RUNS[*i];
-            if PLANTED[*i].by != By::Moves {
+            if !matches!(PLANTED[*i].by, By::Moves | By::Heard) {
                 let got = run(&copy.traces, &made);
                 if let Some(entry) = first_difference(&expected, &got) {
                     let words = format!("trace {}, entry {}: {}", index, entry, kind_of(&expected, &got));
-                    let shortest = shorten(&copy.traces, &made).entries.len();
+                    let differs = |trace: &_| parts_from_oracle(&copy.traces, trace).is_some();
+                    let shortest = shorten(&differs, &made).entries.len();
                     shown[*i] = Some((words, format!("{} entries", shortest)));
                 }
             }
-            if PLANTED[*i].by != By::Traces {
+            if !matches!(PLANTED[*i].by, By::Traces | By::Heard) {
                 if let Some(found) = moves_otherwise(&copy.moves, &made) {
                     let kind = kind_of(&found.expected, &found.got).replace("answers", "writes");
                     let words = format!("trace {}, room for {}: {}", index, found.expected.buffer.len(), kind);
                     shown[*i] = Some((words, format!("{} bytes lent", found.lent.len())));
+                }
+            }
+            // an error that is hidden and stands elsewhere is hidden from the questions by the same reason
+            if PLANTED[*i].file == "heard" && index < ASKED {
+                if let Some(found) = hears_otherwise(&copy.heard, &made) {
+                    let kind = kind_of(&found.expected, &found.got);
+                    let room = found.expected.buffer.len();
+                    let words = format!("trace {}, asked for {}, room for {}: {}", index, found.address, room, kind);
+                    let differs = |trace: &_| hears_otherwise(&copy.heard, trace).is_some();
+                    shown[*i] = Some((words, format!("{} entries", shorten(&differs, &made).entries.len())));
                 }
             }
             shown[*i].is_none()
@@ -154,7 +168,7 @@ fn main() {
     }
     std::panic::set_hook(Box::new(|_| {}));
     let table = table();
-    let (mut by_traces, mut by_moves, mut by_table, mut explained, mut missed) = (0, 0, 0, 0, 0);
+    let (mut by_traces, mut by_moves, mut by_heard, mut by_table, mut explained, mut missed) = (0, 0, 0, 0, 0, 0);
     println!("| No. | File | Text | Planted | Run | Shown by | Shortest |");
     println!("|---|---|---|---|---|---|---|");
     for (i, (error, shown)) in PLANTED.iter().zip(shown_by_traces()).enumerate() {
@@ -171,6 +185,10 @@ fn main() {
                 by_moves += 1;
                 format!("moves | {} | {}", words, shortest)
             }
+            (By::Heard, Some((words, shortest))) => {
+                by_heard += 1;
+                format!("questions | {} | {}", words, shortest)
+            }
             (By::SettingsTable, _) => match shown_by_table(&table, &copies::RUNS[i]) {
                 Some(line) => {
                     by_table += 1;
@@ -184,17 +202,19 @@ fn main() {
             }
             (By::Traces, None) => missing("NOT FOUND by traces".to_string()),
             (By::Moves, None) => missing("NOT FOUND by moves".to_string()),
+            (By::Heard, None) => missing("NOT FOUND by questions".to_string()),
             (By::Nothing(_), Some((words, _))) => missing(format!("{}, though said to be hidden", words)),
         };
         println!("| {} | `{}.rs` | {} | {} | {} |", i + 1, error.file, cell(error.old), cell(error.new), cells);
     }
     println!();
     println!(
-        "{} planted errors: {} found by traces of seed {}, {} by moves of their headers, {} by the settings table, {} explained, {} missed.",
+        "{} planted errors: {} found by traces of seed {}, {} by moves of their headers, {} by questions who was heard, {} by the settings table, {} explained, {} missed.",
         PLANTED.len(),
         by_traces,
         SEED,
         by_moves,
+        by_heard,
         by_table,
         explained,
         missed
