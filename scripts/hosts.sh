@@ -193,6 +193,7 @@ mkdir -p "$built"
 
 test_c test faulty replay_trace other_edition
 test_c test_frames faulty_frames read_frame write_frame
+test_c test_heard faulty_heard trace_heard
 test_header
 test_stack
 test_c_example
