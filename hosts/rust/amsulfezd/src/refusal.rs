@@ -33,6 +33,7 @@ pub enum Refusal {
     EndByte = 23,
     AddressExtension = 24,
     GapRoom = 25,
+    AskedAddress = 26,
     FunctionCode = 34,
 }
 
@@ -63,6 +64,7 @@ pub const ALL: &[Refusal] = &[
     Refusal::EndByte,
     Refusal::AddressExtension,
     Refusal::GapRoom,
+    Refusal::AskedAddress,
     Refusal::FunctionCode,
 ];
 
@@ -106,6 +108,7 @@ impl Refusal {
             Refusal::EndByte => "end byte",
             Refusal::AddressExtension => "address extension bit",
             Refusal::GapRoom => "rotation with no room for a gap poll",
+            Refusal::AskedAddress => "who was heard: an address above 125",
             Refusal::FunctionCode => {
                 "top bit of the function code set; to be written, any other request"
             }
@@ -115,6 +118,11 @@ impl Refusal {
     /// Whether frames alone are refused so: no trace ends and no entry is answered with it.
     pub fn is_of_frames(self) -> bool {
         matches!(self.number(), 19..=24 | 34)
+    }
+
+    /// Whether a trace that is replayed, or one of its entries, can be refused so.
+    pub fn is_of_replays(self) -> bool {
+        !self.is_of_frames() && self != Refusal::AskedAddress
     }
 
     /// What the documents ask for instead, where the words alone do not say it.
