@@ -9,6 +9,7 @@ mod collisions;
 mod editions;
 mod fine_points;
 mod gap_room;
+mod heard;
 mod night;
 mod refusals;
 mod ring;
@@ -52,10 +53,11 @@ fn stories() -> Vec<Story> {
     all.extend(refusals::stories());
     all.extend(gap_room::headers());
     all.extend(editions::stories());
+    all.extend(heard::stories());
     all
 }
 
-/// The files of a story: path and content. Few stories have notes.
+/// The files of a story: path and content. Few stories have notes, and few say who was heard.
 fn files(folder: &Path, story: &Story) -> Vec<(PathBuf, Vec<u8>)> {
     let path = |ending: &str| folder.join(format!("{}.{}", story.name, ending));
     let mut files = vec![
@@ -66,6 +68,10 @@ fn files(folder: &Path, story: &Story) -> Vec<(PathBuf, Vec<u8>)> {
     let notes = story.notes();
     if !notes.is_empty() {
         files.push((path("notes"), notes.into_bytes()));
+    }
+    let heard = story.heard_text();
+    if !heard.is_empty() {
+        files.push((path("heard"), heard.into_bytes()));
     }
     files
 }
