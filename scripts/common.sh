@@ -253,3 +253,11 @@ answers_of_library() {
     c_host target/hosts/c/replay_file hosts/c/replay_file.c
     "${emulator[@]}" target/hosts/c/replay_file "$trace"
 }
+
+# Prints when each address was heard in a trace, as hosts/c/heard_file.c does.
+heard_by_library() {
+    build_staticlib
+    need_c_compiler
+    c_host target/hosts/c/heard_file hosts/c/heard_file.c
+    "${emulator[@]}" target/hosts/c/heard_file "$trace"
+}
