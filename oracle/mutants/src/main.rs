@@ -48,7 +48,7 @@ pub struct FrameRuns {
 const SEED: u64 = 1;
 const TRACES: u64 = 20_000;
 /// Of so many of them it is asked who was heard: each is run for every address.
-const ASKED: u64 = 1_000;
+const ASKED: u64 = 300;
 
 /// A text on one line, for a cell of the table.
 fn cell(text: &str) -> String {
@@ -102,7 +102,7 @@ fn shown_by_traces() -> Vec<Option<(String, String)>> {
                     let kind = kind_of(&found.expected, &found.got);
                     let room = found.expected.buffer.len();
                     let words = format!("trace {}, asked for {}, room for {}: {}", index, found.address, room, kind);
-                    let differs = |trace: &_| hears_otherwise(&copy.heard, trace).is_some();
+                    let differs = |trace: &_| found.differs_on(&copy.heard, trace);
                     shown[*i] = Some((words, format!("{} entries", shorten(&differs, &made).entries.len())));
                 }
             }

@@ -96,7 +96,7 @@ pub fn compare_traces(calls: Calls, seed: u64, count: u64) -> (String, bool) {
             return (format!("traces: {}: the header moves otherwise\n{}", at, describe_move(&found)), false);
         }
         if let Some(found) = hears_otherwise(calls.trace_heard, &made) {
-            let shortest = shorten(&|trace| hears_otherwise(calls.trace_heard, trace).is_some(), &made);
+            let shortest = shorten(&|trace| found.differs_on(calls.trace_heard, trace), &made);
             let said = describe_question(calls.trace_heard, &shortest, found);
             let at = format!("seed {}, trace {}", seed, index);
             return (format!("traces: {}: an address was heard otherwise\n{}", at, said), false);

@@ -103,11 +103,24 @@ pub struct Question {
     pub got: Left,
 }
 
-/// The first question on this trace on which a call parts from the oracle, if it does. The oracle runs the trace once.
+impl Question {
+    /// Whether the call parts from the oracle on another trace, asked the same.
+    pub fn differs_on(&self, ask: Ask, trace: &Trace) -> bool {
+        let asked = (self.address, self.expected.buffer.len());
+        first_question(ask, trace, &[asked]).is_some()
+    }
+}
+
+/// The first question on this trace on which a call parts from the oracle, if it does.
 pub fn hears_otherwise(ask: Ask, trace: &Trace) -> Option<Question> {
+    first_question(ask, trace, &questions())
+}
+
+/// The same of these addresses, each with its room. The oracle runs the trace once.
+fn first_question(ask: Ask, trace: &Trace, questions: &[(u8, usize)]) -> Option<Question> {
     let bytes = trace.bytes();
     let run = summarize(&bytes);
-    questions().into_iter().find_map(|(address, room)| {
+    questions.iter().find_map(|&(address, room)| {
         let expected = run_on(&|_, entry| asked(&run, address, entry), &bytes, room, trace.fill);
         let got = run_on(&|trace, entry| ask(trace, address, entry), &bytes, room, trace.fill);
         (expected != got).then_some(Question { address, expected, got })
