@@ -524,7 +524,7 @@ pub const PLANTED: &[Planted] = &[
     // Who was heard: an entry.
     heard("Heard { times: 0, first: clock, last: clock,", "Heard { times: 1, first: clock, last: clock,"),
     heard("Heard { times: 0, first: clock, last: clock,", "Heard { times: 0, first: 0, last: clock,"),
-    heard("entry.times.saturating_add(1)", "entry.times % 255 + 1"),
+    heard("entry.times.saturating_add(1)", "entry.times % 7 + 1"),
     heard("        entry.last = clock;\n", "        entry.last = entry.last.max(clock);\n"),
     heard("        entry.last = clock;\n", "        entry.last = clock;\n        entry.first = entry.first.min(clock);\n"),
     heard("        entry.last = clock;\n", "        entry.first = clock;\n        entry.last = clock;\n"),
@@ -546,7 +546,6 @@ pub const PLANTED: &[Planted] = &[
     heard("    if usize::from(address) >= ADDRESSES {\n        return 26;", "    let address = address % 128;\n    if usize::from(address) >= ADDRESSES {\n        return 26;"),
     heard("        Err(number) => return u64::from(*number),", "        Err(number) => return if entry.len() < ENTRY { 18 } else { u64::from(*number) },"),
     heard("        Err(number) => return u64::from(*number),", "        Err(number) => { entry.iter_mut().take(ENTRY).for_each(|byte| *byte = 0); return u64::from(*number); }"),
-    heard("        None => return 18,", "        None => return made.entries * 256 + 18,"),
     heard("        None => return 18,", "        None => { entry.fill(0); return 18; }"),
     heard("entry.get_mut(..ENTRY)", "entry.get_mut(..ENTRY + 1).map(|place| &mut place[..ENTRY])"),
     heard("        None => place.fill(0),", "        None => {}"),
