@@ -5,7 +5,6 @@ use mathlib.Core.Bool.{cond}
 use lib.ListN.{length, take, drop}
 use lib.Dec.{eqb, ltb}
 use Rattle.codec_fields.specs.Fields.{loadOf, lowBytes}
-use Rattle.codec_telegrams.specs.declared.ResponseState.{ResponseState}
 use Rattle.codec_telegrams.specs.declared.Telegram.{Telegram}
 use Rattle.codec_telegrams.specs.declared.Telegram.the-variants.{Token, ShortConfirmation, Request, Response}
 use Rattle.codec_telegrams.specs.Words.{responseNumber, responseStateOf}

@@ -1,13 +1,13 @@
 -- A table that was fed with telegrams says what is worked out from them afresh (`lookup-afresh`). Assumes nothing.
-use Prim.Native.Nat.{ℕ, zero, suc, _+_, _-_, _*_, _^_, _<_, _≤_}
+use Prim.Native.Nat.{ℕ, zero, suc, _+_, _^_, _<_, _≤_}
 use mathlib.Core.Path.{_≡_, refl, sym, ap, _∙_, subst}
 use mathlib.Core.List.{List, [], _∷_, _++_}
-use mathlib.Core.Bool.{Bool, true, false, cond}
+use mathlib.Core.Bool.{Bool, cond}
 use native.Mathlib.Omega.{arith}
 use native.Mathlib.Nat.{add-zero, zero-add, le-refl}
-use borrow.Author.Tests.{ltb-true, ltb-false, lt-ltb, le-ltb, eqb-true, eqb-false, eq-eqb, ne-eqb}
+use borrow.Author.Tests.{ltb-true, ltb-false, lt-ltb, le-ltb, eqb-true, eqb-false, ne-eqb}
 use borrow.Table.Steps.{cases}
-use lib.ListN.{length, take, drop, replicate, length-replicate}
+use lib.ListN.{length, drop, length-replicate}
 use lib.Dec.{eqb, ltb, lit≤, lit<}
 use Rattle.codec_fields.specs.Fields.{upTo}
 use Rattle.codec_records.specs.Records.{headOf, telegramAt}
@@ -18,7 +18,6 @@ use Rattle.heard.specs.declared.LastType.{LastType}
 use Rattle.heard.specs.declared.LastType.the-variants.{Unseen, Seen}
 use Rattle.heard.specs.declared.AddressEntry.{AddressEntry}
 use Rattle.heard.specs.declared.Found.{Found}
-use Rattle.heard.specs.declared.Found.the-variants.{Heard, Never, Refused}
 use Rattle.heard.specs.Heard.{lastAddress, entryLength, mostTimes, heardRefusal, entryOf, noEntry, oneMore, firstClock, newerType, entryAfter, entryPlace, heardFrom, hearOf, Hearing, hearAll, consumedIn, lookupOn, lookupOf, lookupNumber, summaryNumber, summaryInto}
 use Rattle.heard.specs.Afresh.{sentBy, ofAddress, lastClock, typeAfter, lastResponse, foundIn, afreshOf, Clocked, tableLength, freshTable}
 use Rattle.heard.specs.Places.{EntryFits, written-there, before-stays, behind-stays, changed-long, zeros-unheard}

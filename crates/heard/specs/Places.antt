@@ -1,20 +1,19 @@
 -- Entries in a table: one that is written is read back, the others stay; and a table of zeros has none. Assumes nothing.
-use Prim.Native.Nat.{ℕ, zero, suc, _+_, _-_, _*_, _^_, _<_, _≤_}
-use mathlib.Core.Path.{_≡_, refl, sym, ap, _∙_, subst}
-use mathlib.Core.List.{List, [], _∷_, _++_}
-use mathlib.Core.Bool.{true, false}
+use Prim.Native.Nat.{ℕ, zero, suc, _+_, _-_, _^_, _<_, _≤_}
+use mathlib.Core.Path.{_≡_, refl, sym, ap, _∙_}
+use mathlib.Core.List.{List, _++_}
 use native.Mathlib.Omega.{arith}
 use native.Mathlib.Nat.{sub-zero}
 use borrow.Author.Tests.{le-ltb}
 use borrow.Table.Steps.{cases}
 use lib.ListN.{length, take, drop, replicate, length-append, length-drop, take-append-drop}
-use lib.Seq.{length-take-le, take-append-le, drop-append-le, drop-at, drop-drop, drop-nil, take-nil}
+use lib.Seq.{length-take-le, take-append-le, drop-append-le, drop-at, drop-drop}
 use lib.Dec.{lit≤, lit<}
-use Rattle.codec_fields.specs.Fields.{hasRoom, loadOf, be, beFrom, lowBytes}
+use Rattle.codec_fields.specs.Fields.{hasRoom, loadOf, be, beFrom}
 use Rattle.codec_fields.specs.Laws.{be-low}
 use Rattle.codec_fields.specs.Stores.{load-room}
 use Rattle.codec_telegrams.specs.declared.ResponseState.the-variants.{Slave, MasterNotReady, MasterWithoutToken, MasterInRing}
-use Rattle.codec_telegrams.specs.Words.{responseNumber, responseStateOf}
+use Rattle.codec_telegrams.specs.Words.{responseStateOf}
 use Rattle.codec_telegrams.specs.Laws.{state-below}
 use Rattle.heard.specs.declared.LastType.{LastType}
 use Rattle.heard.specs.declared.LastType.the-variants.{Unseen, Seen}

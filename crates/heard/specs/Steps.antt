@@ -1,12 +1,11 @@
 -- What the functions' proofs lean on: an entry's numbers fit, its four stores are its bytes, a tail of the table is back in its place,
 -- and telegrams are heard after telegrams. Assumes nothing.
-use Prim.Native.Nat.{ℕ, zero, suc, _+_, _-_, _*_, _^_, _<_, _≤_}
+use Prim.Native.Nat.{ℕ, _+_, _-_, _*_, _^_, _<_, _≤_}
 use mathlib.Core.Path.{_≡_, refl, sym, ap, _∙_}
 use mathlib.Core.List.{List, [], _∷_, _++_, append-nil}
-use mathlib.Core.Bool.{Bool, true, false, cond}
 use native.Mathlib.Omega.{arith}
 use native.Mathlib.Nat.{le-refl}
-use borrow.Author.Tests.{lt-ltb, le-ltb}
+use borrow.Author.Tests.{le-ltb}
 use borrow.Table.Steps.{cases}
 use borrow.Rule.Slice.PartMut.{putMid}
 use lib.ListN.{length, take, drop, length-drop, drop-of-length-le}
@@ -21,7 +20,6 @@ use Rattle.codec_fields.specs.Stores.{room-of, load-below, stored-room, store-n
 use Rattle.heard.specs.declared.LastType.{LastType}
 use Rattle.heard.specs.declared.LastType.the-variants.{Seen}
 use Rattle.heard.specs.declared.AddressEntry.{AddressEntry}
-use Rattle.heard.specs.declared.Found.{Found}
 use Rattle.heard.specs.declared.Found.the-variants.{Never}
 use Rattle.heard.specs.Heard.{lastAddress, heardRefusal, entryOf, entryInto, entryAfter, entryPlace, heardFrom, hearOf, Hearing, hearAll, lookupOn, lookupOf}
 

@@ -1,5 +1,5 @@
 -- The proof of request P7's statement: the run over a whole trace, taken apart into entries. Assumes nothing.
-use Prim.Native.Nat.{ℕ, suc, _+_, _-_, _*_, _<_, _≤_}
+use Prim.Native.Nat.{ℕ, _+_, _-_, _*_, _≤_}
 use mathlib.Core.Path.{_≡_, refl, sym, ap, _∙_}
 use mathlib.Core.List.{List, [], _∷_, _++_, append-assoc}
 use mathlib.Core.Logic.{_⊎_, inl, inr}
@@ -13,8 +13,8 @@ use Rattle.heard.specs.declared.Found.{Found}
 use Rattle.heard.specs.Heard.{lastAddress, entryLength, heardRefusal, entryBytes, entryInto, Hearing, consumedIn, lookupNumber, shownOf, summaryNumber, summaryInto}
 use Rattle.heard.specs.Afresh.{ofAddress, foundIn, afreshOf}
 use Rattle.trace_headers.specs.Headers.{headerLength, headerOf}
-use Rattle.trace.specs.Entries.{recordLength, entryOf}
-use Rattle.trace.specs.Trace.{Accepted, startOf, Run, runOf, ranOf, replayOf, numberOf, roomFor, wholeReplay, wholeNumber, wholeNumberOn}
+use Rattle.trace.specs.Entries.{recordLength}
+use Rattle.trace.specs.Trace.{Accepted, startOf, runOf, ranOf, numberOf, roomFor, wholeReplay, wholeNumber, wholeNumberOn}
 use Rattle.trace.specs.Laws.{replay-started}
 use Rattle.trace_heard.specs.TraceHeard.{consumedOver, heardIn, foundAfter, heardNumber, heardInto, heardIntoOn}
 use Rattle.theorem_every_trace.specs.Statement.{Entry, Whole, laid, along, Cut, Stops, empty, cut, full}

@@ -121,7 +121,8 @@ bufferOf r before = written (r .answers) ++ drop (8 * length (r .answers)) befor
 abbrev pub roomFor : List ℕ → ℕ
 roomFor trace = answerLength * length trace
 
--- the replay of a trace with room for every answer. It ends with 0 or 17 (that it does not end with 18 is `whole-ending` of Laws)
+-- the replay of a trace with room for every answer. It ends with 0 or 17 where a station
+-- starts (that it does not end with 18 is `every-summary` of theorem_heard)
 unfoldable pub wholeReplay : List ℕ → Replay
 wholeReplay trace = replayOf trace (roomFor trace)
 

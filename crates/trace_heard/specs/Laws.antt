@@ -1,5 +1,5 @@
 -- The loop over a trace's entries with a table beside the station, turn by turn; and the call's ends. Assumes nothing.
-use Prim.Native.Nat.{ℕ, suc, _+_, _-_, _*_, _^_, _<_, _≤_}
+use Prim.Native.Nat.{ℕ, _+_, _-_, _*_, _^_, _<_, _≤_}
 use mathlib.Core.Path.{_≡_, refl, sym, ap, _∙_}
 use mathlib.Core.List.{List, [], _∷_, _++_}
 use native.Mathlib.Omega.{arith}
@@ -9,13 +9,12 @@ use lib.ListN.{length, getD, take, drop, length-drop}
 use lib.Seq.{drop-drop}
 use Rattle.codec_answers.specs.declared.Answer.{Answer}
 use Rattle.settings.specs.declared.Parameters.{Parameters}
-use Rattle.settings.specs.declared.Created.{Created}
 use Rattle.settings.specs.declared.Created.the-variants as created
 use Rattle.station.specs.Whole.{Station, Started}
 use Rattle.station.specs.Parts.{newStation}
 use Rattle.station_answer.specs.Answer.{Polled}
 use Rattle.heard.specs.declared.Found.{Found}
-use Rattle.heard.specs.Heard.{entryLength, heardRefusal, Hearing, hearAll, consumedIn, lookupOf, summaryInto}
+use Rattle.heard.specs.Heard.{entryLength, heardRefusal, hearAll, consumedIn, lookupOf, summaryInto}
 use Rattle.heard.specs.Afresh.{Clocked, freshTable}
 use Rattle.heard.specs.Steps.{hear-append}
 use Rattle.heard.specs.Laws.{clocked-append, consumed-clocked, summary-no-room, summary-refused, lookup-afresh}

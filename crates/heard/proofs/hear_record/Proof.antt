@@ -5,7 +5,6 @@ use native.Mathlib.Omega.{arith}
 use native.Mathlib.Numerals.{add-one}
 use borrow.Author.Needs.{needs}
 use lib.ListN.{length}
-use Rattle.codec_records.specs.Records.{headOf}
 use Rattle.heard.specs.Heard.{hearAll, consumedIn}
 use Rattle.heard.specs.Steps.{hear-more}
 use Rattle.heard.proofs.hear_record.Statement.{statement}
