@@ -640,6 +640,8 @@ static inline const char *amsulfezd_refusal_words(unsigned number)
         return "address extension bit";
     case AMSULFEZD_REFUSAL_GAP_ROOM:
         return "rotation with no room for a gap poll";
+    case AMSULFEZD_REFUSAL_ASKED_ADDRESS:
+        return "who was heard: an address above 125";
     case AMSULFEZD_REFUSAL_CAPTURE_LINE:
         return "a line that is not a time, one space, a frame in pairs of hex digits and a line feed, or has bytes after its frame";
     case AMSULFEZD_REFUSAL_CAPTURE_TIME:
