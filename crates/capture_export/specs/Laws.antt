@@ -256,7 +256,7 @@ module _ {s before text : List ℕ} {at index : ℕ} (p : Lined s before text at
 
 -- An entry
 
-entry-small : (entries : List ℕ) (room : ℕ) → length (entryFitted entries room .bytes) ≤ room
+pub entry-small : (entries : List ℕ) (room : ℕ) → length (entryFitted entries room .bytes) ≤ room
 unfolding entryFitted
 entry-small [] room = omega arith
 entry-small (kind ∷ rest) room =

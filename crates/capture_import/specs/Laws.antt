@@ -252,7 +252,7 @@ unfolding entriesOf
 entries-more p older = refl
 
 -- entries have the bytes of the older ones and of the newest
-entries-length : (p : Poll) (older : List Poll) → length (entriesOf (p ∷ older)) ≡ length (entriesOf older) + (15 + 4 * length (p .telegrams))
+pub entries-length : (p : Poll) (older : List Poll) → length (entriesOf (p ∷ older)) ≡ length (entriesOf older) + (15 + 4 * length (p .telegrams))
 unfolding entriesOf
 entries-length p older = length-append (entriesOf older) (entryBytes p) ∙ rw (entry-length p)
 

@@ -1,19 +1,18 @@
 -- What an import writes: entries that a trace accepts, within the room, over bytes that otherwise stay. The theorems have their
 -- statements here. Assumes nothing.
-use Prim.Native.Nat.{ℕ, zero, suc, _+_, _*_, _^_, _<_, _≤_}
-use mathlib.Core.Path.{_≡_, refl, sym, ap, _∙_, subst}
+use Prim.Native.Nat.{ℕ, zero, suc, _+_, _^_, _<_, _≤_}
+use mathlib.Core.Path.{_≡_, refl, sym, subst}
 use mathlib.Core.List.{List, [], _∷_, _++_, append-nil, append-assoc}
-use mathlib.Core.Bool.{Bool, true, false, cond, not, _&&_}
+use mathlib.Core.Bool.{Bool, true, false, not, _&&_}
 use native.Mathlib.Omega.{arith}
 use borrow.Author.Tests.{ltb-true, ltb-false, eqb-true, eqb-false}
 use borrow.Table.Steps.{cases}
-use lib.ListN.{length, getD, take, drop, length-append}
-use lib.Seq.{take-at, drop-at, getD-append-seam}
-use lib.Dec.{eqb, ltb, lit≤, lit<}
+use lib.ListN.{length, take, drop}
+use lib.Seq.{take-at, drop-at}
+use lib.Dec.{eqb, ltb, lit<}
 use Rattle.codec_fields.specs.Fields.{Bytes}
 use Rattle.codec_fields.specs.Laws.{never}
 use Rattle.codec_telegrams.specs.declared.Telegram.{Telegram}
-use Rattle.codec_telegrams.specs.declared.Telegram.the-variants.{ShortConfirmation}
 use Rattle.codec_telegrams.specs.Words.{TelegramFits}
 use Rattle.codec_frames.specs.declared.FrameRead.{FrameRead}
 use Rattle.codec_frames.specs.declared.FrameRead.the-variants as frame
@@ -24,7 +23,7 @@ use Rattle.codec_records_written.specs.Written.{round-trip}
 use Rattle.capture_lines.specs.declared.LineRead.{LineRead}
 use Rattle.capture_lines.specs.declared.LineRead.the-variants.{NotBuilt, Refused, Accepted}
 use Rattle.capture_lines.specs.Lines.{clockLimit, digitOf, isHex, digitsAt, afterDigits, decimal, pairsAt, afterPairs, some, begins, zeroDigit, isEnd, isTime, afterTime, isBuilt, saidOf, lineOf, linesOf, space}
-use Rattle.capture_import.specs.Import.{Poll, headOf, declines, telegramOf, pollBytes, entryBytes, entriesOf, newPoll, withTelegram, heardAfter, pollsAfter, lastTime, lastCount, timeRefusal, orElse, lineRefusal, importFrom, importOf, bufferOf}
+use Rattle.capture_import.specs.Import.{Poll, headOf, declines, telegramOf, pollBytes, entryBytes, entriesOf, heardAfter, pollsAfter, lastTime, lastCount, timeRefusal, lineRefusal, importFrom, importOf, bufferOf}
 use Rattle.capture_import.specs.Laws.{poll-length, Good, heard-good}
 use Rattle.theorem_frames.specs.RoundTrip.{read-fits}
 
@@ -55,6 +54,16 @@ AllFit (t ∷ ts) = TelegramFits t × AllFit ts
 abbrev pub Fit : List Poll → Type 0
 Fit [] = Unit {0}
 Fit (p ∷ older) = (p .time < 2 ^ 48) × AllFit (p .telegrams) × Fit older
+
+-- a time above that of the newest poll, if there is one
+abbrev pub Above : ℕ → List Poll → Type 0
+Above time [] = Unit {0}
+Above time (p ∷ older) = p .time < time
+
+-- polls, the newest first, whose times rise from each to the next
+abbrev pub Rise : List Poll → Type 0
+Rise [] = Unit {0}
+Rise (p ∷ older) = Above (p .time) older × Rise older
 
 all-fit : (ts : List Telegram) → AllFit ts → (j : ℕ) → j < length ts → TelegramFits (telegramOf ts j)
 all-fit [] f j h = absurd (omega arith)
@@ -149,9 +158,21 @@ heard-fit (p ∷ older) time t fit clock h =
     (λ a. rw a (fit .0, one-more (p .telegrams) t (fit .1) h, fit .2))
     (λ a. rw a (clock, (h, tt), fit))
 
+-- polls after a telegram whose time is not refused
+heard-rise : (polls : List Poll) (time : ℕ) (t : Telegram) → Rise polls → timeRefusal (lastTime polls) (lastCount polls) time ≡ 0 → Rise (heardAfter polls time t)
+unfolding heardAfter timeRefusal
+heard-rise [] time t rise ok = (tt, tt)
+heard-rise (p ∷ older) time t rise ok =
+    cases (eqb time (p .time))
+    (λ a. rw a rise)
+    (λ a.
+    cases (ltb time (p .time))
+    (λ b. never 31 (rw b at ok))
+    (λ b. rw a (omega (arith, eqb-false time (p .time) a, ltb-false time (p .time) b), rise)))
+
 -- what an import holds of its polls
 abbrev pub Holds : ℕ → List Poll → Type 0
-Holds room polls = Good polls × Fit polls × (length (entriesOf polls) ≤ room)
+Holds room polls = Good polls × Fit polls × Rise polls × (length (entriesOf polls) ≤ room)
 
 line-holds : (room : ℕ) (polls : List Poll) (l : List ℕ) (said : LineRead) → lineOf l ≡ said → lineRefusal polls said room ≡ 0 → Holds room polls → Holds room (pollsAfter polls said)
 unfolding lineRefusal
@@ -168,6 +189,7 @@ line-holds room polls l (Accepted time t used) says ok h =
     (λ b. (
       heard-good polls time t (h .0) (eqb-true number 0 a),
       heard-fit polls time t (h .1) (fits .0) (fits .1),
+      heard-rise polls time t (h .2) (eqb-true number 0 a),
       ltb-false room (length (entriesOf (heardAfter polls time t))) b,
     )))
     (λ a. absurd (eqb-false number 0 a (rw a at ok)))
@@ -183,7 +205,7 @@ lines-hold room polls before (l ∷ ls) h =
 
 pub import-holds : (text : List ℕ) (room : ℕ) → Holds room (importOf text room .polls)
 unfolding importOf entriesOf
-import-holds text room = lines-hold room [] 0 (linesOf text) (tt, tt, omega arith)
+import-holds text room = lines-hold room [] 0 (linesOf text) (tt, tt, tt, omega arith)
 
 -- Every import, of an accepted capture or of the lines before a refused one, gives entries that a trace accepts: none is cut, and
 -- each record's refusal is 0
@@ -192,7 +214,11 @@ imported-accepted text room = let h = import-holds text room in entries-accepted
 
 -- They have room
 pub imported-within : (text : List ℕ) (room : ℕ) → length (entriesOf (importOf text room .polls)) ≤ room
-imported-within text room = import-holds text room .2
+imported-within text room = import-holds text room .3
+
+-- bytes over others: they stand at the start, and past them is what was there
+pub stands : (bytes before : List ℕ) → (take (length bytes) (bytes ++ drop (length bytes) before) ≡ bytes) × (drop (length bytes) (bytes ++ drop (length bytes) before) ≡ drop (length bytes) before)
+stands bytes before = (take-at bytes (drop (length bytes) before) (length bytes) refl, drop-at bytes (drop (length bytes) before) (length bytes) refl)
 
 -- The call leaves them at the start of the caller's slice, and every byte past them has the value that it had, on refusals too
 pub imported-stands :
@@ -200,6 +226,4 @@ pub imported-stands :
     → let i = importOf text (length before) in
     (take (length (entriesOf (i .polls))) (bufferOf i before) ≡ entriesOf (i .polls)) × (drop (length (entriesOf (i .polls))) (bufferOf i before) ≡ drop (length (entriesOf (i .polls))) before)
 unfolding bufferOf
-imported-stands text before =
-    let e = entriesOf (importOf text (length before) .polls) in
-    (take-at e (drop (length e) before) (length e) refl, drop-at e (drop (length e) before) (length e) refl)
+imported-stands text before = stands (entriesOf (importOf text (length before) .polls)) before

@@ -1,22 +1,21 @@
 -- An export after an import gives the lines back, without those that P1 cannot write. The theorems have their statements here.
 -- Assumes nothing.
-use Prim.Native.Nat.{ℕ, zero, suc, _+_, _-_, _*_, _^_, _<_, _≤_}
-use mathlib.Core.Path.{_≡_, refl, sym, ap, _∙_, subst}
+use Prim.Native.Nat.{ℕ, zero, suc, _+_, _-_, _^_, _<_, _≤_}
+use mathlib.Core.Path.{_≡_, refl, sym, ap, _∙_}
 use mathlib.Core.List.{List, [], _∷_, _++_, append-nil, append-assoc}
-use mathlib.Core.Bool.{Bool, true, false, cond, not}
+use mathlib.Core.Bool.{true, false, cond}
 use native.Mathlib.Omega.{arith}
-use native.Mathlib.Numerals.{add-one}
 use native.Mathlib.Nat.{add-zero}
-use borrow.Author.Tests.{le-ltb, ltb-false, eq-eqb, eqb-true, eqb-false}
+use borrow.Author.Tests.{le-ltb, eqb-true, eqb-false}
 use borrow.Table.Steps.{cases}
-use lib.ListN.{length, getD, take, drop, length-append}
+use lib.ListN.{length, drop, length-append}
 use lib.Seq.{take-at, drop-at}
-use lib.Dec.{eqb, ltb, lit≤}
+use lib.Dec.{eqb, lit≤}
 use Rattle.codec_telegrams.specs.declared.Telegram.{Telegram}
 use Rattle.codec_telegrams.specs.declared.Telegram.the-variants.{Token, ShortConfirmation, Request, Response}
 use Rattle.codec_telegrams.specs.Words.{telegramWord, TelegramFits}
 use Rattle.codec_telegrams.specs.Laws.{telegram-read}
-use Rattle.codec_frames.specs.Frames.{frameBytes, isOtherRequest, Written, notWritten, fitted, writeOf}
+use Rattle.codec_frames.specs.Frames.{frameBytes, isOtherRequest, fitted, writeOf}
 use Rattle.codec_records.specs.declared.Head.{Head}
 use Rattle.codec_records.specs.Records.{headOf as recordHead, telegramWordAt, telegramAt, recordRefusal}
 use Rattle.codec_records_written.specs.Whole.{RecordFits, Says}
@@ -28,7 +27,7 @@ use Rattle.capture_lines.specs.Lines.{lineOf, linesOf as lines}
 use Rattle.capture_text.specs.Text.{lineText}
 use Rattle.capture_import.specs.Import.{Poll, headOf, declines, telegramOf, pollBytes, entryBytes, entriesOf, heardAfter, pollsAfter, lineRefusal, importFrom, importOf}
 use Rattle.capture_import.specs.Laws.{poll-length, Good}
-use Rattle.capture_export.specs.Export.{wordLine, linesFrom, recordLines, andThen, linesFitted, entryFitted, entryUsed, Export, preceded, exportFrom, exportOf}
+use Rattle.capture_export.specs.Export.{wordLine, linesFrom, recordLines, linesFitted, entryFitted, entryUsed, exportFrom, exportOf}
 use Rattle.theorem_captures.specs.Accepted.{AllFit, Fit, poll-fits, poll-accepted, import-holds}
 
 -- the line of a telegram; none where P1 cannot write it
@@ -222,6 +221,20 @@ turned-few [] = omega arith
 turned-few (p ∷ older) =
     omega (arith, length-append (turned older) (p ∷ []), length-append (entriesOf older) (length (pollBytes p) ∷ pollBytes p), turned-few older)
 
+-- The entries of polls that fit give with room for it a line for each telegram that P1 can write, in their order, and no refusal
+pub polls-again :
+    (polls : List Poll) (wide : ℕ)
+    → Good polls
+    → Fit polls
+    → length (pollsText polls) ≤ wide
+    → exportOf (entriesOf polls) wide ≡ record { text = pollsText polls; refusal = 0; entry = 0 }
+unfolding exportOf
+polls-again polls wide good fit fits =
+    let both = turned-good polls good fit in
+    rw (← turned-text polls)
+    (ap (λ (l : List ℕ). exportFrom (length (entriesOf polls)) l 0 wide) (sym (turned-entries polls))
+    ∙ export-all (turned polls) (length (entriesOf polls)) 0 wide (both .0) (both .1) (turned-few polls) (rw (turned-text polls) fits))
+
 -- An export of what was imported, of an accepted capture or of the lines before a refused one, gives with room for it a line for
 -- each telegram that P1 can write, in their order, and no refusal
 pub imported-again :
@@ -229,14 +242,9 @@ pub imported-again :
     → let polls = importOf text room .polls in
     length (pollsText polls) ≤ wide
     → exportOf (entriesOf polls) wide ≡ record { text = pollsText polls; refusal = 0; entry = 0 }
-unfolding exportOf
 imported-again text room wide fits =
-    let polls = importOf text room .polls in
     let h = import-holds text room in
-    let both = turned-good polls (h .0) (h .1) in
-    rw (← turned-text polls)
-    (ap (λ (l : List ℕ). exportFrom (length (entriesOf polls)) l 0 wide) (sym (turned-entries polls))
-    ∙ export-all (turned polls) (length (entriesOf polls)) 0 wide (both .0) (both .1) (turned-few polls) (rw (turned-text polls) fits))
+    polls-again (importOf text room .polls) wide (h .0) (h .1) fits
 
 -- Line by line
 

@@ -1,22 +1,20 @@
 -- A line whose frame is one that P1 writes comes back as it was, in lower case. The theorem has its statement here. Assumes nothing.
-use Prim.Native.Nat.{ℕ, zero, suc, _+_, _-_, _*_, _/_, _%_, _^_, _<_, _≤_}
+use Prim.Native.Nat.{ℕ, zero, suc, _+_, _-_, _*_, _/_, _%_, _<_, _≤_}
 use mathlib.Core.Path.{_≡_, refl, sym, ap, _∙_, subst}
-use mathlib.Core.List.{List, [], _∷_, _++_, map, append-nil, append-assoc}
+use mathlib.Core.List.{List, [], _∷_, _++_, append-nil, append-assoc}
 use mathlib.Core.Bool.{Bool, true, false, cond, not, _&&_}
 use native.Mathlib.Omega.{arith}
 use native.Mathlib.Numerals.{add-one}
 use native.Mathlib.Nat.{zero-add}
-use borrow.Author.Tests.{lt-ltb, le-ltb, le-leb, lt-leb, ne-eqb, not-true, ltb-true, ltb-false, leb-true, leb-false, eqb-true, eqb-false}
+use borrow.Author.Tests.{lt-ltb, le-ltb, lt-leb, ne-eqb, not-true, ltb-true, leb-true, leb-false, eqb-true, eqb-false}
 use borrow.Table.Steps.{cases}
-use lib.ListN.{length, getD, take, drop, length-append}
+use lib.ListN.{length, getD, drop, length-append}
 use lib.Seq.{take-all}
-use lib.Dec.{eqb, ltb, leb, lit≤}
+use lib.Dec.{eqb, ltb, leb}
 use Rattle.codec_telegrams.specs.declared.Telegram.{Telegram}
-use Rattle.codec_frames.specs.declared.FrameRead.{FrameRead}
 use Rattle.codec_frames.specs.declared.FrameRead.the-variants as frame
-use Rattle.codec_frames.specs.Frames.{frameOf, frameBytes, isOtherRequest, startOf}
-use Rattle.capture_lines.specs.declared.LineRead.{LineRead}
-use Rattle.capture_lines.specs.declared.LineRead.the-variants.{NotBuilt, Refused, Accepted}
+use Rattle.codec_frames.specs.Frames.{frameBytes, isOtherRequest, startOf}
+use Rattle.capture_lines.specs.declared.LineRead.the-variants.{Accepted}
 use Rattle.capture_lines.specs.Lines.{space, lineFeed, zeroDigit, clockLimit, between, digitOf, isDecimal, isHex, digitsAt, afterDigits, decimalFrom, decimal, pairsAt, afterPairs, some, begins, isEnd, isTime, afterTime, isBuilt, lineOf, joined, linesOf}
 use Rattle.capture_lines.specs.Laws.{between-is}
 use Rattle.capture_text.specs.Text.{digitCount, lastDigits, mostDigits, decimalText, hexDigit, hexText, lineText}
@@ -38,9 +36,6 @@ lowerCase (b ∷ rest) = lower b ∷ lowerCase rest
 
 no-between : (low high b : ℕ) → b < low → between low high b ≡ false
 no-between low high b h = rw (lt-leb low b h)
-
-past-between : (low high b : ℕ) → low ≤ b → high < b → between low high b ≡ false
-past-between low high b h g = rw (le-leb low b h, lt-leb b high g)
 
 -- a hex digit's value is written as that digit in lower case
 digit-again : (b : ℕ) → digitOf b < 16 → hexDigit (digitOf b) ≡ lower b
@@ -87,7 +82,7 @@ hex-again (a ∷ b ∷ rest) =
 -- Decimal digits
 
 -- bytes that are decimal digits
-abbrev Decimals : List ℕ → Type 0
+abbrev pub Decimals : List ℕ → Type 0
 Decimals [] = Unit {0}
 Decimals (b ∷ rest) = (digitOf b < 10) × Decimals rest
 
@@ -127,7 +122,7 @@ ends-with {l} e (b ∷ rest) = subst Ends (append-assoc l (b ∷ []) rest) (ends
 ends : (l : List ℕ) → Ends l
 ends l = ends-with empty l
 
-decimal-behind : (n : ℕ) (l : List ℕ) (b : ℕ) → decimalFrom n (l ++ (b ∷ [])) ≡ decimalFrom n l * 10 + digitOf b
+pub decimal-behind : (n : ℕ) (l : List ℕ) (b : ℕ) → decimalFrom n (l ++ (b ∷ [])) ≡ decimalFrom n l * 10 + digitOf b
 decimal-behind n [] b = refl
 decimal-behind n (x ∷ l) b = decimal-behind (n * 10 + digitOf x) l b
 
@@ -150,7 +145,7 @@ last-again l (behind {l = m} e b) d =
 -- How many digits
 
 -- powers of ten
-abbrev tens : ℕ → ℕ
+abbrev pub tens : ℕ → ℕ
 tens zero = 1
 tens (suc k) = tens k * 10
 
