@@ -93,10 +93,11 @@ find_out() {
     [ ! "$out" -ef "$2" ] || fail "$out is the file that it is made from"
 }
 
-# write_out COMMAND..: what the command prints becomes the file $out, which gets its name when it is whole. Prints the name.
+# write_out COMMAND..: what the command prints becomes the file $out, which gets its name when it is whole. Prints the name. The
+# file $scratch, where the script has made one, goes with the unfinished one.
 write_out() {
     part=$out.part-$$
-    trap 'rm -f -- "$part"' EXIT
+    trap 'rm -f -- "$part" ${scratch:+"$scratch"}' EXIT
     (: >"$part") 2>/dev/null || fail "$out could not be written"
     "$@" >"$part" || exit 1
     mv -f -- "$part" "$out" || fail "$out could not be written"
@@ -313,4 +314,12 @@ answers_of_library() {
     need_c_compiler
     c_host target/hosts/c/replay_file hosts/c/replay_file.c
     "${emulator[@]}" target/hosts/c/replay_file "$trace"
+}
+
+# Prints when each address was heard in a trace, as hosts/c/heard_file.c does.
+heard_by_library() {
+    build_staticlib
+    need_c_compiler
+    c_host target/hosts/c/heard_file hosts/c/heard_file.c
+    "${emulator[@]}" target/hosts/c/heard_file "$trace"
 }

@@ -123,6 +123,19 @@ replay_all() {
     echo "$host host: $count traces replayed from files, each answered as its story says, and one of $long entries"
 }
 
+# Each story of traces/ that states who was heard: the proved call gives those entries, and no other address.
+heard_all() {
+    local count=0 stated
+    c_host "$built/heard_file" hosts/c/heard_file.c
+    while read -r stated; do
+        "${emulator[@]}" "$built/heard_file" "${stated%.heard}.trace" | cmp - "$stated" ||
+            fail "the C host hears otherwise than $stated"
+        count=$((count + 1))
+    done < <(find traces/ -name '*.heard' | sort)
+    [ "$count" -gt 0 ] || fail "no story states who was heard"
+    echo "C host: $count traces asked for every address, each heard as its story says"
+}
+
 # test_rust WORDS COMMAND..: the Rust host's tests hold, run so.
 test_rust() {
     local words=$1 said
@@ -273,12 +286,14 @@ mkdir -p "$built"
 test_c test faulty replay_trace other_edition
 test_c test_frames faulty_frames read_frame write_frame
 test_c test_captures faulty_captures import_capture export_capture
+test_c test_heard faulty_heard trace_heard
 test_header
 test_stack
 test_c_example
 c_host "$built/replay_file" hosts/c/replay_file.c
 replay_all C "${emulator[@]}" "$built/replay_file"
 test_stored_captures
+heard_all
 
 test_rust "without the library" host_cargo test
 test_rust_linked

@@ -2,10 +2,10 @@
  * Measures the stack that the proved calls use, and holds it to AMSULFEZD_STACK_BYTES. A call runs on a stack of its
  * own that is filled with a pattern; afterwards the deepest byte that changed is looked for. The traces: those of the
  * files named, example 12's header with 100,000 times online, and as many made at random as are asked for, with headers
- * of both editions; each is replayed, its header moved to the other edition, and its entries exported as a capture; each
- * state and each kind of send, and moves both ways, must have been seen. Frames: one of each start byte, and a word of each
- * kind. Captures: those of the files named, whose names end in .capture, and one of each start byte. Built with -DFAULT the call
- * takes more, which must be found.
+ * of both editions; each is replayed, asked for an address that was heard, its header moved to the other edition, and its
+ * entries exported as a capture; each state and each kind of send, moves both ways, and an address that was heard, must have
+ * been seen. Frames: one of each start byte, and a word of each kind. Captures: those of the files named, whose names end in
+ * .capture, and one of each start byte. Built with -DFAULT the call takes more, which must be found.
  *
  * usage: stack TRACES FILE..
  */
@@ -43,7 +43,7 @@ static uint64_t returned;
 /* The first byte above the call's stack, its return address included. */
 static uintptr_t above;
 
-static unsigned states_seen, sent_seen, moves_seen;
+static unsigned states_seen, sent_seen, moves_seen, heard_seen;
 static size_t deepest;
 
 static void fail(const char *why, const char *what)
@@ -133,7 +133,13 @@ static uint64_t export_capture(const uint8_t *lent, size_t length, uint8_t *buff
     return amsulfezd_export_capture(lent + head, length - head, buffer, room, &place, &written);
 }
 
-/* Replays a trace, moves its header and exports its entries, and notes what came. */
+/* Asks when address 9 was heard. */
+static uint64_t trace_heard(const uint8_t *lent, size_t length, uint8_t *buffer, size_t room)
+{
+    return amsulfezd_trace_heard(lent, length, 9, buffer, room);
+}
+
+/* Replays a trace, asks who was heard, moves its header and exports its entries, and notes what came. */
 static void measure(const uint8_t *bytes, size_t length, const char *name)
 {
     uint64_t i;
@@ -148,6 +154,9 @@ static void measure(const uint8_t *bytes, size_t length, const char *name)
         states_seen |= 1u << amsulfezd_answer_state(answer);
         sent_seen |= 1u << amsulfezd_answer_sent(answer);
     }
+    memset(answers, 0, AMSULFEZD_HEARD_LENGTH);
+    run(trace_heard, name);
+    heard_seen |= amsulfezd_heard_of(answers).times != 0;
     run(amsulfezd_other_edition, name);
     if (amsulfezd_written(returned) != 0) {
         moves_seen |= amsulfezd_written(returned) == AMSULFEZD_HEADER_LENGTH ? TO_FIRST : TO_SECOND;
@@ -343,8 +352,8 @@ int main(int count, char **words)
     for (i = 0; i < traces; i++) {
         measure(bytes, make(bytes, room), "a trace made at random");
     }
-    if (states_seen != all_states || sent_seen != all_sent || moves_seen != (TO_FIRST | TO_SECOND)) {
-        fail("not every state, every kind of send and both moves were reached", "the traces");
+    if (states_seen != all_states || sent_seen != all_sent || moves_seen != (TO_FIRST | TO_SECOND) || !heard_seen) {
+        fail("not every state, every kind of send, both moves and an address that was heard were reached", "the traces");
     }
     if (deepest > AMSULFEZD_STACK_BYTES) {
         fprintf(stderr, "stack: a call used %zu bytes of stack, more than the %d that amsulfezd.h names\n", deepest,

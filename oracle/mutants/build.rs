@@ -20,7 +20,7 @@ use std::path::Path;
 /// Files that lean on nothing of the crate: copied only where the error stands in them.
 const ALONE: [&str; 3] = ["records", "ring", "dp"];
 /// Files that lean on each other: copied for each error.
-const TOGETHER: [&str; 7] = ["time", "baud", "fdl", "phy", "port", "editions", "trace"];
+const TOGETHER: [&str; 8] = ["time", "baud", "fdl", "phy", "port", "editions", "trace", "heard"];
 
 fn read(path: &str) -> String {
     println!("cargo:rerun-if-changed={}", path);
@@ -77,7 +77,7 @@ fn main() {
         let table = if asked { format!("{}::settings_table::table", name) } else { "String::new".to_string() };
         writeln!(
             runs,
-            "    crate::Runs {{ traces: {0}::trace::replay_trace, moves: {0}::editions::other_edition, table: {1} }},",
+            "    crate::Runs {{ traces: {0}::trace::replay_trace, moves: {0}::editions::other_edition, heard: {0}::heard::trace_heard, table: {1} }},",
             name, table
         )
         .expect("text");

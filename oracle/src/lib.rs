@@ -15,6 +15,7 @@ mod helpers {
     pub mod dp;
     pub mod editions;
     pub mod fdl;
+    pub mod heard;
     mod log;
     pub mod phy;
     pub mod port;
@@ -46,6 +47,7 @@ pub mod generator {
 /// The cases that generated traces have to reach, by name.
 pub mod coverage {
     mod events;
+    pub mod heard;
     mod met;
     pub mod moves;
     mod points;
@@ -92,7 +94,7 @@ pub mod settings_table;
 pub mod watchdog_lines;
 
 // The published files find these names at the root.
-pub use helpers::{baud, baud::Baudrate, dp, editions, fdl, phy, port, records, ring, time, trace};
+pub use helpers::{baud, baud::Baudrate, dp, editions, fdl, heard, phy, port, records, ring, time, trace};
 
 /// A station's address, as the published files name it.
 pub type Address = u8;

@@ -1,6 +1,6 @@
 // The library for hosts: every call that C and Rust programs make of it, each thin over the crate that does the work. Their
 // names carry the prefix amsulfezd_, as a C library's names do. hosts/c/amsulfezd.h declares them. It leans on trace,
-// trace_editions, codec_frames, capture_import and capture_export.
+// trace_editions, trace_heard, codec_frames, capture_import and capture_export.
 ghost use mathlib.Core.Path.{_≡_};
 ghost use lib.ListN.{length};
 ghost use Rattle.capture_export.specs.Export.{exportOf, exportedOf, bufferOf as exportBuffer};
@@ -8,6 +8,7 @@ ghost use Rattle.capture_import.specs.Import.{importOf, importedOf, bufferOf as
 ghost use Rattle.codec_frames.specs.Frames.{frameOf, readNumber, writeOf, writeNumber, writtenOver};
 ghost use Rattle.trace.specs.Trace.{replayOf, numberOf, bufferOf};
 ghost use Rattle.trace_editions.specs.Editions.{moveNumber, moveInto};
+ghost use Rattle.trace_heard.specs.TraceHeard.{heardNumber, heardInto};
 
 // Replays a trace and returns the entries answered × 256 + the ending number. Each entry's answer stands in the next eight
 // bytes of `answers`; the bytes past them stay as they were.
@@ -17,6 +18,17 @@ pub extern "C" fn amsulfezd_replay_trace(trace: &[u8], answers: &mut [u8]) -> u6
     ensures { λ _. ⌜ now (answers .exit) ≡ bufferOf (replayOf (now (trace .entry)) (length (now (answers .entry)))) (now (answers .entry)) ⌝ }
 {
     trace::replay_trace(trace, answers)
+}
+
+// Runs over a trace and writes who was heard: of an address the times heard, the first and the last clock and the station type of its
+// last response, 17 bytes into `entry`, all zero where it was never heard. Returns the entries answered × 256 + the ending number.
+// Refused with 26 for an address above 125, the header's numbers, or 18 where `entry` is too short: then nothing is written.
+#[no_mangle]
+pub extern "C" fn amsulfezd_trace_heard(trace: &[u8], address: u8, entry: &mut [u8]) -> u64
+    ensures { λ r. ⌜ r ≡ heardNumber (now (trace .entry)) address (length (now (entry .entry))) ⌝ }
+    ensures { λ _. ⌜ now (entry .exit) ≡ heardInto (now (trace .entry)) address (now (entry .entry)) ⌝ }
+{
+    trace_heard::trace_heard(trace, address, entry)
 }
 
 // Writes the header that `header` begins with in the other edition into the first bytes of `out`, and returns the bytes written

@@ -34,8 +34,10 @@ pub mod StationCheckPass
 pub mod StationAnswer
 pub mod StationCommand
 pub mod StationPoll
+pub mod Heard
 pub mod TraceHeaders
 pub mod TraceHeadersWritten
 pub mod TraceEditions
 pub mod Trace
+pub mod TraceHeard
 pub mod Amsulfezd

@@ -114,3 +114,23 @@ written (a ∷ rest) = bytesOf (answerWord a) ++ written rest
 -- what the call leaves in the buffer: the answers, and past them what was there
 unfoldable pub bufferOf : Replay → List ℕ → List ℕ
 bufferOf r before = written (r .answers) ++ drop (8 * length (r .answers)) before
+
+-- A whole replay: what the calls go over that need no room for answers.
+
+-- room for every answer: no entry has fewer bytes than one
+abbrev pub roomFor : List ℕ → ℕ
+roomFor trace = answerLength * length trace
+
+-- the replay of a trace with room for every answer. It ends with 0 or 17 where a station
+-- starts (that it does not end with 18 is `every-summary` of theorem_heard)
+unfoldable pub wholeReplay : List ℕ → Replay
+wholeReplay trace = replayOf trace (roomFor trace)
+
+-- what a call returns that leaves `needed` bytes of a whole replay, and has room for `room`: a refused header's number, then 18 where
+-- there is no room, both with no entry; else the entries × 256 + the ending number
+unfoldable pub wholeNumberOn : TraceStart → List ℕ → ℕ → ℕ → ℕ
+wholeNumberOn (Accepted s) trace needed room = cond (ltb room needed) 18 (numberOf (wholeReplay trace))
+wholeNumberOn (Refused n) trace needed room = n
+
+unfoldable pub wholeNumber : List ℕ → ℕ → ℕ → ℕ
+wholeNumber trace needed room = wholeNumberOn (startOf trace) trace needed room

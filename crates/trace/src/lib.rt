@@ -28,7 +28,7 @@ fn header_settings(header: Header) -> Created
 }
 
 // The settings of a trace. Refusal 17 where it has fewer bytes than its edition's header or more than 2 to the 32.
-fn trace_settings(trace: &[u8]) -> Created
+pub fn trace_settings(trace: &[u8]) -> Created
     ensures { λ r. ⌜ r ≡ settingsAt (now (trace .entry)) ⌝ }
 {
     if trace.len() < trace_headers::header_length(trace) {

@@ -6,6 +6,14 @@ mod proved {
         pub fn amsulfezd_replay_trace(trace: *const u8, trace_len: usize, answers: *mut u8, answers_len: usize) -> u64;
         /// The call that moves a header to the other edition: document 02's P9.
         pub fn amsulfezd_other_edition(header: *const u8, header_len: usize, out: *mut u8, out_len: usize) -> u64;
+        /// The call that says when an address was heard: document 02's P7.
+        pub fn amsulfezd_trace_heard(
+            trace: *const u8,
+            trace_len: usize,
+            address: u8,
+            entry: *mut u8,
+            entry_len: usize,
+        ) -> u64;
         /// The call that reads a frame: document 02's P1.
         pub fn amsulfezd_read_frame(frame: *const u8, frame_len: usize) -> u64;
         /// The call that writes a frame: document 02's P1.
@@ -41,6 +49,12 @@ pub fn replay_trace(trace: &[u8], answers: &mut [u8]) -> u64 {
 pub fn other_edition(header: &[u8], out: &mut [u8]) -> u64 {
     // Safety: as above.
     unsafe { proved::amsulfezd_other_edition(header.as_ptr(), header.len(), out.as_mut_ptr(), out.len()) }
+}
+
+/// Asks the proved call when an address was heard.
+pub fn trace_heard(trace: &[u8], address: u8, entry: &mut [u8]) -> u64 {
+    // Safety: as above.
+    unsafe { proved::amsulfezd_trace_heard(trace.as_ptr(), trace.len(), address, entry.as_mut_ptr(), entry.len()) }
 }
 
 /// Reads a frame by the proved call.

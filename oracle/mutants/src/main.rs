@@ -1,6 +1,7 @@
 //! Runs generated traces through the oracle and through a copy of it for each planted error, their headers through the call
-//! that moves them, the settings table where the list says so, and the calls on frames and on captures for the errors in those,
-//! and prints for each error which run shows it. Status 0: each is shown by the run that the list names.
+//! that moves them, the call that is asked who was heard, the settings table where the list says so, and the calls on frames
+//! and on captures for the errors in those, and prints for each error which run shows it. Status 0: each is shown by the run
+//! that the list names.
 #![forbid(unsafe_code)]
 
 /// The published text writes `log::warn!`.
@@ -27,7 +28,7 @@ use oracle::captures::compare::{made as made_of_captures, Call};
 use oracle::captures::tries::{parts as parts_of_captures, Try as CaptureTry};
 use oracle::comparison::calls::{first_difference as first_call, shortened, Left as CallLeft, Parts, Try};
 use oracle::comparison::hex;
-use oracle::comparison::run::{first_difference, moves_otherwise, run, Left};
+use oracle::comparison::run::{first_difference, hears_otherwise, moves_otherwise, parts_from_oracle, run, Left};
 use oracle::comparison::shorten::shorten;
 use oracle::frames::compare::made as made_of_frames;
 use oracle::frames::tries::{parts as parts_of_frames, Try as FrameTry};
@@ -35,11 +36,12 @@ use oracle::generator::trace;
 use oracle::settings_table::table;
 use oracle::trace::replay_trace;
 
-/// What is run of a copy: its trace call, the call that moves a header, and its settings table where the error can stand in
-/// that.
+/// What is run of a copy: its trace call, the call that moves a header, the call that is asked who was heard, and its settings
+/// table where the error can stand in that.
 pub struct Runs {
     traces: fn(&[u8], &mut [u8]) -> u64,
     moves: fn(&[u8], &mut [u8]) -> u64,
+    heard: fn(&[u8], u8, &mut [u8]) -> u64,
     table: fn() -> String,
 }
 
@@ -58,6 +60,8 @@ pub struct CaptureRuns {
 /// The seed of the traces, and how many are tried.
 const SEED: u64 = 1;
 const TRACES: u64 = 20_000;
+/// Of so many of them it is asked who was heard: each is run for every address.
+const ASKED: u64 = 300;
 
 /// A text on one line, for a cell of the table.
 fn cell(text: &str) -> String {
@@ -79,7 +83,7 @@ fn kind_of(expected: &Left, got: &Left) -> &'static str {
     }
 }
 
-/// For each error that traces or moves may show, the trace that does, in words, and how many entries the shortened one has or
+/// For each error that traces, moves or questions may show, the trace that does, in words, and how many entries the shortened one has or
 /// how many bytes were lent.
 fn shown_by_traces() -> Vec<Option<(String, String)>> {
     let mut shown = vec![None; PLANTED.len()];
@@ -89,19 +93,30 @@ fn shown_by_traces() -> Vec<Option<(String, String)>> {
         let expected = run(&replay_trace, &made);
         left.retain(|i| {
             let copy = &copies::RUNS[*i];
-            if PLANTED[*i].by != By::Moves {
+            if !matches!(PLANTED[*i].by, By::Moves | By::Heard) {
                 let got = run(&copy.traces, &made);
                 if let Some(entry) = first_difference(&expected, &got) {
                     let words = format!("trace {}, entry {}: {}", index, entry, kind_of(&expected, &got));
-                    let shortest = shorten(&copy.traces, &made).entries.len();
+                    let differs = |trace: &_| parts_from_oracle(&copy.traces, trace).is_some();
+                    let shortest = shorten(&differs, &made).entries.len();
                     shown[*i] = Some((words, format!("{} entries", shortest)));
                 }
             }
-            if PLANTED[*i].by != By::Traces {
+            if !matches!(PLANTED[*i].by, By::Traces | By::Heard) {
                 if let Some(found) = moves_otherwise(&copy.moves, &made) {
                     let kind = kind_of(&found.expected, &found.got).replace("answers", "writes");
                     let words = format!("trace {}, room for {}: {}", index, found.expected.buffer.len(), kind);
                     shown[*i] = Some((words, format!("{} bytes lent", found.lent.len())));
+                }
+            }
+            // an error that is hidden and stands elsewhere is hidden from the questions by the same reason
+            if PLANTED[*i].file == "heard" && index < ASKED {
+                if let Some(found) = hears_otherwise(&copy.heard, &made) {
+                    let kind = kind_of(&found.expected, &found.got);
+                    let room = found.expected.buffer.len();
+                    let words = format!("trace {}, asked for {}, room for {}: {}", index, found.address, room, kind);
+                    let differs = |trace: &_| found.differs_on(&copy.heard, trace);
+                    shown[*i] = Some((words, format!("{} entries", shorten(&differs, &made).entries.len())));
                 }
             }
             shown[*i].is_none()
@@ -199,7 +214,7 @@ fn main() {
 /// Prints the table of the errors in the station, its traces, headers and settings; gives how many were not found.
 fn trace_table() -> usize {
     let table = table();
-    let (mut by_traces, mut by_moves, mut by_table, mut explained, mut missed) = (0, 0, 0, 0, 0);
+    let (mut by_traces, mut by_moves, mut by_heard, mut by_table, mut explained, mut missed) = (0, 0, 0, 0, 0, 0);
     println!("| No. | File | Text | Planted | Run | Shown by | Shortest |");
     println!("|---|---|---|---|---|---|---|");
     for (i, (error, shown)) in PLANTED.iter().zip(shown_by_traces()).enumerate() {
@@ -216,6 +231,10 @@ fn trace_table() -> usize {
                 by_moves += 1;
                 format!("moves | {} | {}", words, shortest)
             }
+            (By::Heard, Some((words, shortest))) => {
+                by_heard += 1;
+                format!("questions | {} | {}", words, shortest)
+            }
             (By::SettingsTable, _) => match shown_by_table(&table, &copies::RUNS[i]) {
                 Some(line) => {
                     by_table += 1;
@@ -229,17 +248,19 @@ fn trace_table() -> usize {
             }
             (By::Traces, None) => missing("NOT FOUND by traces".to_string()),
             (By::Moves, None) => missing("NOT FOUND by moves".to_string()),
+            (By::Heard, None) => missing("NOT FOUND by questions".to_string()),
             (By::Nothing(_), Some((words, _))) => missing(format!("{}, though said to be hidden", words)),
         };
         println!("| {} | `{}.rs` | {} | {} | {} |", i + 1, error.file, cell(error.old), cell(error.new), cells);
     }
     println!();
     println!(
-        "{} planted errors: {} found by traces of seed {}, {} by moves of their headers, {} by the settings table, {} explained, {} missed.",
+        "{} planted errors: {} found by traces of seed {}, {} by moves of their headers, {} by questions who was heard, {} by the settings table, {} explained, {} missed.",
         PLANTED.len(),
         by_traces,
         SEED,
         by_moves,
+        by_heard,
         by_table,
         explained,
         missed

@@ -33,6 +33,7 @@ pub enum Refusal {
     EndByte = 23,
     AddressExtension = 24,
     GapRoom = 25,
+    AskedAddress = 26,
     CaptureLine = 31,
     CaptureTime = 32,
     CaptureCount = 33,
@@ -66,6 +67,7 @@ pub const ALL: &[Refusal] = &[
     Refusal::EndByte,
     Refusal::AddressExtension,
     Refusal::GapRoom,
+    Refusal::AskedAddress,
     Refusal::CaptureLine,
     Refusal::CaptureTime,
     Refusal::CaptureCount,
@@ -112,6 +114,7 @@ impl Refusal {
             Refusal::EndByte => "end byte",
             Refusal::AddressExtension => "address extension bit",
             Refusal::GapRoom => "rotation with no room for a gap poll",
+            Refusal::AskedAddress => "who was heard: an address above 125",
             Refusal::CaptureLine => {
                 "a line that is not a time, one space, a frame in pairs of hex digits and a line feed, or has bytes after its frame"
             }
@@ -126,6 +129,11 @@ impl Refusal {
     /// Whether frames and captures alone are refused so: no trace ends and no entry is answered with it.
     pub fn is_of_frames(self) -> bool {
         matches!(self.number(), 19..=24 | 31..=34)
+    }
+
+    /// Whether a trace that is replayed, or one of its entries, can be refused so.
+    pub fn is_of_replays(self) -> bool {
+        !self.is_of_frames() && self != Refusal::AskedAddress
     }
 
     /// What the documents ask for instead, where the words alone do not say it.

@@ -177,7 +177,7 @@ fn states_outcomes_and_types_have_document_01s_numbers() {
 #[test]
 fn refusals_have_the_documents_numbers() {
     let numbers: Vec<u8> = ALL.iter().map(|refusal| refusal.number()).collect();
-    assert_eq!(numbers, (1..=25).chain(31..=34).collect::<Vec<u8>>());
+    assert_eq!(numbers, (1..=26).chain(31..=34).collect::<Vec<u8>>());
     for &refusal in ALL {
         assert_eq!(Refusal::try_from(refusal.number()), Ok(refusal));
         assert_eq!(u8::from(refusal), refusal.number());
@@ -210,6 +210,17 @@ fn refusals_have_the_documents_numbers() {
         .map(|r| r.number())
         .collect();
     assert_eq!(of_frames, [19, 20, 21, 22, 23, 24, 31, 32, 33, 34]);
+    let elsewhere: Vec<u8> = ALL
+        .iter()
+        .filter(|r| !r.is_of_replays())
+        .map(|r| r.number())
+        .collect();
+    assert_eq!(elsewhere, [19, 20, 21, 22, 23, 24, 26, 31, 32, 33, 34]);
+    assert_eq!(
+        Refusal::AskedAddress.to_string(),
+        "26 (who was heard: an address above 125)"
+    );
+    assert!(Answer::try_from(26 << 59).is_err());
     assert!(Answer::try_from(19 << 59).is_err());
 }
 
@@ -244,6 +255,7 @@ fn what_the_call_returns() {
     assert_eq!(Run::try_from(3), run(0, Some(Refusal::Hsa)));
     assert_eq!(Run::try_from(25), run(0, Some(Refusal::GapRoom)));
     assert!(Run::try_from(256 + 19).is_err());
+    assert!(Run::try_from(26).is_err());
 }
 
 #[test]

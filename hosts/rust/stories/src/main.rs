@@ -10,6 +10,7 @@ mod collisions;
 mod editions;
 mod fine_points;
 mod gap_room;
+mod heard;
 mod night;
 mod refusals;
 mod ring;
@@ -54,6 +55,7 @@ fn stories() -> Vec<Story> {
     all.extend(gap_room::headers());
     all.extend(editions::stories());
     all.push(captures::site());
+    all.extend(heard::stories());
     all
 }
 
@@ -78,7 +80,7 @@ fn counted() -> String {
     format!("{} traces and {} captures", stories().len(), captures)
 }
 
-/// The files of a story: path and content. Few stories have notes.
+/// The files of a story: path and content. Few stories have notes, and few say who was heard.
 fn files(folder: &Path, story: &Story) -> Vec<(PathBuf, Vec<u8>)> {
     let path = |ending: &str| folder.join(format!("{}.{}", story.name, ending));
     let mut files = vec![
@@ -89,6 +91,10 @@ fn files(folder: &Path, story: &Story) -> Vec<(PathBuf, Vec<u8>)> {
     let notes = story.notes();
     if !notes.is_empty() {
         files.push((path("notes"), notes.into_bytes()));
+    }
+    let heard = story.heard_text();
+    if !heard.is_empty() {
+        files.push((path("heard"), heard.into_bytes()));
     }
     files
 }
