@@ -142,7 +142,7 @@ first-sent p c r now k [] w = held-now p c now k _ (p .address) _ (goes-to p c r
 first-sent p c r now k (x ∷ more) w = checked-now p c now k _ x more _ (goes-to p c r (x ∷ more) w) (seen-ready p c r (x ∷ more) w)
 
 -- parts of the station that these places do not look at
-active-ready : (p : Parameters) (c : Core) (r : Ring) (os : List ℕ) (a : Activity) → Ready p c r os → Ready p (withActivity c a) r os
+pub active-ready : (p : Parameters) (c : Core) (r : Ring) (os : List ℕ) (a : Activity) → Ready p c r os → Ready p (withActivity c a) r os
 unfolding withActivity
 active-ready p c r os a w = record { on = w .on; ring-good = w .ring-good; are = w .are }
 
@@ -218,7 +218,7 @@ unfolding passTokenOf pauseOf waitedOf doneOf
 unpaused p c r now gap k ph g e = rw e (record { nothing = refl; place = active-at ph p (PassToken gap k) c r _ g })
 
 -- a claim whose pause is over: the token goes to ourselves
-claim-sent : (p : Parameters) (c : Core) (r : Ring) (now : Micros) (first : Bool) (os : List ℕ) → Ready p c r os → pauseOf p c now .over ≡ true → Sends p now (sent.Token (p .address)) (next (claiming first os)) (claimTokenOf p c r now first)
+pub claim-sent : (p : Parameters) (c : Core) (r : Ring) (now : Micros) (first : Bool) (os : List ℕ) → Ready p c r os → pauseOf p c now .over ≡ true → Sends p now (sent.Token (p .address)) (next (claiming first os)) (claimTokenOf p c r now first)
 unfolding claimTokenOf claimNext pauseOf transmitOf withActivity
 claim-sent p c r now true os w e =
     rw e (record { telegram = refl; marks = refl; place = (active-ready p _ _ os _ (claim-ready p _ r os (known-ready p c r os now _ w)), refl) })

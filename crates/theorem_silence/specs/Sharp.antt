@@ -7,7 +7,7 @@ use lib.ListN.{length, length-append}
 use native.Mathlib.Omega.{arith}
 use native.Mathlib.Nat.{suc-mul}
 use native.Mathlib.Numerals.{add-one, one-add}
-use borrow.Author.Tests.{le-leb, leb-true}
+use borrow.Author.Tests.{le-leb}
 use borrow.Table.Steps.{cases}
 use Rattle.bit_times.specs.declared.Micros.{Micros}
 use Rattle.bit_times.specs.Times.{byteBits, timeOf}
@@ -32,7 +32,7 @@ use Rattle.station_answer.specs.declared.Polled.{Polled}
 use Rattle.station_answer.specs.Answer.{polledOf}
 use Rattle.station_poll.specs.Poll.{pollOf}
 use Rattle.theorem_silence.specs.Silence.{Start, AllQuiet, holdsToken, until, told, sentUntil, counted, countedIn, slotAfter, tokens}
-use Rattle.theorem_silence.specs.Times.{Slotted, slotted, pauseTime}
+use Rattle.theorem_silence.specs.Times.{Slotted, slotted, pauseTime, after-shorter}
 use Rattle.theorem_silence.specs.Phases.{Phase, starting, next, nextSent, todo, Under, some-under, longest, longest-now, longest-next, todo-next, tokens-length}
 use Rattle.theorem_silence.specs.OnePoll.{At, Sends, Turn, sends, stays, quietStep, turn}
 use Rattle.theorem_silence.specs.Theorem.{stationOf, clockOf, poll-at, started, silence}
@@ -102,12 +102,6 @@ AllAfter time s (bytes ∷ later) = (slotAfter (s .core .«last_bus_activity») 
 counted-sends : (p : Parameters) (bytes : List ℕ) (ph : Phase) (counts : Bool) (x : RingStep) → counts ≡ true → Turn p (clockOf bytes) ph counts x → Sends p (clockOf bytes) (nextSent (p .address) ph) (next ph) x
 counted-sends p bytes ph counts x e (sends g) = g
 counted-sends p bytes ph counts x e (stays f g) = absurd (true≢false (sym e ∙ f))
-
--- what comes after a longer time comes after a shorter one
-pub after-shorter : (a : Activity) (now short long : ℕ) → short ≤ long → slotAfter a now long ≡ true → slotAfter a now short ≡ true
-unfolding slotAfter
-after-shorter activity.Unknown now short long l e = absurd (true≢false (sym e))
-after-shorter (activity.At last) now short long l e = le-leb (last .0 + short) now (omega (arith, leb-true (last .0 + long) now e))
 
 -- the time of as many bytes
 abbrev pub bytesTime : Parameters → ℕ → ℕ

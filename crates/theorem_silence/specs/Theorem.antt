@@ -43,23 +43,24 @@ stationOf p n s c r = record { state = s; core = c; «token_ring» = r; p = p; a
 abbrev pub clockOf : List ℕ → Micros
 clockOf bytes = record { 0 = headOf bytes .clock }
 
--- a silent poll of an online station that has left Offline is the silent step
+-- a silent poll of an online station is the silent step; it leaves Offline first
 online-quiet : (p : Parameters) (s : State) (c : Core) (r : Ring) (now : Micros) (bytes : List ℕ) (n : ℕ) → pollOnline p s c r now false 0 bytes n 0 ≡ quietStep p s c r now bytes n
 unfolding pollOnline busActivityOf ongoingOf quietStep
 online-quiet p s c r now bytes n = rw (le-ltb (c .«pending_bytes») 0 (omega arith))
 
-inner-quiet : (p : Parameters) (s : State) (c : Core) (r : Ring) (now : Micros) (bytes : List ℕ) (n : ℕ) → c .online ≡ true → connectedOf s ≡ s → pollInner p s c r now false 0 bytes n 0 ≡ quietStep p s c r now bytes n
+inner-quiet : (p : Parameters) (s : State) (c : Core) (r : Ring) (now : Micros) (bytes : List ℕ) (n : ℕ) → c .online ≡ true → pollInner p s c r now false 0 bytes n 0 ≡ quietStep p (connectedOf s) c r now bytes n
 unfolding pollInner
-inner-quiet p s c r now bytes n on out =
+inner-quiet p s c r now bytes n on =
     ap (λ (b : Bool). cond b (pollOnline p (connectedOf s) c r now false 0 bytes n 0) (ringStepOf (doneOf s c outcome.Offline) r)) on
-    ∙ ap (λ (x : State). pollOnline p x c r now false 0 bytes n 0) out
-    ∙ online-quiet p s c r now bytes n
+    ∙ online-quiet p (connectedOf s) c r now bytes n
+
+pub poll-quiet : (p : Parameters) (n : ℕ) (s : State) (c : Core) (r : Ring) (bytes : List ℕ) → Quiet n bytes → c .online ≡ true → pollOf (stationOf p n s c r) bytes ≡ polledOf p n (quietStep p (connectedOf s) c r (clockOf bytes) bytes n)
+unfolding pollOf acceptedPoll acceptedAfter
+poll-quiet p n s c r bytes q on =
+    rw (eq-eqb _ _ (q .accepted), q .no-telegram, q .no-pending, q .no-transmission) (ap (polledOf p n) (inner-quiet p s c r (clockOf bytes) bytes n on))
 
 pub poll-is : (p : Parameters) (n : ℕ) (s : State) (c : Core) (r : Ring) (bytes : List ℕ) → Quiet n bytes → c .online ≡ true → connectedOf s ≡ s → pollOf (stationOf p n s c r) bytes ≡ polledOf p n (quietStep p s c r (clockOf bytes) bytes n)
-unfolding pollOf acceptedPoll acceptedAfter
-poll-is p n s c r bytes q on out =
-    rw (eq-eqb _ _ (q .accepted), q .no-telegram, q .no-pending, q .no-transmission)
-    (ap (polledOf p n) (inner-quiet p s c r (clockOf bytes) bytes n on out))
+poll-is p n s c r bytes q on out = poll-quiet p n s c r bytes q on ∙ ap (λ (x : State). polledOf p n (quietStep p x c r (clockOf bytes) bytes n)) out
 
 -- the states of all places have left Offline
 pub connected-pass : (s : State) (gap : Bool) (k : PassTokenAttempt) → s ≡ PassToken gap k → connectedOf s ≡ s
@@ -103,11 +104,11 @@ counted-on p n s c r bytes later x is = rw is
 
 -- a run that does not start with the token held goes on with its first poll
 module _ (p : Parameters) (n : ℕ) (s : State) (c : Core) (r : Ring) (bytes : List ℕ) (later : List (List ℕ)) (x : RingStep) (out : holdsToken (stationOf p n s c r) ≡ false) (is : pollOf (stationOf p n s c r) bytes ≡ polledOf p n x) where
-  until-on : until (stationOf p n s c r) (bytes ∷ later) ≡ until (stationOf p n (x .step .state) (x .step .core) (x .ring)) later
+  pub until-on : until (stationOf p n s c r) (bytes ∷ later) ≡ until (stationOf p n (x .step .state) (x .step .core) (x .ring)) later
   unfolding until polledOf
   until-on = rw (out, is)
 
-  sent-on : sentUntil (stationOf p n s c r) (bytes ∷ later) ≡ told (x .step .sent) ++ sentUntil (stationOf p n (x .step .state) (x .step .core) (x .ring)) later
+  pub sent-on : sentUntil (stationOf p n s c r) (bytes ∷ later) ≡ told (x .step .sent) ++ sentUntil (stationOf p n (x .step .state) (x .step .core) (x .ring)) later
   unfolding sentUntil polledOf stepAnswer
   sent-on = rw (out, is)
 

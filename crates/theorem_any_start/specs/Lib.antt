@@ -1,0 +1,4 @@
+pub mod AnyStart
+pub mod Asked
+pub mod Listening
+pub mod Theorem
