@@ -99,6 +99,10 @@ planOn (AwaitDataResponse address held) gap stations own = record { noted = opti
 abbrev pub planOf : Station → Plan
 planOf s = planOn (s .state) (gapAdvanced (s .p) (s .«token_ring») (s .core .«gap_state»)) (others (s .«token_ring»)) (s .p .address)
 
+-- how many telegrams question and tokens are
+abbrev pub inPlan : Plan → ℕ
+inPlan plan = length (plan .question ++ plan .tokens-left)
+
 -- What comes before the tokens: the gap question where one is due, else nothing; or the answer to a status request that was noted, where
 -- its pause is over before the token is lost.
 pub data Before (plan : Plan) (first : List Sent) : Type 0 where
@@ -112,7 +116,7 @@ pub record FromAnyStart (s : Station) (records : List (List ℕ)) : Type 0 where
   -- 3k + 2 of them, it says "by".)
   pub bound : 3 * length (others (s .«token_ring»)) + 2 ≤ lostCountedIn s records → holdsToken (until s records) ≡ true
   -- By the state: as many counted polls are enough as there are telegrams in the question and the tokens (Numbers has the numbers).
-  pub by-state : length (planOf s .question ++ planOf s .tokens-left) ≤ lostCountedIn s records → holdsToken (until s records) ≡ true
+  pub by-state : inPlan (planOf s) ≤ lostCountedIn s records → holdsToken (until s records) ≡ true
   -- What is sent, and the order: until it enters UseToken it sends nothing but what comes before the tokens, and the tokens, from the
   -- first on. What is sent and the rest make up that list.
   pub first : List Sent

@@ -2,3 +2,5 @@ pub mod AnyStart
 pub mod Asked
 pub mod Listening
 pub mod Theorem
+pub mod Numbers
+pub mod Sharp

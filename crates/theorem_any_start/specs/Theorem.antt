@@ -36,7 +36,7 @@ use Rattle.theorem_silence.specs.Phases.{Phase, asking, awaiting, starting, che
 use Rattle.theorem_silence.specs.OnePoll.{Ready, At, quietStep}
 use Rattle.theorem_silence.specs.Theorem.{stationOf, clockOf, poll-quiet, until-on, sent-on, one-less, run-from}
 use Rattle.theorem_silence.specs.Asking.{Found, found-later, uncounted, found}
-use Rattle.theorem_any_start.specs.AnyStart.{AnyStart, lostAfter, lostCounted, lostCountedIn, Plan, claimPlan, planOn, planOf, Before, asked, answered, FromAnyStart, Theorem}
+use Rattle.theorem_any_start.specs.AnyStart.{AnyStart, lostAfter, lostCounted, lostCountedIn, Plan, claimPlan, planOn, planOf, inPlan, Before, asked, answered, FromAnyStart, Theorem}
 use Rattle.theorem_any_start.specs.Asked.{AskedAgain, LetterTheorem}
 use Rattle.theorem_any_start.specs.Listening.{Hears, listening, idle, Listens, ListenTurn, claims, answers, waits, lost-slot, listen-turn}
 
@@ -282,7 +282,7 @@ module _ (s : Station) (records : List (List ℕ)) (h : AnyStart s) (q : AllQuie
       let g = run-from ph s records slots q a in
       let most = todo-most own ph in
       let same : length (inRing ph) ≡ k = ap length (sym i) in
-      let long : length (todo own ph) ≡ length (planOf s .question ++ planOf s .tokens-left) = ap length t in
+      let long : length (todo own ph) ≡ inPlan (planOf s) = ap length t in
       record {
         bound = λ l. g .bound-of (omega (arith, lost-fewer records s));
         by-state = λ l. g .bound-of (omega (arith, lost-fewer records s));
@@ -295,7 +295,7 @@ module _ (s : Station) (records : List (List ℕ)) (h : AnyStart s) (q : AllQuie
       }
   runs (hearing request g e) =
       let f = ran records (s .p) slots (s .applications) q request (others (s .«token_ring»)) (s .state) (s .core) (s .«token_ring») (ready, g) in
-      let two : length (planOf s .question ++ planOf s .tokens-left) ≡ 2 = ap (λ (x : Plan). length (x .question ++ x .tokens-left)) e in
+      let two : inPlan (planOf s) ≡ 2 = ap inPlan e in
       record {
         bound = λ l. f .in-time (omega arith);
         by-state = λ l. f .in-time (omega arith);

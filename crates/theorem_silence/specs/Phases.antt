@@ -89,6 +89,14 @@ longest-now own (checking Third os) = refl
 longest-now own (claiming first os) = refl
 longest-now own (holding os) = refl
 
+pub longest-most : (ph : Phase) → longest ph ≤ 6
+longest-most (asking a os) = omega arith
+longest-most (awaiting os) = omega arith
+longest-most (starting attempt os) = omega arith
+longest-most (checking attempt os) = omega arith
+longest-most (claiming first os) = omega arith
+longest-most (holding os) = omega arith
+
 sent-longest : (attempt : PassTokenAttempt) (os : List ℕ) → longest (sentTo attempt os) ≡ 3
 sent-longest attempt [] = refl
 sent-longest attempt (x ∷ more) = refl

@@ -31,11 +31,11 @@ use Rattle.station.specs.Steps.{sentAt}
 use Rattle.station_answer.specs.declared.Polled.{Polled}
 use Rattle.station_answer.specs.Answer.{polledOf}
 use Rattle.station_poll.specs.Poll.{pollOf}
-use Rattle.theorem_silence.specs.Silence.{Start, AllQuiet, holdsToken, until, told, sentUntil, counted, countedIn, slotAfter, tokens}
+use Rattle.theorem_silence.specs.Silence.{Start, AllQuiet, holdsToken, until, told, sentUntil, counted, countedIn, slotAfter}
 use Rattle.theorem_silence.specs.Times.{Slotted, slotted, pauseTime, after-shorter}
 use Rattle.theorem_silence.specs.Phases.{Phase, starting, next, nextSent, todo, Under, some-under, longest, longest-now, longest-next, todo-next, tokens-length}
 use Rattle.theorem_silence.specs.OnePoll.{At, Sends, Turn, sends, stays, quietStep, turn}
-use Rattle.theorem_silence.specs.Theorem.{stationOf, clockOf, poll-at, started, silence}
+use Rattle.theorem_silence.specs.Theorem.{stationOf, clockOf, poll-at, RunFrom, started, run-of, silence}
 use Rattle.theorem_silence.specs.SilentRecords.{silentAt, silent-quiet, silent-clock}
 
 -- a poll sends at most one telegram
@@ -53,16 +53,18 @@ sent-at-most (bytes ∷ later) s =
     cases (holdsToken s) (λ e. rw e (omega arith))
     (λ e. rw (e, length-append) (omega (arith, told-one (pollOf s bytes .answer .sent), sent-at-most later (pollOf s bytes .station))))
 
--- no run of at most 3k polls, counted or not, leads to the token
-pub too-few : (s : Station) (records : List (List ℕ)) → Start s → AllQuiet (s .applications) records → length records ≤ 3 * length (others (s .«token_ring»)) → holdsToken (until s records) ≡ false
-too-few s records h q l =
-    let g = silence s records h q in
+-- from any place: no run of fewer polls than there are telegrams to send, counted or not, leads to the token
+pub too-few-from : (ph : Phase) (s : Station) (records : List (List ℕ)) → RunFrom (s .p) ph s records → suc (length records) ≤ length (todo (s .p .address) ph) → holdsToken (until s records) ≡ false
+too-few-from ph s records g l =
     let most = sent-at-most records s in
-    let whole = tokens-length (others (s .«token_ring»)) (s .p .address) in
-    let split : length (sentUntil s records) + length (g .rest) ≡ length (tokens (others (s .«token_ring»)) (s .p .address)) = sym (length-append (sentUntil s records) (g .rest)) ∙ ap length (g .sends) in
+    let split : length (sentUntil s records) + length (g .rest) ≡ length (todo (s .p .address) ph) = sym (length-append (sentUntil s records) (g .rest)) ∙ ap length (g .sends-of) in
     cases (holdsToken (until s records))
-    (λ e. let none : length (g .rest) ≡ 0 = ap length (g .all-sent e) in absurd (omega arith))
+    (λ e. let none : length (g .rest) ≡ 0 = ap length (g .all-of e) in absurd (omega arith))
     (λ e. e)
+
+-- so no run of at most 3k polls, counted or not, leads a station that starts a token pass to the token
+pub too-few : (s : Station) (records : List (List ℕ)) → Start s → AllQuiet (s .applications) records → length records ≤ 3 * length (others (s .«token_ring»)) → holdsToken (until s records) ≡ false
+too-few s records h q l = too-few-from (starting First (others (s .«token_ring»))) s records (run-of s records h q) (omega (arith, tokens-length (others (s .«token_ring»)) (s .p .address)))
 
 -- Runs of polls that are as far apart as this.
 
