@@ -4,3 +4,5 @@ pub mod Listening
 pub mod Theorem
 pub mod Numbers
 pub mod Sharp
+pub mod Met
+pub mod Shown

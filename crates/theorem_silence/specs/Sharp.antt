@@ -1,6 +1,6 @@
 -- The bound of Silence is sharp: 3k polls never lead to the token, and there is a run of 3k polls that are all counted.
 use Prim.Native.Nat.{ℕ, zero, suc, _+_, _*_, _^_, _<_, _≤_}
-use mathlib.Core.Bool.{Bool, true, false}
+use mathlib.Core.Bool.{true, false}
 use mathlib.Core.Path.{_≡_, refl, sym, ap, subst, _∙_}
 use mathlib.Core.List.{List, [], _∷_}
 use lib.ListN.{length, length-append}
@@ -14,7 +14,6 @@ use Rattle.bit_times.specs.Times.{byteBits, timeOf}
 use Rattle.bit_times.specs.Laws.{time-grows}
 use Rattle.settings.specs.declared.Parameters.{Parameters}
 use Rattle.settings.specs.Settings.{slotTimeOf}
-use Rattle.ring_addresses.specs.SetLaws.{true≢false}
 use Rattle.ring.specs.declared.Ring.{Ring}
 use Rattle.ring.specs.Ring.{others}
 use Rattle.codec_records.specs.Records.{headOf}
@@ -34,8 +33,8 @@ use Rattle.station_poll.specs.Poll.{pollOf}
 use Rattle.theorem_silence.specs.Silence.{Start, AllQuiet, holdsToken, until, told, sentUntil, counted, countedIn, slotAfter}
 use Rattle.theorem_silence.specs.Times.{Slotted, slotted, pauseTime, after-shorter}
 use Rattle.theorem_silence.specs.Phases.{Phase, starting, next, nextSent, todo, Under, some-under, longest, longest-now, longest-next, todo-next, tokens-length}
-use Rattle.theorem_silence.specs.OnePoll.{At, Sends, Turn, sends, stays, quietStep, turn}
-use Rattle.theorem_silence.specs.Theorem.{stationOf, clockOf, poll-at, RunFrom, started, run-of, silence}
+use Rattle.theorem_silence.specs.OnePoll.{At, Sends, quietStep, turn}
+use Rattle.theorem_silence.specs.Theorem.{stationOf, clockOf, poll-at, counted-sends, RunFrom, started, run-of, silence}
 use Rattle.theorem_silence.specs.SilentRecords.{silentAt, silent-quiet, silent-clock}
 
 -- a poll sends at most one telegram
@@ -99,11 +98,6 @@ evenly-quiet (suc m) n step clock l = (silent-quiet n clock (room-here (suc m) s
 abbrev pub AllAfter : (Parameters → Micros) → Station → List (List ℕ) → Type 0
 AllAfter time s [] = Unit {0}
 AllAfter time s (bytes ∷ later) = (slotAfter (s .core .«last_bus_activity») (headOf bytes .clock) (time (s .p) .0) ≡ true) × AllAfter time (pollOf s bytes .station) later
-
--- a turn that is counted sends
-counted-sends : (p : Parameters) (bytes : List ℕ) (ph : Phase) (counts : Bool) (x : RingStep) → counts ≡ true → Turn p (clockOf bytes) ph counts x → Sends p (clockOf bytes) (nextSent (p .address) ph) (next ph) x
-counted-sends p bytes ph counts x e (sends g) = g
-counted-sends p bytes ph counts x e (stays f g) = absurd (true≢false (sym e ∙ f))
 
 -- the time of as many bytes
 abbrev pub bytesTime : Parameters → ℕ → ℕ

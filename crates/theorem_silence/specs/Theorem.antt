@@ -29,11 +29,12 @@ use Rattle.station.specs.declared.RingStep.{RingStep}
 use Rattle.station.specs.Parts.{stateNumber}
 use Rattle.station.specs.Steps.{ongoingOf, busActivityOf, doneOf, ringStepOf}
 use Rattle.station_poll.specs.Poll.{connectedOf, pollOnline, pollInner, acceptedAfter, acceptedPoll, pollOf}
+use Rattle.station_answer.specs.declared.Polled.{Polled}
 use Rattle.station_answer.specs.Answer.{polledOf, stepAnswer}
 use Rattle.theorem_silence.specs.Silence.{Start, Quiet, AllQuiet, holdsToken, until, told, sentUntil, counted, countedIn, slotAfter, Theorem}
 use Rattle.theorem_silence.specs.Times.{Slotted, slotted}
 use Rattle.theorem_silence.specs.Phases.{Phase, asking, awaiting, starting, checking, claiming, holding, next, nextSent, told-next, todo, inRing, endRing, Under, under-or-held, todo-next, todo-some, tokens-length, advance, end-advance, ring-after}
-use Rattle.theorem_silence.specs.OnePoll.{At, ready-at, Turn, sends, stays, quietStep, turn}
+use Rattle.theorem_silence.specs.OnePoll.{At, ready-at, Sends, Turn, sends, stays, quietStep, turn}
 
 -- the station of these parts
 abbrev pub stationOf : Parameters → ℕ → State → Core → Ring → Station
@@ -79,6 +80,19 @@ connected-at (holding os) p s c r g = ap connectedOf (g .1 .held) ∙ sym (g .1 
 -- a silent poll of a station at a place, told by the silent step
 pub poll-at : (ph : Phase) (p : Parameters) (n : ℕ) (s : State) (c : Core) (r : Ring) (bytes : List ℕ) → Quiet n bytes → At ph p s c r → pollOf (stationOf p n s c r) bytes ≡ polledOf p n (quietStep p s c r (clockOf bytes) bytes n)
 poll-at ph p n s c r bytes q g = poll-is p n s c r bytes q (ready-at ph p s c r g .on) (connected-at ph p s c r g)
+
+-- a turn that is counted sends
+pub counted-sends : (p : Parameters) (bytes : List ℕ) (ph : Phase) (counts : Bool) (x : RingStep) → counts ≡ true → Turn p (clockOf bytes) ph counts x → Sends p (clockOf bytes) (nextSent (p .address) ph) (next ph) x
+counted-sends p bytes ph counts x e (sends g) = g
+counted-sends p bytes ph counts x e (stays f g) = absurd (true≢false (sym e ∙ f))
+
+-- and leads to the next place
+pub counted-moves : (ph : Phase) (s : Station) (bytes : List ℕ) → Slotted (s .p) → Quiet (s .applications) bytes → Under ph → At ph (s .p) (s .state) (s .core) (s .«token_ring») → counted s bytes ≡ true → At (next ph) (s .p) (pollOf s bytes .station .state) (pollOf s bytes .station .core) (pollOf s bytes .station .«token_ring»)
+unfolding counted polledOf
+counted-moves ph s bytes w q u g e =
+    let p = s .p in
+    let moved = counted-sends p bytes ph _ _ e (turn p w (s .state) (s .core) (s .«token_ring») (clockOf bytes) bytes (s .applications) ph u g) in
+    subst (λ (y : Polled). At (next ph) p (y .station .state) (y .station .core) (y .station .«token_ring»)) (sym (poll-at ph p (s .applications) (s .state) (s .core) (s .«token_ring») bytes q g)) (moved .place)
 
 -- a station holds the token exactly at the last place
 number-not-three : (ph : Phase) (p : Parameters) (s : State) (c : Core) (r : Ring) → Under ph → At ph p s c r → eqb (stateNumber s) 3 ≡ false
