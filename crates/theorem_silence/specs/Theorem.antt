@@ -44,16 +44,19 @@ stationOf p n s c r = record { state = s; core = c; «token_ring» = r; p = p; a
 abbrev pub clockOf : List ℕ → Micros
 clockOf bytes = record { 0 = headOf bytes .clock }
 
--- a silent poll of an online station is the silent step; it leaves Offline first
+-- an online station leaves Offline first
+pub inner-online : (p : Parameters) (s : State) (c : Core) (r : Ring) (now : Micros) (transmitting : Bool) (pending : ℕ) (bytes : List ℕ) (n count : ℕ) → c .online ≡ true → pollInner p s c r now transmitting pending bytes n count ≡ pollOnline p (connectedOf s) c r now transmitting pending bytes n count
+unfolding pollInner
+inner-online p s c r now transmitting pending bytes n count on =
+    ap (λ (b : Bool). cond b (pollOnline p (connectedOf s) c r now transmitting pending bytes n count) (ringStepOf (doneOf s c outcome.Offline) r)) on
+
+-- a silent poll of an online station is the silent step
 online-quiet : (p : Parameters) (s : State) (c : Core) (r : Ring) (now : Micros) (bytes : List ℕ) (n : ℕ) → pollOnline p s c r now false 0 bytes n 0 ≡ quietStep p s c r now bytes n
 unfolding pollOnline busActivityOf ongoingOf quietStep
 online-quiet p s c r now bytes n = rw (le-ltb (c .«pending_bytes») 0 (omega arith))
 
 inner-quiet : (p : Parameters) (s : State) (c : Core) (r : Ring) (now : Micros) (bytes : List ℕ) (n : ℕ) → c .online ≡ true → pollInner p s c r now false 0 bytes n 0 ≡ quietStep p (connectedOf s) c r now bytes n
-unfolding pollInner
-inner-quiet p s c r now bytes n on =
-    ap (λ (b : Bool). cond b (pollOnline p (connectedOf s) c r now false 0 bytes n 0) (ringStepOf (doneOf s c outcome.Offline) r)) on
-    ∙ online-quiet p (connectedOf s) c r now bytes n
+inner-quiet p s c r now bytes n on = inner-online p s c r now false 0 bytes n 0 on ∙ online-quiet p (connectedOf s) c r now bytes n
 
 pub poll-quiet : (p : Parameters) (n : ℕ) (s : State) (c : Core) (r : Ring) (bytes : List ℕ) → Quiet n bytes → c .online ≡ true → pollOf (stationOf p n s c r) bytes ≡ polledOf p n (quietStep p (connectedOf s) c r (clockOf bytes) bytes n)
 unfolding pollOf acceptedPoll acceptedAfter
