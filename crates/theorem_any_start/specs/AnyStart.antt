@@ -34,7 +34,7 @@ use Rattle.station.specs.Parts.{stateNumber}
 use Rattle.station_pass.specs.Pass.{gapAdvanced}
 use Rattle.station_poll.specs.Poll.{pollOf}
 use Rattle.theorem_sound.specs.Keeps.{RingGood}
-use Rattle.theorem_silence.specs.Silence.{online, AllQuiet, holdsToken, until, sentUntil, tokens}
+use Rattle.theorem_silence.specs.Silence.{online, AllQuiet, holdsToken, until, sentUntil, countedIn, tokens}
 use Rattle.theorem_silence.specs.Phases.{triedBefore, tokensFrom, claimTokens}
 
 -- What is assumed of the station. Every station that calls make with accepted settings meets the first two lines (`met-by-calls` of Met).
@@ -117,6 +117,9 @@ pub record FromAnyStart (s : Station) (records : List (List ℕ)) : Type 0 where
   pub bound : 3 * length (others (s .«token_ring»)) + 2 ≤ lostCountedIn s records → holdsToken (until s records) ≡ true
   -- By the state: as many counted polls are enough as there are telegrams in the question and the tokens (Numbers has the numbers).
   pub by-state : inPlan (planOf s) ≤ lostCountedIn s records → holdsToken (until s records) ≡ true
+  -- From ClaimToken (4) to AwaitStatusResponse (8), where nothing waits for the lost token, polls that come one slot time after known last
+  -- activity are enough, those that Silence counts.
+  pub by-slot : 4 ≤ stateNumber (s .state) → stateNumber (s .state) ≤ 8 → inPlan (planOf s) ≤ countedIn s records → holdsToken (until s records) ≡ true
   -- What is sent, and the order: until it enters UseToken it sends nothing but what comes before the tokens, and the tokens, from the
   -- first on. What is sent and the rest make up that list.
   pub first : List Sent

@@ -33,7 +33,7 @@ use Rattle.station_poll.specs.Poll.{connectedOf, pollOf}
 use Rattle.theorem_silence.specs.Silence.{gapDue, AllQuiet, holdsToken, until, told, sentUntil, counted, countedIn, thrice}
 use Rattle.theorem_silence.specs.Times.{Slotted, slotted}
 use Rattle.theorem_silence.specs.Phases.{Phase, asking, awaiting, starting, checking, claiming, holding, triedBefore, tokensFrom, claimTokens, todo, inRing, tokens-length}
-use Rattle.theorem_silence.specs.OnePoll.{Ready, At, quietStep}
+use Rattle.theorem_silence.specs.OnePoll.{Ready, At, quietStep, no-gap}
 use Rattle.theorem_silence.specs.Theorem.{stationOf, clockOf, poll-quiet, until-on, sent-on, one-less, run-from}
 use Rattle.theorem_silence.specs.Asking.{Found, found-later, uncounted, found}
 use Rattle.theorem_any_start.specs.AnyStart.{AnyStart, lostAfter, lostCounted, lostCountedIn, Plan, claimPlan, planOn, planOf, inPlan, Before, asked, answered, FromAnyStart, Theorem}
@@ -209,13 +209,9 @@ finds-from (bytes ∷ later) p w n q request os s c r g l =
 -- Where the station is: at a place of Silence's with as much to send as its state plans, or waiting for the lost token.
 data Placed (gap : GapState) (p : Parameters) (s : State) (c : Core) (r : Ring) : Type 0 where
   on-way : (ph : Phase) → At ph p s c r → others r ≡ inRing ph → todo (p .address) ph ≡ planOn s gap (others r) (p .address) .question ++ planOn s gap (others r) (p .address) .tokens-left → Placed gap p s c r
-  hearing : (request : OptionAddress) → Hears request s → planOn s gap (others r) (p .address) ≡ claimPlan request (p .address) → Placed gap p s c r
+  hearing : (request : OptionAddress) → stateNumber s ≤ 2 → Hears request s → planOn s gap (others r) (p .address) ≡ claimPlan request (p .address) → Placed gap p s c r
 
--- no question is due in a pass that does not look at the gap, or whose gap's turn has none
-no-look : (p : Parameters) (c : Core) (r : Ring) → gapDue p c r false ≡ false
-unfolding gapDue
-no-look p c r = refl
-
+-- no question is due in a pass whose gap's turn has none
 no-turn : (p : Parameters) (c : Core) (r : Ring) (count : ℕ) → gapAdvanced p r (c .«gap_state») ≡ Waiting count → gapDue p c r true ≡ false
 unfolding gapDue
 no-turn p c r count e = rw e
@@ -223,13 +219,13 @@ no-turn p c r count e = rw e
 pass-placed : (look : Bool) (gap : GapState) (k : PassTokenAttempt) (p : Parameters) (c : Core) (r : Ring) → Ready p c r (others r) → gapAdvanced p r (c .«gap_state») ≡ gap → Placed gap p (PassToken look k) c r
 pass-placed true (DoPoll a) k p c r w e = on-way (asking a (others r)) (w, record { attempt = k; passing = refl; question = e }) refl refl
 pass-placed true (Waiting count) k p c r w e = on-way (starting k (others r)) (w, record { gap = true; passing = refl; no-question = no-turn p c r count e }) refl refl
-pass-placed false gap k p c r w e = on-way (starting k (others r)) (w, record { gap = false; passing = refl; no-question = no-look p c r }) refl refl
+pass-placed false gap k p c r w e = on-way (starting k (others r)) (w, record { gap = false; passing = refl; no-question = no-gap p c r }) refl refl
 
 placed : (s : State) (p : Parameters) (c : Core) (r : Ring) → Ready p c r (others r) → (stateNumber s ≡ 3 → ⊥) → (stateNumber s ≡ 5 → ⊥) → Placed (gapAdvanced p r (c .«gap_state»)) p s c r
 unfolding connectedOf
-placed Offline p c r w a b = hearing optionAddress.None (listening 0 refl) refl
-placed (ListenToken q i) p c r w a b = hearing q (listening i refl) refl
-placed (ActiveIdle q m i) p c r w a b = hearing q (idle m i refl) refl
+placed Offline p c r w a b = hearing optionAddress.None (omega arith) (listening 0 refl) refl
+placed (ListenToken q i) p c r w a b = hearing q (omega arith) (listening i refl) refl
+placed (ActiveIdle q m i) p c r w a b = hearing q (omega arith) (idle m i refl) refl
 placed (UseToken i d) p c r w a b = absurd (a refl)
 placed (ClaimToken f) p c r w a b = on-way (claiming f (others r)) (w, refl) refl refl
 placed (AwaitDataResponse x d) p c r w a b = absurd (b refl)
@@ -286,6 +282,7 @@ module _ (s : Station) (records : List (List ℕ)) (h : AnyStart s) (q : AllQuie
       record {
         bound = λ l. g .bound-of (omega (arith, lost-fewer records s));
         by-state = λ l. g .bound-of (omega (arith, lost-fewer records s));
+        by-slot = λ a b l. g .bound-of (omega arith);
         first = planOf s .question;
         first-is = asked refl;
         rest = g .rest;
@@ -293,12 +290,13 @@ module _ (s : Station) (records : List (List ℕ)) (h : AnyStart s) (q : AllQuie
         all-sent = g .all-of;
         some-left = g .some-of;
       }
-  runs (hearing request g e) =
+  runs (hearing request low g e) =
       let f = ran records (s .p) slots (s .applications) q request (others (s .«token_ring»)) (s .state) (s .core) (s .«token_ring») (ready, g) in
       let two : inPlan (planOf s) ≡ 2 = ap inPlan e in
       record {
         bound = λ l. f .in-time (omega arith);
         by-state = λ l. f .in-time (omega arith);
+        by-slot = λ a b l. absurd (omega arith);
         first = f .first;
         first-is = subst (λ (x : Plan). Before x (f .first)) (sym e) (f .first-is);
         rest = f .rest;
@@ -322,7 +320,7 @@ module _ (s : Station) (records : List (List ℕ)) (h : AnyStart s) (q : AllQuie
         sent = f .sent ∙ t;
         asks = f .asks;
       }
-  asks l (hearing request g e) =
+  asks l (hearing request low g e) =
       let x = finds-from records (s .p) slots (s .applications) q request (others (s .«token_ring»)) (s .state) (s .core) (s .«token_ring») (ready, g) (omega arith) in
       let f = x .finds in
       record {

@@ -230,7 +230,7 @@ unfolding claimTokenOf pauseOf doneOf
 claim-waits p c r now first os w e = rw e (record { nothing = refl; place = (known-ready p c r os now _ w, refl) })
 
 -- a pass without a look at the gap has no question due
-no-gap : (p : Parameters) (c : Core) (r : Ring) → gapDue p c r false ≡ false
+pub no-gap : (p : Parameters) (c : Core) (r : Ring) → gapDue p c r false ≡ false
 unfolding gapDue
 no-gap p c r = refl
 

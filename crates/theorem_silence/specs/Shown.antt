@@ -50,6 +50,7 @@ use Rattle.theorem_silence.specs.Sharp.{turnTime, sharp}
 use Rattle.theorem_silence.specs.Scripts.{token, declines, sends-nine, recordOf, pollHearing, pollSilent, claims, lowest, hears-all, hears-cut, begins-look, others-look, responseOf1, answer-type, begins-question, others-question, asks-one, callsFor}
 use Rattle.theorem_silence.specs.Met.{Met, PremisesMet}
 use Rattle.theorem_silence.specs.Rings.{UpTo, others-up-to, cut-all, cut-added, one-out, one-asked}
+use Rattle.theorem_silence.specs.OnePoll.{no-gap}
 use Rattle.theorem_silence.specs.Made.{listens-look, lowestWith, coreAt, pass-look, pass-question, awaits-one, pass-answered, calls-none, calls-on, begun-look, ring-all, ring-alone, begun-question, ring-but-one, first-runs, members, says-token, cut-heard, claimed, one-gets-asked, one-answers}
 
 -- with accepted settings and one application there is a new station, and calls make others of it
@@ -235,13 +236,8 @@ made-question k l =
     answered-for zero = one-answers (claimOf (claimOf ring-alone)) .not-ready
     answered-for (suc k) = one-answers (claimOf (claimOf (before-one (suc k)))) .in-ring
 
--- no question is due where the gap is not looked at
-no-look : (r : Ring) → gapDue lowest (pass-answered r .core) r false ≡ false
-unfolding gapDue
-no-look r = refl
-
 met-question : (k : ℕ) → k ≤ 125 → Met k false
-met-question k l = met-by k false 7600 68272 8300 (DoPoll 1) (after-one k) (callsFor k false) l (omega arith) (made-question k l) (no-look (after-one k)) (own-after k) (members-question k l)
+met-question k l = met-by k false 7600 68272 8300 (DoPoll 1) (after-one k) (callsFor k false) l (omega arith) (made-question k l) (no-gap lowest (pass-answered (after-one k) .core) (after-one k)) (own-after k) (members-question k l)
 
 -- for both flags
 pub premises-met : PremisesMet
