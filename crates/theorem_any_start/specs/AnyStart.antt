@@ -73,6 +73,10 @@ pub record Plan : Type 0 where
   pub question : List Sent
   pub tokens-left : List Sent
 
+-- nothing but these tokens
+abbrev pub onlyTokens : List Sent → Plan
+onlyTokens left = record { noted = optionAddress.None; question = []; tokens-left = left }
+
 -- who waits for the lost token claims it: two tokens to itself
 abbrev pub claimPlan : OptionAddress → ℕ → Plan
 claimPlan request own = record { noted = request; question = []; tokens-left = claimTokens true own }
@@ -81,20 +85,20 @@ claimPlan request own = record { noted = request; question = []; tokens-left = c
 -- where the pass looks at the gap
 abbrev pub passPlan : Bool → GapState → PassTokenAttempt → List ℕ → ℕ → Plan
 passPlan true (DoPoll current) attempt stations own = record { noted = optionAddress.None; question = StatusRequest current ∷ []; tokens-left = tokens stations own }
-passPlan true (Waiting count) attempt stations own = record { noted = optionAddress.None; question = []; tokens-left = tokensFrom (triedBefore attempt) stations own }
-passPlan false gap attempt stations own = record { noted = optionAddress.None; question = []; tokens-left = tokensFrom (triedBefore attempt) stations own }
+passPlan true (Waiting count) attempt stations own = onlyTokens (tokensFrom (triedBefore attempt) stations own)
+passPlan false gap attempt stations own = onlyTokens (tokensFrom (triedBefore attempt) stations own)
 
 -- by the state, with the gap's turn moved on by one (what a pass that looks at the gap does first), the others in ring order, and own
 abbrev pub planOn : State → GapState → List ℕ → ℕ → Plan
 planOn Offline gap stations own = claimPlan optionAddress.None own
 planOn (ListenToken request collisions) gap stations own = claimPlan request own
 planOn (ActiveIdle request newPreviousStation collisions) gap stations own = claimPlan request own
-planOn (ClaimToken first) gap stations own = record { noted = optionAddress.None; question = []; tokens-left = claimTokens first own }
+planOn (ClaimToken first) gap stations own = onlyTokens (claimTokens first own)
 planOn (PassToken look attempt) gap stations own = passPlan look gap attempt stations own
-planOn (CheckTokenPass attempt) gap stations own = record { noted = optionAddress.None; question = []; tokens-left = tokensFrom (suc (triedBefore attempt)) stations own }
-planOn (AwaitStatusResponse address) gap stations own = record { noted = optionAddress.None; question = []; tokens-left = tokens stations own }
-planOn (UseToken cycled held) gap stations own = record { noted = optionAddress.None; question = []; tokens-left = [] }
-planOn (AwaitDataResponse address held) gap stations own = record { noted = optionAddress.None; question = []; tokens-left = [] }
+planOn (CheckTokenPass attempt) gap stations own = onlyTokens (tokensFrom (suc (triedBefore attempt)) stations own)
+planOn (AwaitStatusResponse address) gap stations own = onlyTokens (tokens stations own)
+planOn (UseToken cycled held) gap stations own = onlyTokens []
+planOn (AwaitDataResponse address held) gap stations own = onlyTokens []
 
 abbrev pub planOf : Station → Plan
 planOf s = planOn (s .state) (gapAdvanced (s .p) (s .«token_ring») (s .core .«gap_state»)) (others (s .«token_ring»)) (s .p .address)

@@ -36,14 +36,23 @@ abbrev pub behind : List ℕ → List ℕ
 behind [] = []
 behind (x ∷ more) = more
 
--- the place after one telegram more; the first of the others is taken out after its third token
+-- the attempt after this one, and the others then: after a third token the first of them is taken out
+abbrev pub nextAttempt : PassTokenAttempt → PassTokenAttempt
+nextAttempt First = Second
+nextAttempt Second = Third
+nextAttempt Third = First
+
+abbrev pub stillTried : PassTokenAttempt → List ℕ → List ℕ
+stillTried First os = os
+stillTried Second os = os
+stillTried Third os = behind os
+
+-- the place after one telegram more
 abbrev pub next : Phase → Phase
 next (asking a os) = awaiting os
 next (awaiting os) = sentTo First os
 next (starting attempt os) = sentTo attempt os
-next (checking First os) = sentTo Second os
-next (checking Second os) = sentTo Third os
-next (checking Third os) = sentTo First (behind os)
+next (checking attempt os) = sentTo (nextAttempt attempt) (stillTried attempt os)
 next (claiming true os) = claiming false os
 next (claiming false os) = holding os
 next (holding os) = holding os
@@ -53,9 +62,7 @@ abbrev pub nextSent : ℕ → Phase → Sent
 nextSent own (asking a os) = StatusRequest a
 nextSent own (awaiting os) = Token (headOr own os)
 nextSent own (starting attempt os) = Token (headOr own os)
-nextSent own (checking First os) = Token (headOr own os)
-nextSent own (checking Second os) = Token (headOr own os)
-nextSent own (checking Third os) = Token (headOr own (behind os))
+nextSent own (checking attempt os) = Token (headOr own (stillTried attempt os))
 nextSent own (claiming first os) = Token own
 nextSent own (holding os) = Token own
 
@@ -64,9 +71,7 @@ pub told-next : (own : ℕ) (ph : Phase) → told (nextSent own ph) ≡ nextSent
 told-next own (asking a os) = refl
 told-next own (awaiting os) = refl
 told-next own (starting attempt os) = refl
-told-next own (checking First os) = refl
-told-next own (checking Second os) = refl
-told-next own (checking Third os) = refl
+told-next own (checking attempt os) = refl
 told-next own (claiming first os) = refl
 told-next own (holding os) = refl
 
@@ -83,9 +88,7 @@ pub longest-now : (own : ℕ) (ph : Phase) → sentBytes (nextSent own ph) ≡ l
 longest-now own (asking a os) = refl
 longest-now own (awaiting os) = refl
 longest-now own (starting attempt os) = refl
-longest-now own (checking First os) = refl
-longest-now own (checking Second os) = refl
-longest-now own (checking Third os) = refl
+longest-now own (checking attempt os) = refl
 longest-now own (claiming first os) = refl
 longest-now own (holding os) = refl
 
@@ -105,9 +108,7 @@ pub longest-next : (ph : Phase) → longest (next ph) ≤ longest ph
 longest-next (asking a os) = omega arith
 longest-next (awaiting os) = omega (arith, sent-longest First os)
 longest-next (starting attempt os) = omega (arith, sent-longest attempt os)
-longest-next (checking First os) = omega (arith, sent-longest Second os)
-longest-next (checking Second os) = omega (arith, sent-longest Third os)
-longest-next (checking Third os) = omega (arith, sent-longest First (behind os))
+longest-next (checking attempt os) = omega (arith, sent-longest (nextAttempt attempt) (stillTried attempt os))
 longest-next (claiming true os) = omega arith
 longest-next (claiming false os) = omega arith
 longest-next (holding os) = omega arith
@@ -222,9 +223,7 @@ pub end-next : (ph : Phase) → endRing (next ph) ≡ endRing ph
 end-next (asking a os) = refl
 end-next (awaiting os) = sent-end First os
 end-next (starting attempt os) = sent-end attempt os
-end-next (checking First os) = sent-end Second os
-end-next (checking Second os) = sent-end Third os
-end-next (checking Third os) = sent-end First (behind os)
+end-next (checking attempt os) = sent-end (nextAttempt attempt) (stillTried attempt os)
 end-next (claiming true os) = refl
 end-next (claiming false os) = refl
 end-next (holding os) = refl
