@@ -1,7 +1,7 @@
 # The commands of README.md. Each is a script under scripts/, which says on one line what it lacks. Variables on the command
 # line reach the scripts through the environment. `make help` prints what stands after each ##, variables in brackets first.
 .DEFAULT_GOAL := help
-.PHONY: help test replay explain picture watchdog compare speed figures
+.PHONY: help test replay explain heard picture import export watchdog compare speed figures
 
 help: ## prints this list
 	@awk -F ': ## ' '/^[a-z]+: ## / { \
@@ -18,8 +18,17 @@ replay: ## [TRACE=file] replays a trace with the proved program: answers as hexa
 explain: ## [TRACE=file] [FROM=n] [TO=m] the same answers in words, a line for each entry
 	@bash scripts/explain.sh
 
-picture: ## [TRACE=file] [OUT=file] [FROM=n] [TO=m] the same as a picture that any browser opens
+heard: ## [TRACE=file] who was heard, and when, as the proved library gives it
+	@bash scripts/heard.sh
+
+picture: ## [TRACE=file] [OUT=file] [FROM=n] [TO=m] [HEARD=1] the same as a picture that any browser opens
 	@bash scripts/picture.sh
+
+import: ## [CAPTURE=file] [OUT=file] [ADDRESS=n] [BAUD=n] [SLOT=n] .. makes a trace of a bus monitor's text
+	@bash scripts/import.sh
+
+export: ## [TRACE=file] [OUT=file] the text of a bus monitor that a trace gives
+	@bash scripts/export.sh
 
 watchdog: ## [MS=n] how the two watchdog factors of n milliseconds come about, as the proved calls give them
 	@bash scripts/watchdog.sh

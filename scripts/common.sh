@@ -68,12 +68,40 @@ find_runner() {
     fi
 }
 
+# readable FILE: it is a file that can be read.
+readable() {
+    [ -e "$1" ] || fail "there is no file $1"
+    { [ -f "$1" ] && [ -r "$1" ]; } || fail "$1 is not a file that can be read"
+}
+
 # Sets `trace` to the file that TRACE names, example 12 if it names none, and `size` to its length.
 find_trace() {
     trace=${TRACE:-traces/example12.trace}
-    [ -e "$trace" ] || fail "there is no file $trace"
-    { [ -f "$trace" ] && [ -r "$trace" ]; } || fail "$trace is not a file that can be read"
+    readable "$trace"
     size=$(($(wc -c <"$trace")))
+}
+
+# find_out DEFAULT SOURCE: sets `out` to the file that OUT names, the default if it names none, whose folder is then made. It is
+# not the file SOURCE that it is made from.
+find_out() {
+    local folder
+    out=${OUT:-$1}
+    folder=$(dirname -- "$out")
+    [ -n "${OUT:-}" ] || mkdir -p "$folder" || fail "the folder $folder could not be made"
+    [ -d "$folder" ] || fail "there is no folder $folder for $out"
+    [ ! -e "$out" ] || [ -f "$out" ] || fail "$out is not a file"
+    [ ! "$out" -ef "$2" ] || fail "$out is the file that it is made from"
+}
+
+# write_out COMMAND..: what the command prints becomes the file $out, which gets its name when it is whole. Prints the name. The
+# file $scratch, where the script has made one, goes with the unfinished one.
+write_out() {
+    part=$out.part-$$
+    trap 'rm -f -- "$part" ${scratch:+"$scratch"}' EXIT
+    (: >"$part") 2>/dev/null || fail "$out could not be written"
+    "$@" >"$part" || exit 1
+    mv -f -- "$part" "$out" || fail "$out could not be written"
+    echo "$out"
 }
 
 # The program replay reads no more bytes of a trace.
@@ -100,6 +128,16 @@ build_staticlib() {
     rm -f target/staticlib/stamp
     quietly "the library amsulfezd was not proved" rt staticlib amsulfezd
     cp target/stamp/amsulfezd target/staticlib/stamp 2>/dev/null || rm -f target/staticlib/stamp
+}
+
+# Builds the C program that imports and exports captures with the proved library, and sets `capture_file` to how it is run.
+need_captures() {
+    need_rt
+    find_runner
+    need_c_compiler
+    build_staticlib
+    c_host target/hosts/c/capture_file hosts/c/capture_file.c
+    capture_file=("${emulator[@]}" target/hosts/c/capture_file)
 }
 
 # host_cargo WORD..: cargo on the packages of hosts/rust, without the proved library.
@@ -224,11 +262,35 @@ build_oracle() {
 need_library() {
     machine=$(uname -m)
     if [ "$machine" != x86_64 ]; then
-        echo "traces: not run: the static library of replay_trace is for x86-64, this machine is $machine"
+        echo "$me: not run: the static library is for x86-64, this machine is $machine"
         exit 3
     fi
     build_staticlib
     export AMSULFEZD_STATICLIB_DIR=$PWD/target/staticlib
+}
+
+# compare_proved COUNT PROVED PROGRAM ANSWERS FAILURE: compares the proved calls with the oracle's on what is generated, with
+# the seed that SEED says, else 1, and as many as COUNT in the environment says, else the first word. On x86-64 both stand in
+# one process, the program PROVED of oracle/linked; elsewhere, and on x86-64 with BY_PROGRAM=1, the proved calls stand in the
+# C program ANSWERS, which the oracle's PROGRAM asks. The last word is what has failed where it fails.
+compare_proved() {
+    local seed=${SEED:-1} count=${COUNT:-$1} proved=$2 program=$3 answers=$4 failure=$5 compare
+    [[ "$seed" =~ ^[0-9]{1,18}$ ]] || fail "SEED is a whole number of at most 18 digits, not '$seed'"
+    [[ "$count" =~ ^[1-9][0-9]{0,17}$ ]] || fail "COUNT is a whole number above 0 of at most 18 digits, not '$count'"
+    find_runner
+    need cargo cargo
+    if [ "$machine" = x86_64 ] && [ -z "${BY_PROGRAM:-}" ]; then
+        need_library
+        build_oracle --release -p linked
+        compare=("target/oracle/release/$proved" "$seed" "$count")
+    else
+        need_c_compiler
+        build_staticlib
+        c_host "target/oracle/$answers" "oracle/linked/$answers.c"
+        build_oracle --release --bin "$program"
+        compare=("target/oracle/release/$program" "$seed" "$count" -- "${emulator[@]}" "target/oracle/$answers")
+    fi
+    "${compare[@]}" || fail "$failure, or did not reach all (seed $seed)"
 }
 
 # find_answers PROGRAM: builds the program of hosts/rust/tools that is to read them, and sets `answers` to the answers to
@@ -252,4 +314,12 @@ answers_of_library() {
     need_c_compiler
     c_host target/hosts/c/replay_file hosts/c/replay_file.c
     "${emulator[@]}" target/hosts/c/replay_file "$trace"
+}
+
+# Prints when each address was heard in a trace, as hosts/c/heard_file.c does.
+heard_by_library() {
+    build_staticlib
+    need_c_compiler
+    c_host target/hosts/c/heard_file hosts/c/heard_file.c
+    "${emulator[@]}" target/hosts/c/heard_file "$trace"
 }

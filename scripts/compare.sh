@@ -1,7 +1,7 @@
 #!/usr/bin/env bash
 # Compares the proved code with Rust: the settings with the published parameters.rs, the trace call with the published
-# active.rs, and the calls on frames with a reader and a writer from document 02. SEED, TRACES and FRAMES in the environment
-# change what is generated.
+# active.rs, and the calls on frames and on captures with a reader, a writer, an importer and an exporter from document 02.
+# SEED, TRACES, FRAMES and CAPTURES in the environment change what is generated.
 set -euo pipefail
 cd "$(dirname "$0")/.." || exit 1
 me=compare
@@ -10,6 +10,7 @@ me=compare
 seed=${SEED:-1}
 traces=${TRACES:-20000}
 frames=${FRAMES:-1000000}
+captures=${CAPTURES:-200000}
 
 need cargo cargo
 
@@ -39,17 +40,22 @@ echo "watchdog: ${#times[@]} times by the published parameters.rs, 0 differ"
 # The whole station: the proved trace call and the published active.rs. Where the library is linked, some traces also go
 # the way of the other machines, through a program that answers them.
 wait "$library" || true
+
+# by_program COUNT SCRIPT FAILURE: a comparison that goes that way. The last line that it prints is shown.
+by_program() {
+    local count=$1 script=$2 failure=$3 said
+    said=$(SEED=$seed COUNT=$count BY_PROGRAM=1 bash "$script") || {
+        echo "$said"
+        fail "$failure (seed $seed)"
+    }
+    echo "by a program: $(tail -n 1 <<<"$said")"
+}
+
 if [ "$(uname -m)" = x86_64 ]; then
-    said=$(SEED=$seed COUNT=500 BY_PROGRAM=1 bash scripts/compare_traces.sh) || {
-        echo "$said"
-        fail "the trace call in a program is not the published station's (seed $seed)"
-    }
-    echo "by a program: $(tail -n 1 <<<"$said")"
-    said=$(SEED=$seed COUNT=1000 BY_PROGRAM=1 bash scripts/compare_frames.sh) || {
-        echo "$said"
-        fail "the calls on frames in a program are not document 02's (seed $seed)"
-    }
-    echo "by a program: $(tail -n 1 <<<"$said")"
+    by_program 500 scripts/compare_traces.sh "the trace call in a program is not the published station's"
+    by_program 1000 scripts/compare_frames.sh "the calls on frames in a program are not document 02's"
+    by_program 1000 scripts/compare_captures.sh "the calls on captures in a program are not document 02's"
 fi
 SEED=$seed COUNT=$frames bash scripts/compare_frames.sh || fail "the calls on frames are not document 02's (seed $seed)"
+SEED=$seed COUNT=$captures bash scripts/compare_captures.sh || fail "the calls on captures are not document 02's (seed $seed)"
 SEED=$seed COUNT=$traces bash scripts/compare_traces.sh || fail "the trace call is not the published station's (seed $seed)"

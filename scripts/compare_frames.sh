@@ -8,22 +8,4 @@ cd "$(dirname "$0")/.." || exit 1
 me="compare frames"
 . scripts/common.sh
 
-seed=${SEED:-1}
-count=${COUNT:-1000000}
-[[ "$seed" =~ ^[0-9]{1,18}$ ]] || fail "SEED is a whole number of at most 18 digits, not '$seed'"
-[[ "$count" =~ ^[1-9][0-9]{0,17}$ ]] || fail "COUNT is a whole number above 0 of at most 18 digits, not '$count'"
-
-find_runner
-need cargo cargo
-if [ "$machine" = x86_64 ] && [ -z "${BY_PROGRAM:-}" ]; then
-    need_library
-    build_oracle --release -p linked
-    compare=(target/oracle/release/compare_frames_proved "$seed" "$count")
-else
-    need_c_compiler
-    build_staticlib
-    c_host target/oracle/answer_frames oracle/linked/answer_frames.c
-    build_oracle --release --bin compare_frames
-    compare=(target/oracle/release/compare_frames "$seed" "$count" -- "${emulator[@]}" target/oracle/answer_frames)
-fi
-"${compare[@]}" || fail "the frames were not read and written as the oracle does, or did not reach all (seed $seed)"
+compare_proved 1000000 compare_frames_proved compare_frames answer_calls "the frames were not read and written as the oracle does"

@@ -34,11 +34,14 @@ def calls_of(crate):
 
 
 def is_claim(item, contract):
-    """Does this item of a specs file claim that a contract allows one result: by the word Determined, by the word DeterminedLeft
-    of a contract that the program logic alone reads, or by an equation between two that it allows?"""
+    """Does this item of a specs file claim that a contract allows one result: by the word Determined, by the word DeterminedLent
+    of a call that leaves a ring's tables, by the word DeterminedLeft of a contract that the program logic alone reads, or by an
+    equation between two that it allows?"""
     if re.fullmatch(rf"pub \S+ : DeterminedLeft {re.escape(contract)}\.ended \(λ M\. {re.escape(contract)}\.clauses\)", item):
         return True
     word = re.escape(contract) + r"\.Post"
+    if re.fullmatch(rf"pub \S+ : DeterminedLent {word} \(λ k s\. now \(s(?: \.1)* \.0\)\)", item):
+        return True
     spoken = re.findall(rf"(?<!\S){word}(?!\S)", item)
     return bool(re.fullmatch(rf"pub \S+ : Determined {word}", item)) or item.startswith("pub ") and len(spoken) == 2 and "≡" in item
 

@@ -47,21 +47,29 @@ def is_law(path, has_code):
     if not has_code:
         return name not in CLAIMS
     return name.endswith("Laws.antt") or path.endswith("codec_slices/specs/Parts.antt") or name in (
+        "Alike.antt",
         "Built.antt",
+        "Cycle.antt",
+        "Distances.antt",
         "Examples.antt",
         "Finish.antt",
         "Finished.antt",
+        "Loops.antt",
         "Made.antt",
         "Moves.antt",
+        "Near.antt",
         "Neighbours.antt",
         "Numbers.antt",
         "Passes.antt",
         "Places.antt",
         "Round.antt",
+        "Sets.antt",
         "Shortcut.antt",
         "Stores.antt",
+        "Tables.antt",
         "Ways.antt",
         "Widths.antt",
+        "Worked.antt",
         "Written.antt",
     )
 

@@ -93,7 +93,7 @@ test_planted_fields() {
 # A call takes no more stack than the header says, and one that takes more is found.
 test_stack() {
     local files
-    mapfile -t files < <(find traces/ hosts/rust -name '*.trace' | sort)
+    mapfile -t files < <(find traces/ hosts/rust -name '*.trace' -o -name '*.capture' | sort)
     c_host "$built/stack" hosts/c/stack.c
     "${emulator[@]}" "$built/stack" "$at_random" "${files[@]}" || fail "a call takes more stack than amsulfezd.h says"
     c_host "$built/stack-faulty" -DFAULT hosts/c/stack.c
@@ -121,6 +121,19 @@ replay_all() {
     awk -v n="$long" 'BEGIN { for (i = 0; i < n; i++) print "00000000000001fc"; print n, 0 }' >target/hosts/long.answers
     "$@" target/hosts/long.trace | cmp - target/hosts/long.answers || fail "the $host host answers a long trace wrongly"
     echo "$host host: $count traces replayed from files, each answered as its story says, and one of $long entries"
+}
+
+# Each story of traces/ that states who was heard: the proved call gives those entries, and no other address.
+heard_all() {
+    local count=0 stated
+    c_host "$built/heard_file" hosts/c/heard_file.c
+    while read -r stated; do
+        "${emulator[@]}" "$built/heard_file" "${stated%.heard}.trace" | cmp - "$stated" ||
+            fail "the C host hears otherwise than $stated"
+        count=$((count + 1))
+    done < <(find traces/ -name '*.heard' | sort)
+    [ "$count" -gt 0 ] || fail "no story states who was heard"
+    echo "C host: $count traces asked for every address, each heard as its story says"
 }
 
 # test_rust WORDS COMMAND..: the Rust host's tests hold, run so.
@@ -171,6 +184,85 @@ test_pictures() {
     echo "Pictures: $count and README's drawn as they are stored, and one of 500 entries"
 }
 
+# Each capture of traces/captures is imported, and each list of entries exported, as its story says; the site's text gives the
+# entries of its trace, and that trace the text that is stored.
+test_stored_captures() {
+    local folder=traces/captures count=0 given left
+    c_host "$built/capture_file" hosts/c/capture_file.c
+    for left in "$folder"/*.imported "$folder"/*.exported; do
+        given=${left%.*ported}.capture
+        [ "${left##*.}" = imported ] || given=${left%.*ported}.entries
+        "${emulator[@]}" "$built/capture_file" "${left##*.}" "$given" "$(sed -n '1s/^room //p' "$left")" | cmp - "$left" ||
+            fail "the C host leaves otherwise than its story: $left"
+        count=$((count + 1))
+    done
+    "${emulator[@]}" "$built/capture_file" import "$folder/site.capture" | cmp - "$folder/site.trace" ||
+        fail "the C host makes another trace of $folder/site.capture than its story"
+    "${emulator[@]}" "$built/capture_file" export "$folder/site.trace" | cmp - "$folder/site-again.capture" ||
+        fail "the C host makes another text of $folder/site.trace than its story"
+    echo "C host: $count captures from files, each as its story says, and the site's 500 lines there and back"
+}
+
+# says WORDS COMMAND..: the command fails and prints this one line.
+says() {
+    local words=$1 said
+    shift
+    ! said=$("$@" 2>&1) || fail "this does not fail: $*"
+    [ "$said" = "$words" ] || fail "$* says: $said"
+}
+
+# make import and make export: the site's files there and back, and their program with both editions and settings. A refusal and
+# bad usage are one line and status 1, and no file is left or changed then.
+test_capture_commands() {
+    local folder=target/hosts/captures stored=traces/captures file=("${emulator[@]}" "$built/capture_file") said line
+    { rm -rf "$folder" && mkdir -p "$folder"; } || fail "$folder could not be made"
+    { said=$(CAPTURE=$stored/site.capture OUT=$folder/site.trace bash scripts/import.sh) && [ "$said" = "$folder/site.trace" ]; } ||
+        fail "make import says: $said"
+    cmp "$folder/site.trace" "$stored/site.trace" || fail "make import makes another trace of the site's capture"
+    { said=$(TRACE=$folder/site.trace OUT=$folder/site.capture bash scripts/export.sh) && [ "$said" = "$folder/site.capture" ]; } ||
+        fail "make export says: $said"
+    cmp "$folder/site.capture" "$stored/site-again.capture" || fail "make export gives another text of the site's trace"
+    TRACE=$folder/site.trace bash scripts/explain.sh | grep -q 'entries answered: 126. Ending number 0' ||
+        fail "make explain does not take an imported trace"
+
+    # Edition 2, and every setting.
+    "${file[@]}" import "$stored/site.capture" EDITION=2 >"$folder/site-2.trace" || fail "the import with edition 2 fails"
+    { head -c 14 traces/edition-2/example12.trace && tail -c +17 "$stored/site.trace"; } | cmp - "$folder/site-2.trace" ||
+        fail "the import with edition 2 makes another trace"
+    "${file[@]}" export "$folder/site-2.trace" | cmp - "$stored/site-again.capture" || fail "the export of edition 2 gives another text"
+    "${file[@]}" import "$stored/empty.capture" ADDRESS=7 BAUD=10 ROTATION=40000 GAP=9 HSA=100 RETRY=2 TSDR=12 SLOT= |
+        cmp - <(printf '\x07\x0a\x03\xe8\x00\x00\x9c\x40\x09\x64\x02\x0c\x01\x00\x00\x00\x00') ||
+        fail "the import writes other settings than it is told"
+
+    # Refusals, in words.
+    line="a line that is not a time, one space, a frame in pairs of hex digits and a line feed, or has bytes after its frame"
+    says "import: $stored/31-tab.capture, line 2: refused with 31 ($line)" "${file[@]}" import $stored/31-tab.capture
+    says "import: $stored/33-ninth.capture, line 9: refused with 33 (more than 8 of one time)" "${file[@]}" import $stored/33-ninth.capture
+    says "import: $stored/22-check-byte.capture, line 2: refused with 22 (check byte)" "${file[@]}" import $stored/22-check-byte.capture
+    says "import: the settings are refused with 10 (baud code above 10)" "${file[@]}" import $stored/site.capture BAUD=11
+    says "import: SLOT is a whole number from 0 to 65535, not '1e3'" "${file[@]}" import $stored/site.capture SLOT=1e3
+    says "import: there is no setting 'SPEED=6'" "${file[@]}" import $stored/site.capture SPEED=6
+    says "export: traces/headers/03-hsa.trace: its header is refused with 3 (HSA)" "${file[@]}" export traces/headers/03-hsa.trace
+    says "export: traces/applications.trace: it has 3 applications, and a capture is of a trace with one" \
+        "${file[@]}" export traces/applications.trace
+
+    # Through the commands, onto files that are there.
+    said=$(find "$folder" -type f | sort | xargs cksum)
+    says "import: $stored/32-time-falls.capture, line 2: refused with 32 (a time below the one before)" \
+        env CAPTURE=$stored/32-time-falls.capture OUT="$folder/site.trace" bash scripts/import.sh
+    says "export: traces/cut-short-entry.trace, entry 2: refused with 17 (trace ends inside header or entry, or is above 2^32 bytes (checked with the header))" \
+        env TRACE=traces/cut-short-entry.trace OUT="$folder/site.capture" bash scripts/export.sh
+    says "make import: CAPTURE=file names no capture" bash scripts/import.sh
+    says "make import: there is no file $folder/nosuch" env CAPTURE="$folder/nosuch" bash scripts/import.sh
+    says "make import: there is no folder $folder/nosuch for $folder/nosuch/a" \
+        env CAPTURE=$stored/site.capture OUT="$folder/nosuch/a" bash scripts/import.sh
+    says "make import: $folder/site.capture is the file that it is made from" \
+        env CAPTURE="$folder/site.capture" OUT="$folder/site.capture" bash scripts/import.sh
+    says "make export: TRACE=file names no trace" bash scripts/export.sh
+    [ "$(find "$folder" -type f | sort | xargs cksum)" = "$said" ] || fail "a refused make import or make export changed a file of $folder"
+    echo "make import and make export: the site's capture there and back, both editions, settings, and each refusal on one line"
+}
+
 # The Rust host's tests hold with the proved library linked, and its example replays every trace. Where another machine
 # than x86-64 cannot have a Rust that links the library, one line says why this was not run.
 test_rust_linked() {
@@ -193,13 +285,18 @@ mkdir -p "$built"
 
 test_c test faulty replay_trace other_edition
 test_c test_frames faulty_frames read_frame write_frame
+test_c test_captures faulty_captures import_capture export_capture
+test_c test_heard faulty_heard trace_heard
 test_header
 test_stack
 test_c_example
 c_host "$built/replay_file" hosts/c/replay_file.c
 replay_all C "${emulator[@]}" "$built/replay_file"
+test_stored_captures
+heard_all
 
 test_rust "without the library" host_cargo test
 test_rust_linked
 
 test_pictures
+test_capture_commands

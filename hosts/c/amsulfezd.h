@@ -3,19 +3,24 @@
  *
  * A trace is a header and then entries: commands and poll records. A header has 16 bytes (edition 1), or 14 that begin
  * with 82h (edition 2, for slow lines). The proved call amsulfezd_replay_trace runs a trace and writes an answer of 8
- * bytes for each entry; amsulfezd_other_edition moves a header to the other edition. amsulfezd_read_frame reads a frame
- * as it stands on the bus, amsulfezd_write_frame writes one. In this file, in this order:
+ * bytes for each entry; amsulfezd_trace_heard says of one address when a trace's station heard it;
+ * amsulfezd_other_edition moves a header to the other edition. amsulfezd_read_frame reads a frame as it stands on the
+ * bus, amsulfezd_write_frame writes one. amsulfezd_import_capture makes entries of a bus monitor's text,
+ * amsulfezd_export_capture text of entries. In this file, in this order:
  *
  *   the numbers in traces and answers      enum amsulfezd_..
  *   the calls on traces                    amsulfezd_replay_trace, amsulfezd_entries, amsulfezd_ending;
+ *                                          amsulfezd_trace_heard, amsulfezd_heard_of;
  *                                          amsulfezd_other_edition, amsulfezd_written; amsulfezd_number
  *   the calls on frames                    amsulfezd_read_frame, amsulfezd_write_frame, amsulfezd_frame_..
- *   readers of an answer                   amsulfezd_answer, amsulfezd_answer_..
+ *   the calls on captures                  amsulfezd_import_capture, amsulfezd_export_capture
+ *   readers of an answer                   amsulfezd_answer, amsulfezd_answer_..; amsulfezd_state_name,
+ *                                          amsulfezd_refusal_words
  *   writers of a trace                     amsulfezd_write_header, amsulfezd_write_header_2, amsulfezd_write_command,
  *                                          amsulfezd_write_poll
  *
- * example.c uses all but the frames. The field widths are document 01's, "Station" and "Trace", and document 02's, P9; a
- * frame's bytes are document 02's, P1.
+ * example.c uses all but the frames, captures and who was heard. The field widths are document 01's, "Station" and
+ * "Trace", and document 02's, P7 and P9; a frame's bytes are document 02's, P1, a capture's text P13.
  *
  * Linking. `rt staticlib amsulfezd` proves the library and writes target/staticlib/libamsulfezd.a. From the
  * repository's root:
@@ -28,11 +33,11 @@
  * defined this file has them and not the calls.
  *
  * Stack. A call uses at most AMSULFEZD_STACK_BYTES of the caller's stack, its return address included, whatever the
- * trace's length. Measured: 1,554 bytes, with the library of the toolchain rattle-kit-5b. The method: the call runs on
+ * trace's length. Measured: 1,490 bytes, with the library of the toolchain rattle-kit-5b. The method: the call runs on
  * a stack of its own that was filled with a pattern, and the deepest byte that changed is looked for, over all traces
  * of traces/, one of 100,000 entries and 1,000 traces made at random, which reach every state and every kind of send;
- * each is replayed, and its header moved to the other edition; and over a frame of each start byte and a word of each
- * kind. hosts/c/stack.c does this and is part of the tests, so that a library that uses more than AMSULFEZD_STACK_BYTES is
+ * each is replayed, asked for an address that was heard, its header moved to the other edition, and its entries exported;
+ * over a frame of each start byte and a word of each kind; and over the captures of traces/. hosts/c/stack.c does this and is part of the tests, so that a library that uses more than AMSULFEZD_STACK_BYTES is
  * found. The library's code has no recursion, takes no stack by a computed length and calls nothing outside itself.
  */
 #ifndef AMSULFEZD_H
@@ -59,6 +64,10 @@ extern "C" {
 /* The first byte of a header of edition 2. Any other begins a header of edition 1, where it is the address. */
 #define AMSULFEZD_EDITION_2 0x82
 
+/* The length of what amsulfezd_trace_heard writes, in bytes, and the last address that it is asked for. */
+#define AMSULFEZD_HEARD_LENGTH 17
+#define AMSULFEZD_LAST_ADDRESS 125
+
 /* The longest entry, in bytes: a byte with the record's length, and the record. */
 #define AMSULFEZD_ENTRY_LENGTH 256
 
@@ -70,8 +79,9 @@ extern "C" {
 
 /*
  * The refusal numbers of documents 01 and 02. As ending number of a run: 0, the number of a refused header (1 to 8, 10, 11,
- * 14, 25), 17 or 18. In an answer: 0, or 12 to 16. Of a frame that is read: 0, 19 to 24 or 34; of a word to be written: 0,
- * 14, 18 or 34. Number 9 belongs to a settings call and is never answered here.
+ * 14, 25), 17 or 18; of amsulfezd_trace_heard also 26. In an answer: 0, or 12 to 16. Of a frame that is read: 0, 19 to 24 or
+ * 34; of a word to be written: 0, 14, 18 or 34. Of a capture's line: 0, 18 to 24, 31 to 34; of an entry to be exported: 0,
+ * 12 to 15, 17 or 18. Number 9 belongs to a settings call and is never answered here.
  */
 enum amsulfezd_refusal {
     AMSULFEZD_OK = 0,
@@ -92,8 +102,8 @@ enum amsulfezd_refusal {
     AMSULFEZD_REFUSAL_NO_BYTES = 15,        /* sending 0 bytes */
     AMSULFEZD_REFUSAL_PASSIVE = 16,         /* passive */
     AMSULFEZD_REFUSAL_CUT = 17,             /* trace ends inside header or entry, or is above 2^32 bytes */
-    AMSULFEZD_REFUSAL_NO_ROOM = 18,         /* no 8 bytes left for an answer; no room for a header or a frame */
-    /* Document 02's: 25 of a header, the others of a frame. */
+    AMSULFEZD_REFUSAL_NO_ROOM = 18,         /* no 8 bytes left for an answer; no room for what is to be written */
+    /* Document 02's: 25 of a header, 26 of an address asked for, 31 to 33 of a capture, the others of a frame. */
     AMSULFEZD_REFUSAL_FRAME_CUT = 19,         /* frame empty or cut short */
     AMSULFEZD_REFUSAL_START_BYTE = 20,        /* start byte */
     AMSULFEZD_REFUSAL_FRAME_HEADER = 21,      /* SD2 header: its repeated bytes differ, or the length is outside 4..249 */
@@ -101,6 +111,10 @@ enum amsulfezd_refusal {
     AMSULFEZD_REFUSAL_END_BYTE = 23,          /* end byte */
     AMSULFEZD_REFUSAL_ADDRESS_EXTENSION = 24, /* address extension bit */
     AMSULFEZD_REFUSAL_GAP_ROOM = 25,          /* rotation with no room for a gap poll: below slot bits + 100 */
+    AMSULFEZD_REFUSAL_ASKED_ADDRESS = 26,     /* who was heard: an address above 125 is asked for */
+    AMSULFEZD_REFUSAL_CAPTURE_LINE = 31,      /* a capture's line that is not built as it should be, or bytes after its frame */
+    AMSULFEZD_REFUSAL_CAPTURE_TIME = 32,      /* a time below the one before */
+    AMSULFEZD_REFUSAL_CAPTURE_COUNT = 33,     /* more than 8 lines of one time */
     AMSULFEZD_REFUSAL_FUNCTION_CODE = 34      /* top bit of the function code set; to be written: any other request */
 };
 
@@ -180,6 +194,15 @@ enum amsulfezd_frame_byte {
 #define AMSULFEZD_FRAME_READ_LENGTH 255
 #define AMSULFEZD_FRAME_WRITTEN_LENGTH 6
 
+/*
+ * Of captures: the telegrams of one time at most, the bytes of an entry that a line begins and those that a further line of
+ * its time adds, and the longest line that is written, in bytes.
+ */
+#define AMSULFEZD_CAPTURE_TELEGRAMS 8
+#define AMSULFEZD_CAPTURE_ENTRY 19
+#define AMSULFEZD_CAPTURE_ADDED 4
+#define AMSULFEZD_CAPTURE_LINE_LENGTH 29
+
 /* ---- The calls on traces ----------------------------------------------------------------------------------------- */
 
 #ifndef AMSULFEZD_WITHOUT_CALL
@@ -214,6 +237,31 @@ enum amsulfezd_frame_byte {
 uint64_t amsulfezd_replay_trace(const uint8_t *trace, size_t trace_len, uint8_t *answers, size_t answers_len);
 
 /*
+ * Runs a trace from a fresh station, as amsulfezd_replay_trace does, and writes when one address was heard: how often, at
+ * which clock first and last, and the station type of its last response. Telegrams that a poll consumed are heard, by their
+ * source; short confirmations and the sources 126 and 127 are not. First and last are in the order of hearing: after a clock
+ * that went back, last may be below first. Going offline forgets nothing. Our own address is an address like any other.
+ *
+ * trace, trace_len    The trace, as above.
+ * address             The address that is asked for, 0..125.
+ * entry, entry_len    Where AMSULFEZD_HEARD_LENGTH bytes go: times heard 4 bytes, which stop at 2^32 - 1, first clock 6, last
+ *                     clock 6, and one byte that is 0 if no response was seen and else 1 + the station type. All are zero for
+ *                     an address that was never heard. Read them with amsulfezd_heard_of.
+ *
+ * Returns the number of entries, times 256, plus the ending number: 0, or 17 if the trace ends inside an entry; the 17 bytes
+ * are then written, with what the whole entries make. Refused, in this order, with no entries and nothing written: 26 if the
+ * address is above 125; 17 or the number of a refused header, as above; 18 if entry_len is below 17. Room for answers is not
+ * asked for. Take it apart with amsulfezd_entries and amsulfezd_ending.
+ *
+ * Which bytes change: the first 17 of `entry`, where nothing was refused. All others keep their value.
+ *
+ * What the caller must ensure, ownership and threads: as for amsulfezd_replay_trace. It always returns; its time grows with
+ * the number of entries.
+ */
+uint64_t amsulfezd_trace_heard(const uint8_t *trace, size_t trace_len, uint8_t address, uint8_t *entry,
+                               size_t entry_len);
+
+/*
  * Moves a header to the other edition: one of 16 bytes to 14, one of 14 that begins with 82h to 16. An accepted header
  * moves there and back to the same bytes, and a trace whose header moved has the same answers.
  *
@@ -233,13 +281,13 @@ uint64_t amsulfezd_replay_trace(const uint8_t *trace, size_t trace_len, uint8_t 
 uint64_t amsulfezd_other_edition(const uint8_t *header, size_t header_len, uint8_t *out, size_t out_len);
 #endif
 
-/* The number of entries answered, of what amsulfezd_replay_trace returned. */
+/* The number of entries, of what amsulfezd_replay_trace or amsulfezd_trace_heard returned. */
 static inline uint64_t amsulfezd_entries(uint64_t returned)
 {
     return returned / 256;
 }
 
-/* The ending number, of what amsulfezd_replay_trace returned: see enum amsulfezd_refusal. */
+/* The ending number, of what amsulfezd_replay_trace or amsulfezd_trace_heard returned: see enum amsulfezd_refusal. */
 static inline unsigned amsulfezd_ending(uint64_t returned)
 {
     return (unsigned)(returned % 256);
@@ -251,10 +299,42 @@ static inline uint64_t amsulfezd_written(uint64_t returned)
     return returned / 256;
 }
 
-/* The refusal number, of what any call but amsulfezd_replay_trace returned: see enum amsulfezd_refusal. */
+/* The refusal number, of what any call but these two returned: see enum amsulfezd_refusal. */
 static inline unsigned amsulfezd_number(uint64_t returned)
 {
     return (unsigned)(returned % 256);
+}
+
+/* When an address was heard. */
+struct amsulfezd_heard {
+    uint32_t times;        /* 0 if never; all else is then 0 too */
+    uint64_t first;        /* the clock of the first telegram, in microseconds */
+    uint64_t last;         /* the clock of the last one heard */
+    uint8_t response_seen; /* 1 if a response was among them, else 0 */
+    uint8_t station_type;  /* that of the last response: enum amsulfezd_station_type; 0 if there was none */
+};
+
+/* For amsulfezd_heard_of: this many bytes as a number, most significant first. */
+static inline uint64_t amsulfezd_load(const uint8_t *bytes, unsigned count)
+{
+    uint64_t number = 0;
+    unsigned i;
+    for (i = 0; i < count; i++) {
+        number = number << 8 | bytes[i];
+    }
+    return number;
+}
+
+/* What the AMSULFEZD_HEARD_LENGTH bytes say that amsulfezd_trace_heard wrote. */
+static inline struct amsulfezd_heard amsulfezd_heard_of(const uint8_t *entry)
+{
+    struct amsulfezd_heard heard;
+    heard.times = (uint32_t)amsulfezd_load(entry, 4);
+    heard.first = amsulfezd_load(entry + 4, 6);
+    heard.last = amsulfezd_load(entry + 10, 6);
+    heard.response_seen = entry[16] != 0;
+    heard.station_type = (uint8_t)(entry[16] == 0 ? 0 : entry[16] - 1);
+    return heard;
 }
 
 /* The length of the header that these bytes begin with, by their first byte. They may be fewer. */
@@ -311,6 +391,58 @@ static inline uint32_t amsulfezd_frame_word(uint64_t returned)
 {
     return (uint32_t)(returned / 65536);
 }
+
+/* ---- The calls on captures --------------------------------------------------------------------------------------- */
+
+#ifndef AMSULFEZD_WITHOUT_CALL
+/*
+ * Makes trace entries of a bus monitor's text. A line is a decimal time in microseconds, one space, a frame as pairs of hex
+ * digits in either case, and a line feed. Lines of equal time make one poll record, for a station with one application that
+ * declines: their telegrams in their order, at most 8, no pending byte, not transmitting. There is no header and no online
+ * among what is written: a trace needs both before it.
+ *
+ * text, text_len        The text. It is read only.
+ * entries, entries_len  Where the entries go: AMSULFEZD_CAPTURE_ENTRY bytes for the first line of a time,
+ *                       AMSULFEZD_CAPTURE_ADDED for each other. 19 bytes for each line feed of the text are always enough.
+ * line                  The refused line, counted from 1, or 0. It is always written.
+ * written               How many bytes of `entries` were written. It is always written.
+ *
+ * Returns the refusal number, 0 if nothing was refused. The first bad line decides, and nothing of it or after it is
+ * written; the lines before it stand, those of its own time among them. In a line, in this order: 31 if it is not built so
+ * (the time has no leading zero, 0 itself apart, and is below 2^48; a last line without line feed is such); 32 if its time is
+ * below the one before; 33 if it is the ninth of its time; the number of a frame that is not read (19 to 24, 34); 31 for
+ * bytes after the frame; 18 if there is no room for its entry or telegram.
+ *
+ * Which bytes change: the first `written` bytes of `entries`, `line` and `written`. All others keep their value.
+ *
+ * What the caller must ensure: all four point to memory that is theirs for the time of the call and do not overlap; none is
+ * NULL, not even with length 0; nobody else writes to them during the call. Any content is allowed. The call keeps no
+ * pointer, allocates nothing, has no state and always returns; its time grows with the text's length.
+ */
+uint64_t amsulfezd_import_capture(const uint8_t *text, size_t text_len, uint8_t *entries, size_t entries_len,
+                                  uint64_t *line, uint64_t *written);
+
+/*
+ * Makes a capture's text of trace entries: a line for each telegram of each poll record, in lower case. Telegrams that are
+ * not written as frames (requests that are no status requests) and the commands online, offline and passive give no line.
+ *
+ * entries, entries_len  The entries, without header, with records for one application. They are read only.
+ * text, text_len        Where the text goes. AMSULFEZD_CAPTURE_LINE_LENGTH bytes for each 4 bytes of entries are always
+ *                       enough.
+ * entry                 The refused entry, counted from 1, or 0. It is always written.
+ * written               How many bytes of `text` were written. It is always written.
+ *
+ * Returns the refusal number, 0 if nothing was refused: 17 if the entries end inside one, 12 to 15 for a record that a trace
+ * would answer so, and then nothing of that entry is written; 18 if there is no room for a line, and then the lines before
+ * it stand, those of the same entry among them. Clocks that go back are written as they are.
+ *
+ * Which bytes change: the first `written` bytes of `text`, `entry` and `written`. All others keep their value.
+ *
+ * What the caller must ensure and the rest: as for amsulfezd_import_capture.
+ */
+uint64_t amsulfezd_export_capture(const uint8_t *entries, size_t entries_len, uint8_t *text, size_t text_len,
+                                  uint64_t *entry, uint64_t *written);
+#endif
 
 /* ---- Readers of an answer ---------------------------------------------------------------------------------------- */
 
@@ -447,6 +579,75 @@ static inline const char *amsulfezd_state_name(unsigned state)
         return "CheckTokenPass";
     case AMSULFEZD_STATE_AWAIT_STATUS_RESPONSE:
         return "AwaitStatusResponse";
+    default:
+        return "unknown";
+    }
+}
+
+/* What a refusal number says, in the documents' words; "unknown" if none has it. */
+static inline const char *amsulfezd_refusal_words(unsigned number)
+{
+    switch (number) {
+    case AMSULFEZD_OK:
+        return "nothing was refused";
+    case AMSULFEZD_REFUSAL_ADDRESS:
+        return "address above 125";
+    case AMSULFEZD_REFUSAL_SLOT:
+        return "slot too small";
+    case AMSULFEZD_REFUSAL_HSA:
+        return "HSA";
+    case AMSULFEZD_REFUSAL_ROTATION:
+        return "rotation";
+    case AMSULFEZD_REFUSAL_GAP_WAIT:
+        return "gap wait";
+    case AMSULFEZD_REFUSAL_RETRY:
+        return "retry";
+    case AMSULFEZD_REFUSAL_MIN_TSDR:
+        return "min Tsdr";
+    case AMSULFEZD_REFUSAL_WATCHDOG:
+        return "watchdog outside 10..650,000 ms, or one factor zero in a header";
+    case AMSULFEZD_REFUSAL_FACTORS:
+        return "factors: u above 65,025";
+    case AMSULFEZD_REFUSAL_BAUD:
+        return "baud code above 10";
+    case AMSULFEZD_REFUSAL_APPLICATIONS:
+        return "applications not 1..8";
+    case AMSULFEZD_REFUSAL_RECORD_LENGTH:
+        return "poll record length";
+    case AMSULFEZD_REFUSAL_TELEGRAM_COUNT:
+        return "telegram count above 8";
+    case AMSULFEZD_REFUSAL_ZERO_BIT:
+        return "a bit that should be zero";
+    case AMSULFEZD_REFUSAL_NO_BYTES:
+        return "sending 0 bytes";
+    case AMSULFEZD_REFUSAL_PASSIVE:
+        return "passive";
+    case AMSULFEZD_REFUSAL_CUT:
+        return "trace ends inside header or entry, or is above 2^32 bytes (checked with the header)";
+    case AMSULFEZD_REFUSAL_NO_ROOM:
+        return "no 8 bytes left for an answer";
+    case AMSULFEZD_REFUSAL_FRAME_CUT:
+        return "frame empty or cut short";
+    case AMSULFEZD_REFUSAL_START_BYTE:
+        return "start byte";
+    case AMSULFEZD_REFUSAL_FRAME_HEADER:
+        return "SD2 header: its repeated bytes differ or the length is outside 4 to 249";
+    case AMSULFEZD_REFUSAL_CHECK_BYTE:
+        return "check byte";
+    case AMSULFEZD_REFUSAL_END_BYTE:
+        return "end byte";
+    case AMSULFEZD_REFUSAL_ADDRESS_EXTENSION:
+        return "address extension bit";
+    case AMSULFEZD_REFUSAL_GAP_ROOM:
+        return "rotation with no room for a gap poll";
+    case AMSULFEZD_REFUSAL_CAPTURE_LINE:
+        return "a line that is not a time, one space, a frame in pairs of hex digits and a line feed, or has bytes after its frame";
+    case AMSULFEZD_REFUSAL_CAPTURE_TIME:
+        return "a time below the one before";
+    case AMSULFEZD_REFUSAL_CAPTURE_COUNT:
+        return "more than 8 of one time";
+    case AMSULFEZD_REFUSAL_FUNCTION_CODE:
+        return "top bit of the function code set; to be written, any other request";
     default:
         return "unknown";
     }

@@ -1,7 +1,7 @@
 /*
  * Tests the readers and writers of amsulfezd.h against bytes that are stated here by hand, from document 01, its
- * example 12 and the trace and answers of docs/QUALIFICATION.md, part 5, and from document 02, P9. It calls nothing of the library, and it is C99
- * and C++11 at once, so that it shows that the header is both. hosts.sh plants faults in the header, each of which it
+ * example 12 and the trace and answers of docs/QUALIFICATION.md, part 5, and from document 02, P7 and P9. It calls nothing of
+ * the library, and it is C99 and C++11 at once, so that it shows that the header is both. hosts.sh plants faults in the header, each of which it
  * must find.
  *
  * usage: fields
@@ -107,6 +107,41 @@ static void test_readers(void)
     check(amsulfezd_answer_next_station(UINT64_C(0x0000000000000014)) != AMSULFEZD_NOBODY, "a station", "5 is next");
     check(amsulfezd_entries(1000 * 256 + 17) == 1000, "entries", "1000 * 256 + 17");
     check(amsulfezd_ending(6 * 256 + 17) == 17, "ending number", "6 * 256 + 17");
+}
+
+/* An entry of who was heard has these fields: times, first, last, response seen, type. */
+static void reads_heard(const char *digits, const uint64_t fields[5])
+{
+    uint8_t bytes[AMSULFEZD_HEARD_LENGTH + 1] = {0};
+    const size_t count = bytes_of(digits, 16, bytes);
+    const struct amsulfezd_heard heard = amsulfezd_heard_of(bytes);
+    check(count == AMSULFEZD_HEARD_LENGTH, "not 17 bytes", digits);
+    check(heard.times == fields[0], "times heard", digits);
+    check(heard.first == fields[1], "first clock", digits);
+    check(heard.last == fields[2], "last clock", digits);
+    check(heard.response_seen == fields[3], "response seen", digits);
+    check(heard.station_type == fields[4], "station type", digits);
+}
+
+/* Entries of document 02, P7, by hand; and its number. */
+static void test_heard(void)
+{
+    static const uint64_t never[5] = {0, 0, 0, 0, 0};
+    static const uint64_t token[5] = {1, 1500, 1500, 0, 0};
+    static const uint64_t slave[5] = {3, 8000, 1000, 1, 0};
+    static const uint64_t in_ring[5] = {256, 0, UINT64_C(0xffffffffffff), 1, 3};
+    static const uint64_t even[5] = {UINT64_C(0xffffffff), 0, UINT64_C(0xffffffffffff), 0, 0};
+    static const uint64_t odd[5] = {0, UINT64_C(0xffffffffffff), 0, 1, 2};
+    static const uint64_t unlike[5] = {UINT64_C(0x01020304), UINT64_C(0x05060708090a), UINT64_C(0x0b0c0d0e0f10), 1, 1};
+    reads_heard("00000000 000000000000 000000000000 00", never);
+    reads_heard("00000001 0000000005dc 0000000005dc 00", token);
+    reads_heard("00000003 000000001f40 0000000003e8 01", slave);
+    reads_heard("00000100 000000000000 ffffffffffff 04", in_ring);
+    reads_heard("ffffffff 000000000000 ffffffffffff 00", even);
+    reads_heard("00000000 ffffffffffff 000000000000 03", odd);
+    reads_heard("01020304 05060708090a 0b0c0d0e0f10 02", unlike);
+    check(AMSULFEZD_HEARD_LENGTH == 4 + 6 + 6 + 1 && AMSULFEZD_LAST_ADDRESS == 125, "lengths", "who was heard");
+    check(AMSULFEZD_REFUSAL_ASKED_ADDRESS == 26, "not document 02's number", "who was heard");
 }
 
 /* A frame's word has these fields: kind, destination, source, status request, type, status. */
@@ -529,6 +564,7 @@ int main(int count, char **words)
     test_readers();
     test_numbers();
     test_frames();
+    test_heard();
     test_header();
     test_header_2();
     test_commands();

@@ -5,61 +5,9 @@
  * usage: replay_file FILE
  */
 #include "amsulfezd.h"
+#include "files.h"
 
-#include <errno.h>
 #include <inttypes.h>
-#include <stdarg.h>
-#include <stdio.h>
-#include <stdlib.h>
-#include <string.h>
-
-/* A file's content. */
-struct content {
-    uint8_t *bytes;
-    size_t length;
-};
-
-/* Ends the program with one line that says why. */
-static void fail(const char *format, ...)
-{
-    va_list words;
-    va_start(words, format);
-    fputs("replay_file: ", stderr);
-    vfprintf(stderr, format, words);
-    fputc('\n', stderr);
-    va_end(words);
-    exit(EXIT_FAILURE);
-}
-
-/* Reads a file to its end. */
-static struct content read_file(const char *name)
-{
-    FILE *file = fopen(name, "rb");
-    if (file == NULL) {
-        fail("%s: %s", name, strerror(errno));
-    }
-    struct content content = {NULL, 0};
-    size_t room = 0;
-    for (;;) {
-        if (content.length == room) {
-            room = room == 0 ? 4096 : 2 * room;
-            content.bytes = realloc(content.bytes, room);
-            if (content.bytes == NULL) {
-                fail("%s: no memory for %zu bytes", name, room);
-            }
-        }
-        size_t count = fread(content.bytes + content.length, 1, room - content.length, file);
-        if (count == 0) {
-            break;
-        }
-        content.length += count;
-    }
-    if (ferror(file)) {
-        fail("%s: %s", name, strerror(errno));
-    }
-    fclose(file);
-    return content;
-}
 
 /* How many entries a trace has at most: a byte for each command, a byte and its record for each poll. */
 static size_t count_entries(struct content trace)
@@ -73,16 +21,13 @@ static size_t count_entries(struct content trace)
 
 int main(int count, char **words)
 {
+    me = "replay_file";
     if (count != 2) {
         fail("usage: replay_file FILE");
     }
     struct content trace = read_file(words[1]);
     size_t length = AMSULFEZD_ANSWER_LENGTH * count_entries(trace);
-    /* One byte more, as the call asks for a pointer also where there is nothing to answer. */
-    uint8_t *answers = malloc(length + 1);
-    if (answers == NULL) {
-        fail("no memory for %zu bytes of answers", length);
-    }
+    uint8_t *answers = take(length);
     uint64_t returned = amsulfezd_replay_trace(trace.bytes, trace.length, answers, length);
     uint64_t entries = amsulfezd_entries(returned);
     for (uint64_t entry = 0; entry < entries; entry++) {

@@ -2,9 +2,10 @@
  * Measures the stack that the proved calls use, and holds it to AMSULFEZD_STACK_BYTES. A call runs on a stack of its
  * own that is filled with a pattern; afterwards the deepest byte that changed is looked for. The traces: those of the
  * files named, example 12's header with 100,000 times online, and as many made at random as are asked for, with headers
- * of both editions; each is replayed, and its header moved to the other edition; each state and each kind of send, and
- * moves both ways, must have been seen. Frames: one of each start byte, and a word of each kind. Built with -DFAULT the
- * call takes more, which must be found.
+ * of both editions; each is replayed, asked for an address that was heard, its header moved to the other edition, and its
+ * entries exported as a capture; each state and each kind of send, moves both ways, and an address that was heard, must have
+ * been seen. Frames: one of each start byte, and a word of each kind. Captures: those of the files named, whose names end in
+ * .capture, and one of each start byte. Built with -DFAULT the call takes more, which must be found.
  *
  * usage: stack TRACES FILE..
  */
@@ -42,7 +43,7 @@ static uint64_t returned;
 /* The first byte above the call's stack, its return address included. */
 static uintptr_t above;
 
-static unsigned states_seen, sent_seen, moves_seen;
+static unsigned states_seen, sent_seen, moves_seen, heard_seen;
 static size_t deepest;
 
 static void fail(const char *why, const char *what)
@@ -113,7 +114,32 @@ static void run(measured *which, const char *name)
     }
 }
 
-/* Replays a trace and moves its header, and notes what came. */
+/* What the calls on captures say beside what they return. */
+static uint64_t place, written;
+
+/* Imports the text that is lent. */
+static uint64_t import_capture(const uint8_t *lent, size_t length, uint8_t *buffer, size_t room)
+{
+    return amsulfezd_import_capture(lent, length, buffer, room, &place, &written);
+}
+
+/* Exports the entries of the trace that is lent. */
+static uint64_t export_capture(const uint8_t *lent, size_t length, uint8_t *buffer, size_t room)
+{
+    size_t head = amsulfezd_header_length(lent, length);
+    if (length < head) {
+        return AMSULFEZD_OK;
+    }
+    return amsulfezd_export_capture(lent + head, length - head, buffer, room, &place, &written);
+}
+
+/* Asks when address 9 was heard. */
+static uint64_t trace_heard(const uint8_t *lent, size_t length, uint8_t *buffer, size_t room)
+{
+    return amsulfezd_trace_heard(lent, length, 9, buffer, room);
+}
+
+/* Replays a trace, asks who was heard, moves its header and exports its entries, and notes what came. */
 static void measure(const uint8_t *bytes, size_t length, const char *name)
 {
     uint64_t i;
@@ -128,9 +154,32 @@ static void measure(const uint8_t *bytes, size_t length, const char *name)
         states_seen |= 1u << amsulfezd_answer_state(answer);
         sent_seen |= 1u << amsulfezd_answer_sent(answer);
     }
+    memset(answers, 0, AMSULFEZD_HEARD_LENGTH);
+    run(trace_heard, name);
+    heard_seen |= amsulfezd_heard_of(answers).times != 0;
     run(amsulfezd_other_edition, name);
     if (amsulfezd_written(returned) != 0) {
         moves_seen |= amsulfezd_written(returned) == AMSULFEZD_HEADER_LENGTH ? TO_FIRST : TO_SECOND;
+    }
+    run(export_capture, name);
+}
+
+/* Imports a capture. */
+static void measure_capture(const uint8_t *text, size_t length, const char *name)
+{
+    trace = text;
+    trace_len = length;
+    run(import_capture, name);
+}
+
+/* Imports a line of each start byte, and further lines of one time. */
+static void measure_captures(void)
+{
+    static const char text[] = "0 e5\n1 dc0909\n1 E5\n1 100509495716\n2 68040468050949005716\n"
+                               "281474976710655 a205094900000000000000005716\n7 e5\n";
+    measure_capture((const uint8_t *)text, sizeof text - 1, "a capture");
+    if (written != 4 * AMSULFEZD_CAPTURE_ENTRY + 2 * AMSULFEZD_CAPTURE_ADDED) {
+        fail("it was not imported", "a capture");
     }
 }
 
@@ -287,8 +336,15 @@ int main(int count, char **words)
     answers_len = AMSULFEZD_ANSWER_LENGTH * (size_t)LONG;
     answers = (uint8_t *)take(answers_len);
     measure_frames();
+    measure_captures();
     for (file = 2; file < count; file++) {
-        measure(bytes, read_file(words[file], bytes, room), words[file]);
+        const char *end_of_name = strrchr(words[file], '.');
+        size_t length = read_file(words[file], bytes, room);
+        if (end_of_name != NULL && strcmp(end_of_name, ".capture") == 0) {
+            measure_capture(bytes, length, words[file]);
+        } else {
+            measure(bytes, length, words[file]);
+        }
     }
     memset(bytes, AMSULFEZD_COMMAND_ONLINE, room);
     amsulfezd_write_header(bytes, room, &header);
@@ -296,8 +352,8 @@ int main(int count, char **words)
     for (i = 0; i < traces; i++) {
         measure(bytes, make(bytes, room), "a trace made at random");
     }
-    if (states_seen != all_states || sent_seen != all_sent || moves_seen != (TO_FIRST | TO_SECOND)) {
-        fail("not every state, every kind of send and both moves were reached", "the traces");
+    if (states_seen != all_states || sent_seen != all_sent || moves_seen != (TO_FIRST | TO_SECOND) || !heard_seen) {
+        fail("not every state, every kind of send, both moves and an address that was heard were reached", "the traces");
     }
     if (deepest > AMSULFEZD_STACK_BYTES) {
         fprintf(stderr, "stack: a call used %zu bytes of stack, more than the %d that amsulfezd.h names\n", deepest,

@@ -57,34 +57,41 @@ static uint64_t number_of(const uint8_t *bytes)
     return number;
 }
 
-/* A call that is lent bytes to read and a buffer to write. */
-typedef uint64_t call(const uint8_t *lent, size_t length, uint8_t *buffer, size_t room);
-
-/* The calls by the numbers that the comparison gives them. */
-static call *const calls[] = {amsulfezd_replay_trace, amsulfezd_other_edition};
-
-/* The number of calls. */
-#define CALLS (sizeof calls / sizeof calls[0])
+/* Makes the call with this number, which the comparison gives it. */
+static uint64_t make(uint8_t which, uint8_t address, const uint8_t *lent, size_t length, uint8_t *buffer, size_t room)
+{
+    switch (which) {
+    case 0:
+        return amsulfezd_replay_trace(lent, length, buffer, room);
+    case 1:
+        return amsulfezd_other_edition(lent, length, buffer, room);
+    case 2:
+        return amsulfezd_trace_heard(lent, length, address, buffer, room);
+    default:
+        fail("there is no such call");
+        return 0;
+    }
+}
 
 int main(void)
 {
     for (;;) {
-        uint8_t head[17]; /* which call and the two lengths, and later the number and whether all else was kept */
-        size_t count = fread(head, 1, 17, stdin);
+        uint8_t head[18]; /* which call, the address, the two lengths, and later the number and whether all else was kept */
+        size_t count = fread(head, 1, 18, stdin);
         if (count == 0 && feof(stdin)) {
             return EXIT_SUCCESS;
         }
-        if (count != 17 || head[0] >= CALLS) {
-            fail("the input ends inside a call, or there is no such call");
+        if (count != 18) {
+            fail("the input ends inside a call");
         }
-        size_t length = number_of(head + 1), room = number_of(head + 9);
+        size_t length = number_of(head + 2), room = number_of(head + 10);
         uint8_t *lent = guarded(length, 0x3c), *buffer = guarded(room, 0xc3);
         read_all(lent, length);
         read_all(buffer, room);
         uint8_t *given = guarded(length, 0);
         memcpy(given, lent, length);
 
-        uint64_t returned = calls[head[0]](lent, length, buffer, room);
+        uint64_t returned = make(head[0], head[1], lent, length, buffer, room);
 
         int others = kept(lent, length, 0x3c) && kept(buffer, room, 0xc3);
         for (int i = 0; i < 8; i++) {

@@ -1,5 +1,5 @@
-//! Writes a copy of the oracle's station, or of its reader and writer of frames, for each planted error: one module each, in
-//! one crate.
+//! Writes a copy of the oracle's station, of its reader and writer of frames, or of its importer and exporter of captures, for
+//! each planted error: one module each, in one crate.
 
 #[path = "../build/replacements.rs"]
 #[allow(dead_code)]
@@ -9,6 +9,8 @@ mod replacements;
 #[allow(dead_code)]
 mod list;
 
+#[path = "captures.rs"]
+mod captures;
 #[path = "frames.rs"]
 mod frames;
 
@@ -18,7 +20,7 @@ use std::path::Path;
 /// Files that lean on nothing of the crate: copied only where the error stands in them.
 const ALONE: [&str; 3] = ["records", "ring", "dp"];
 /// Files that lean on each other: copied for each error.
-const TOGETHER: [&str; 7] = ["time", "baud", "fdl", "phy", "port", "editions", "trace"];
+const TOGETHER: [&str; 8] = ["time", "baud", "fdl", "phy", "port", "editions", "trace", "heard"];
 
 fn read(path: &str) -> String {
     println!("cargo:rerun-if-changed={}", path);
@@ -26,7 +28,7 @@ fn read(path: &str) -> String {
 }
 
 fn main() {
-    for file in ["build.rs", "list.rs", "frames.rs", "../build/replacements.rs", "../build/watch.rs"] {
+    for file in ["build.rs", "list.rs", "frames.rs", "captures.rs", "../build/replacements.rs", "../build/watch.rs"] {
         println!("cargo:rerun-if-changed={}", file);
     }
     let out = std::env::var("OUT_DIR").expect("cargo names a folder");
@@ -75,30 +77,51 @@ fn main() {
         let table = if asked { format!("{}::settings_table::table", name) } else { "String::new".to_string() };
         writeln!(
             runs,
-            "    crate::Runs {{ traces: {0}::trace::replay_trace, moves: {0}::editions::other_edition, table: {1} }},",
+            "    crate::Runs {{ traces: {0}::trace::replay_trace, moves: {0}::editions::other_edition, heard: {0}::heard::trace_heard, table: {1} }},",
             name, table
         )
         .expect("text");
     }
     runs.push_str("];\n");
-    copy_frames(&out, &mut index, &mut runs);
+    let frames = Copies { file: "frames/frame.rs", name: "frame", calls: ["read", "write"], planted: frames::FRAMES };
+    let captures = Copies {
+        file: "captures/capture.rs",
+        name: "capture",
+        calls: ["import", "export"],
+        planted: captures::CAPTURES,
+    };
+    copy_calls(&frames, &out, &mut index, &mut runs);
+    copy_calls(&captures, &out, &mut index, &mut runs);
     std::fs::write(Path::new(&out).join("index.rs"), index + &runs).expect("a file can be written");
 }
 
-/// The copies of the reader and writer of frames, a file each.
-fn copy_frames(out: &str, index: &mut String, runs: &mut String) {
-    let text = read("../src/frames/frame.rs");
-    runs.push_str("pub const FRAME_RUNS: &[crate::FrameRuns] = &[\n");
-    for (i, (old, new)) in frames::FRAMES.iter().enumerate() {
-        let name = format!("frame_error_{}", i + 1);
-        let planted = replacements::replace_once(&text, old, new).unwrap_or_else(|count| {
-            panic!("{}: this text stands {} times in frame.rs, not once:\n{}", name, count, old)
+/// A file with two calls that know no station, and the errors planted in it.
+struct Copies {
+    file: &'static str,
+    name: &'static str,
+    calls: [&'static str; 2],
+    planted: &'static [(&'static str, &'static str)],
+}
+
+/// The copies of such a file, a file each, and the table of their calls: `FRAME_RUNS` of `crate::FrameRuns`.
+fn copy_calls(copies: &Copies, out: &str, index: &mut String, runs: &mut String) {
+    let Copies { file, name, calls: [first, second], planted } = copies;
+    let text = read(&format!("../src/{}", file));
+    let (upper, kind) = (name.to_uppercase(), name[..1].to_uppercase() + &name[1..]);
+    writeln!(runs, "pub const {}_RUNS: &[crate::{}Runs] = &[", upper, kind).expect("text");
+    for (i, (old, new)) in planted.iter().enumerate() {
+        let error = format!("{}_error_{}", name, i + 1);
+        let text = replacements::replace_once(&text, old, new).unwrap_or_else(|count| {
+            panic!("{}: this text stands {} times in {}, not once:\n{}", error, count, file, old)
         });
-        let path = Path::new(out).join(format!("{}.rs", name));
-        std::fs::write(path, planted.replace("crate::", "oracle::")).expect("a file can be written");
-        writeln!(index, "#[path = \"{}.rs\"]\nmod {};", name, name).expect("text");
-        writeln!(runs, "    crate::FrameRuns {{ read: {}::read_frame, write: {}::write_frame }},", name, name)
-            .expect("text");
+        let path = Path::new(out).join(format!("{}.rs", error));
+        std::fs::write(path, text.replace("crate::", "oracle::")).expect("a file can be written");
+        writeln!(index, "#[path = \"{}.rs\"]\nmod {};", error, error).expect("text");
+        writeln!(
+            runs,
+            "    crate::{kind}Runs {{ {first}: {error}::{first}_{name}, {second}: {error}::{second}_{name} }},"
+        )
+        .expect("text");
     }
     runs.push_str("];\n");
 }

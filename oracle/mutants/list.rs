@@ -6,6 +6,8 @@ pub enum By {
     Traces,
     /// The moves of their headers to the other edition, which no trace replayed shows.
     Moves,
+    /// The questions who was heard, which no trace replayed shows.
+    Heard,
     SettingsTable,
     /// None can, and why.
     Nothing(&'static str),
@@ -35,6 +37,11 @@ const fn settings(old: &'static str, new: &'static str) -> Planted {
 /// An error that generated headers, moved to the other edition, have to find.
 const fn moved(old: &'static str, new: &'static str) -> Planted {
     Planted { file: "editions", old, new, by: By::Moves }
+}
+
+/// An error that the questions who was heard have to find.
+const fn heard(old: &'static str, new: &'static str) -> Planted {
+    Planted { file: "heard", old, new, by: By::Heard }
 }
 
 /// An error that no trace can show, and why.
@@ -482,7 +489,7 @@ pub const PLANTED: &[Planted] = &[
     planted("editions", "min_tsdr, less_one + 1, f1, f2, zero]\n", "min_tsdr, less_one + 1, f1, f2, zero % 64]\n"),
     planted("editions", "                [address, baud, slot, rotation, gap", "                [address % 126, baud, slot, rotation, gap"),
     planted("editions", "                [address, baud, slot, rotation, gap", "                [address, baud, slot, rotation.min(16_777_960), gap"),
-    planted("trace", "    let mut rest = &trace[Edition::of(trace).length()..];", "    let mut rest = &trace[trace.len().min(16)..];"),
+    planted("trace", "&trace[Edition::of(trace).length()..]", "&trace[trace.len().min(16)..]"),
     // The editions of a header: moving.
     moved("SECOND.into(), applications - 1)", "SECOND.into(), applications % 8)"),
     moved("(SECOND.into(), applications - 1)", "(0x80, applications - 1)"),
@@ -500,6 +507,54 @@ pub const PLANTED: &[Planted] = &[
     moved("    (bytes.len(), 0)", "    (16, 0)"),
     moved("    if let Some(number) = given.refusal() {", "    if let Some(number) = given.refusal().filter(|number| *number != 14) {"),
     moved("    if let Some(number) = given.refusal() {", "    if let Some(number) = given.refusal().filter(|number| *number != 25) {"),
+    // Who was heard: what feeds the summary.
+    heard("[..usize::from(answer.consumed)]", "[..]"),
+    heard("[..usize::from(answer.consumed)]", "[..usize::from(answer.consumed.min(7))]"),
+    heard("[..usize::from(answer.consumed)]", "[..usize::from(answer.consumed.min(1))]"),
+    heard("Some(source) if usize::from(source) < ADDRESSES =>", "Some(source) if usize::from(source) < ADDRESSES - 1 =>"),
+    heard("Some(source) if usize::from(source) < ADDRESSES =>", "Some(source) if 0 < source && usize::from(source) < ADDRESSES =>"),
+    heard("            _ => return,\n", "            Some(_) => &mut self.0[ADDRESSES - 1],\n            _ => return,\n"),
+    heard("            _ => return,\n", "            _ => &mut self.0[0],\n"),
+    heard("let place = match telegram.source() {", "let place = match telegram.source().filter(|_| !matches!(telegram, Telegram::Token { .. })) {"),
+    heard("let place = match telegram.source() {", "let place = match telegram.source().filter(|_| !matches!(telegram, Telegram::Request { status_request: false, .. })) {"),
+    heard("made.summary.poll(&record, &answer);", "if answer.state != 0 { made.summary.poll(&record, &answer); }"),
+    heard("made.summary.poll(&record, &answer);", "if answer.outcome != 4 { made.summary.poll(&record, &answer); }"),
+    heard("        let answer = runner.entry(entry);\n", "        let answer = runner.entry(entry);\n        if entry == Entry::Offline { made.summary = Summary::default(); }\n"),
+    heard("made.summary.poll(&record, &answer);", "made.summary.poll(&record, &answer); if answer.state == 0 && answer.consumed > 0 { made.summary = Summary::default(); }"),
+    // Who was heard: an entry.
+    heard("Heard { times: 0, first: clock, last: clock,", "Heard { times: 1, first: clock, last: clock,"),
+    heard("Heard { times: 0, first: clock, last: clock,", "Heard { times: 0, first: 0, last: clock,"),
+    heard("entry.times.saturating_add(1)", "entry.times % 7 + 1"),
+    heard("        entry.last = clock;\n", "        entry.last = entry.last.max(clock);\n"),
+    heard("        entry.last = clock;\n", "        entry.last = clock;\n        entry.first = entry.first.min(clock);\n"),
+    heard("        entry.last = clock;\n", "        entry.first = clock;\n        entry.last = clock;\n"),
+    heard("        entry.last = clock;\n", ""),
+    heard("        if let Telegram::Response { station_type, .. } = *telegram {", "        if let Telegram::Response { station_type, status: 0, .. } = *telegram {"),
+    heard("            entry.station_type = Some(station_type);", "            entry.station_type = entry.station_type.or(Some(station_type));"),
+    heard("            entry.station_type = Some(station_type);\n        }", "            entry.station_type = Some(station_type);\n        } else {\n            entry.station_type = None;\n        }"),
+    heard("            entry.station_type = Some(station_type);", "            entry.station_type = Some(station_type).filter(|kind| *kind > 0);"),
+    heard("map_or(0, |station_type| station_type + 1)", "map_or(0, |station_type| station_type)"),
+    heard("[32, 48, 48, 8]", "[48, 32, 48, 8]"),
+    heard("[self.times.into(), self.first, self.last,", "[self.times.into(), self.last, self.first,"),
+    hidden("heard", "entry.times.saturating_add(1)", "entry.times.wrapping_add(1)",
+        "a count has 32 bits, and no generated trace has so many telegrams; the test a_count_at_its_largest_stays has one"),
+    // Who was heard: the call.
+    heard("        return 26;", "        return 1;"),
+    heard("        return 26;", "        return if of.is_err() { asked(of, 0, entry) } else { 26 };"),
+    heard("        return 26;", "        return if entry.len() < ENTRY { 18 } else { 26 };"),
+    heard("    if usize::from(address) >= ADDRESSES {\n        return 26;", "    if usize::from(address) >= ADDRESSES - 1 {\n        return 26;"),
+    heard("    if usize::from(address) >= ADDRESSES {\n        return 26;", "    let address = address % 128;\n    if usize::from(address) >= ADDRESSES {\n        return 26;"),
+    heard("        Err(number) => return u64::from(*number),", "        Err(number) => return if entry.len() < ENTRY { 18 } else { u64::from(*number) },"),
+    heard("        Err(number) => return u64::from(*number),", "        Err(number) => { entry.iter_mut().take(ENTRY).for_each(|byte| *byte = 0); return u64::from(*number); }"),
+    heard("        None => return 18,", "        None => { entry.fill(0); return 18; }"),
+    heard("entry.get_mut(..ENTRY)", "entry.get_mut(..ENTRY + 1).map(|place| &mut place[..ENTRY])"),
+    heard("        None => place.fill(0),", "        None => {}"),
+    heard("        None => place.fill(0),", "        None => entry.fill(0),"),
+    heard("    made.entries * 256 + u64::from(made.ending)", "    made.entries * 256"),
+    heard("    made.entries * 256 + u64::from(made.ending)", "    u64::from(made.ending)"),
+    heard("                made.ending = 17;\n", "                made.ending = 17;\n                made.summary = Summary::default();\n"),
+    heard("                made.ending = 17;\n", "                return Err(17);\n"),
+    heard("        made.entries += 1;", "        made.entries += u64::from(answer.refusal == 0);"),
     // The port and the applications.
     planted("port", "i + 1 == pending.len()", "i == 0"),
     planted("port",

@@ -1,8 +1,9 @@
 //! The published Rust with document 01's helpers, and what holds other calls to it by running.
 //!
 //! Each folder leans on those before it: `helpers` (with the published text), then `generator` and `coverage`, which do not
-//! know each other, then `comparison`, then the programs. `frames` has a reader and a writer of frames and what holds others
-//! to them; it leans on the records of `helpers`, and takes seeds, points and words from the others.
+//! know each other, then `comparison`, then the programs. `frames` has a reader and a writer of frames, `captures` an importer and an
+//! exporter of captures, and what is tried of them; they lean on the records of `helpers`, `captures` on the frames, and take
+//! seeds, points, words and the comparison of calls from the others.
 #![forbid(unsafe_code)]
 
 /// The published text writes `log::warn!`: the macros of `helpers/log.rs` stand at the root of this crate.
@@ -14,6 +15,7 @@ mod helpers {
     pub mod dp;
     pub mod editions;
     pub mod fdl;
+    pub mod heard;
     mod log;
     pub mod phy;
     pub mod port;
@@ -45,6 +47,7 @@ pub mod generator {
 /// The cases that generated traces have to reach, by name.
 pub mod coverage {
     mod events;
+    pub mod heard;
     mod met;
     pub mod moves;
     mod points;
@@ -57,6 +60,8 @@ pub mod coverage {
 
 /// Holding other calls to the oracle's.
 pub mod comparison {
+    pub mod calls;
+    pub mod calls_program;
     pub mod compare;
     pub mod program;
     pub mod run;
@@ -71,7 +76,14 @@ pub mod frames {
     pub mod compare;
     pub mod frame;
     mod met;
-    pub mod program;
+    pub mod tries;
+}
+
+/// Captures (document 02, P13): an importer and an exporter, and holding others to them.
+pub mod captures {
+    pub mod capture;
+    pub mod compare;
+    mod met;
     pub mod tries;
 }
 
@@ -82,7 +94,7 @@ pub mod settings_table;
 pub mod watchdog_lines;
 
 // The published files find these names at the root.
-pub use helpers::{baud, baud::Baudrate, dp, editions, fdl, phy, port, records, ring, time, trace};
+pub use helpers::{baud, baud::Baudrate, dp, editions, fdl, heard, phy, port, records, ring, time, trace};
 
 /// A station's address, as the published files name it.
 pub type Address = u8;

@@ -1,6 +1,7 @@
 //! That the comparison of frames can fail: wrong readers and writers, each of which must be found; and its programs.
 
-use oracle::frames::compare::{compare_frames, made, oracle, Left};
+use oracle::comparison::calls::{oracle, Left};
+use oracle::frames::compare::{compare_frames, made};
 use oracle::frames::frame::{read_frame, write_frame};
 use oracle::frames::tries::Try;
 use std::process::{Command, Stdio};
@@ -79,7 +80,7 @@ fn wrong_writers_are_found() {
 #[test]
 fn a_call_that_ends_is_found() {
     let ends = |tries: &[Try]| -> Vec<Left> {
-        oracle(tries).into_iter().map(|left| left.filter(|(number, _)| *number != 23)).collect()
+        oracle(tries).into_iter().map(|left| left.filter(|made| made.returned != 23)).collect()
     };
     let (said, held) = compare_frames(&ends, 5, 1000);
     assert!(!held && said.contains("did not come back"), "{}", said);

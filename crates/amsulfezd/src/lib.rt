@@ -1,11 +1,14 @@
 // The library for hosts: every call that C and Rust programs make of it, each thin over the crate that does the work. Their
 // names carry the prefix amsulfezd_, as a C library's names do. hosts/c/amsulfezd.h declares them. It leans on trace,
-// trace_headers and codec_frames.
+// trace_editions, trace_heard, codec_frames, capture_import and capture_export.
 ghost use mathlib.Core.Path.{_≡_};
 ghost use lib.ListN.{length};
+ghost use Rattle.capture_export.specs.Export.{exportOf, exportedOf, bufferOf as exportBuffer};
+ghost use Rattle.capture_import.specs.Import.{importOf, importedOf, bufferOf as importBuffer};
 ghost use Rattle.codec_frames.specs.Frames.{frameOf, readNumber, writeOf, writeNumber, writtenOver};
 ghost use Rattle.trace.specs.Trace.{replayOf, numberOf, bufferOf};
-ghost use Rattle.trace_headers.specs.Headers.{moveNumber, moveInto};
+ghost use Rattle.trace_editions.specs.Editions.{moveNumber, moveInto};
+ghost use Rattle.trace_heard.specs.TraceHeard.{heardNumber, heardInto};
 
 // Replays a trace and returns the entries answered × 256 + the ending number. Each entry's answer stands in the next eight
 // bytes of `answers`; the bytes past them stay as they were.
@@ -17,6 +20,17 @@ pub extern "C" fn amsulfezd_replay_trace(trace: &[u8], answers: &mut [u8]) -> u6
     trace::replay_trace(trace, answers)
 }
 
+// Runs over a trace and writes who was heard: of an address the times heard, the first and the last clock and the station type of its
+// last response, 17 bytes into `entry`, all zero where it was never heard. Returns the entries answered × 256 + the ending number.
+// Refused with 26 for an address above 125, the header's numbers, or 18 where `entry` is too short: then nothing is written.
+#[no_mangle]
+pub extern "C" fn amsulfezd_trace_heard(trace: &[u8], address: u8, entry: &mut [u8]) -> u64
+    ensures { λ r. ⌜ r ≡ heardNumber (now (trace .entry)) address (length (now (entry .entry))) ⌝ }
+    ensures { λ _. ⌜ now (entry .exit) ≡ heardInto (now (trace .entry)) address (now (entry .entry)) ⌝ }
+{
+    trace_heard::trace_heard(trace, address, entry)
+}
+
 // Writes the header that `header` begins with in the other edition into the first bytes of `out`, and returns the bytes written
 // × 256. Refused with 17, the header's numbers, or 18 where `out` is too short: then the number is returned and nothing is
 // written.
@@ -25,7 +39,7 @@ pub extern "C" fn amsulfezd_other_edition(header: &[u8], out: &mut [u8]) -> u64
     ensures { λ r. ⌜ r ≡ moveNumber (now (header .entry)) (length (now (out .entry))) ⌝ }
     ensures { λ _. ⌜ now (out .exit) ≡ moveInto (now (header .entry)) (now (out .entry)) ⌝ }
 {
-    trace_headers::other_edition(header, out)
+    trace_editions::other_edition(header, out)
 }
 
 // Reads the frame at the start of a slice and returns telegram word × 65536 + bytes used × 256, or a refusal's number alone.
@@ -44,4 +58,46 @@ pub extern "C" fn amsulfezd_write_frame(word: u32, frame: &mut [u8]) -> u64
     ensures { λ _. ⌜ now (frame .exit) ≡ writtenOver (writeOf word (length (now (frame .entry)))) (now (frame .entry)) ⌝ }
 {
     codec_frames::write_frame(word as u64, frame)
+}
+
+// Imports a capture: the entries of its lines stand at the start of `entries`, the bytes past them stay as they were. The first bad
+// line decides: its number is returned, `line` says which, counted from 1, and all lines before it stand; else 0 and 0. `written`
+// says how many bytes the entries have. Both are always written.
+#[no_mangle]
+pub extern "C" fn amsulfezd_import_capture(
+    text: &[u8],
+    entries: &mut [u8],
+    line: &mut u64,
+    written: &mut u64,
+) -> u64
+    ensures { λ r. ⌜ r ≡ importedOf (importOf (now (text .entry)) (length (now (entries .entry)))) .refusal ⌝ }
+    ensures { λ _. ⌜ now (entries .exit) ≡ importBuffer (importOf (now (text .entry)) (length (now (entries .entry)))) (now (entries .entry)) ⌝ }
+    ensures { λ _. ⌜ now (line .exit) ≡ importedOf (importOf (now (text .entry)) (length (now (entries .entry)))) .line ⌝ }
+    ensures { λ _. ⌜ now (written .exit) ≡ importedOf (importOf (now (text .entry)) (length (now (entries .entry)))) .written ⌝ }
+{
+    let imported = capture_import::import_capture(text, entries);
+    *line = imported.line;
+    *written = imported.written;
+    imported.refusal as u64
+}
+
+// Exports trace entries as a capture: the lines stand at the start of `text`, the bytes past them stay as they were. The first bad
+// entry decides: its number is returned, `entry` says which, counted from 1, and all lines before it stand, without room those of
+// the same entry too; else 0 and 0. `written` says how many bytes the lines have. Both are always written.
+#[no_mangle]
+pub extern "C" fn amsulfezd_export_capture(
+    entries: &[u8],
+    text: &mut [u8],
+    entry: &mut u64,
+    written: &mut u64,
+) -> u64
+    ensures { λ r. ⌜ r ≡ exportedOf (exportOf (now (entries .entry)) (length (now (text .entry)))) .refusal ⌝ }
+    ensures { λ _. ⌜ now (text .exit) ≡ exportBuffer (exportOf (now (entries .entry)) (length (now (text .entry)))) (now (text .entry)) ⌝ }
+    ensures { λ _. ⌜ now (entry .exit) ≡ exportedOf (exportOf (now (entries .entry)) (length (now (text .entry)))) .entry ⌝ }
+    ensures { λ _. ⌜ now (written .exit) ≡ exportedOf (exportOf (now (entries .entry)) (length (now (text .entry)))) .written ⌝ }
+{
+    let exported = capture_export::export_capture(entries, text);
+    *entry = exported.entry;
+    *written = exported.written;
+    exported.refusal as u64
 }

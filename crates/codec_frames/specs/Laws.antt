@@ -2,7 +2,7 @@
 use Prim.Native.Nat.{ℕ, _+_, _-_, _*_, _%_, _^_, _<_, _≤_}
 use mathlib.Core.Path.{_≡_, refl, sym, ap, _∙_}
 use mathlib.Core.List.{List, [], _∷_, _++_}
-use mathlib.Core.Bool.{Bool, true, false, _&&_}
+use mathlib.Core.Bool.{Bool, true, false, cond, not, _&&_}
 use native.Mathlib.Nat.{add-zero, mod-add-mod, mod-lt, mod-le, lt-of-le-of-lt, lt-of-lt-of-le}
 use native.Mathlib.Numerals.{add-one}
 use native.Mathlib.Omega.{arith}
@@ -11,8 +11,8 @@ use borrow.Table.Steps.{cases}
 use lib.ListN.{length, getD, take, drop}
 use lib.Seq.{take-suc, sets, sets-eq}
 use lib.Pow.{pow-pos, pow-mono}
-use lib.Dec.{eqb, leb, lit<, lit≤}
-use Rattle.codec_fields.specs.Fields.{fieldOf, putOf, putAll, total}
+use lib.Dec.{eqb, ltb, leb, lit<, lit≤}
+use Rattle.codec_fields.specs.Fields.{fieldOf, bitAt, putOf, putAll, total}
 use Rattle.codec_fields.specs.Widths.{grown}
 use Rattle.codec_telegrams.specs.declared.Telegram.{Telegram}
 use Rattle.codec_telegrams.specs.declared.Telegram.the-variants.{ShortConfirmation, Request, Response}
@@ -21,8 +21,9 @@ use Rattle.codec_telegrams.specs.Laws.{state-below, telegram-fits}
 use Rattle.codec_telegrams.specs.Words.{responseNumber, telegramWidths, telegramOf, telegramRefusal, telegramValues, telegramWord}
 use Rattle.codec_frames.specs.declared.Start.{Start}
 use Rattle.codec_frames.specs.declared.Start.the-variants.{Sd1, Sd2, Sd3, Sd4, Sc, Unknown}
+use Rattle.codec_frames.specs.declared.FrameRead.{FrameRead}
 use Rattle.codec_frames.specs.declared.FrameRead.the-variants.{Accepted, Refused}
-use Rattle.codec_frames.specs.Frames.{sd2, statusCode, sumOf, checkOf, frameOn, headHolds, codedTelegram, sd1Frame, frameBytes, isOtherRequest, Written, notWritten, fitted, writeOf, writeNumber, writtenOver}
+use Rattle.codec_frames.specs.Frames.{sd2, endByte, statusCode, sumOf, checkOf, startOf, isUnknown, isSd2, isChecked, isAddressed, checkPlace, frameLength, body, destinationIn, sourceIn, codeIn, extended, frameOn, frameOf, headHolds, codedTelegram, sd1Frame, frameBytes, isOtherRequest, Written, notWritten, fitted, writeOf, writeNumber, writtenOver}
 use Rattle.codec_frames.specs.Ways.{codedOf, checkedOf, sd2Of, tokenOf}
 
 -- what both hold, each holds
@@ -44,13 +45,19 @@ pub check-more : (l : List ℕ) (i : ℕ) → i < length l → checkOf (take (i 
 unfolding checkOf
 check-more l i h = rw (add-one, take-suc l i 0, sum-snoc, mod-add-mod)
 
--- a header of SD2 that holds gives at least 4 bytes
-pub head-long : (f : List ℕ) → headHolds f ≡ true → 4 ≤ getD f 1 0
-head-long f h =
+-- a header of SD2 that holds gives a length within its range
+head-range : (f : List ℕ) → headHolds f ≡ true → leb 4 (getD f 1 0) && leb (getD f 1 0) 249 ≡ true
+head-range f h =
     let range = leb 4 (getD f 1 0) && leb (getD f 1 0) 249 in
-    leb-true 4 (getD f 1 0)
-    (and-left (leb 4 (getD f 1 0)) (leb (getD f 1 0) 249)
-    (and-right (eqb (getD f 3 0) sd2) range (and-right (eqb (getD f 2 0) (getD f 1 0)) (eqb (getD f 3 0) sd2 && range) h)))
+    and-right (eqb (getD f 3 0) sd2) range (and-right (eqb (getD f 2 0) (getD f 1 0)) (eqb (getD f 3 0) sd2 && range) h)
+
+-- so at least 4 bytes
+pub head-long : (f : List ℕ) → headHolds f ≡ true → 4 ≤ getD f 1 0
+head-long f h = leb-true 4 (getD f 1 0) (and-left (leb 4 (getD f 1 0)) (leb (getD f 1 0) 249) (head-range f h))
+
+-- and at most 249
+pub head-short : (f : List ℕ) → headHolds f ≡ true → getD f 1 0 ≤ 249
+head-short f h = leb-true (getD f 1 0) 249 (and-right (leb 4 (getD f 1 0)) (leb (getD f 1 0) 249) (head-range f h))
 
 long : (n : ℕ) → 4 ≤ n → 3 + (n - 3) ≡ n
 long n h = omega arith
@@ -185,3 +192,29 @@ status-below word e = (rw e at (telegram-fits word)) .2
 -- and its type two
 pub state-is-below : (state : ResponseState) {n : ℕ} → n ≡ responseNumber state → n < 2 ^ 2
 state-is-below state e = rw e (state-below state)
+
+-- whether a frame is refused with no number
+abbrev unnumbered : FrameRead → Bool
+unnumbered (Accepted telegram used) = false
+unnumbered (Refused refusal) = eqb refusal 0
+
+-- each refusal of a frame has a number
+pub frame-numbered : (f : List ℕ) {refusal : ℕ} → frameOf f ≡ Refused refusal → refusal ≡ 0 → ⊥
+unfolding frameOf frameOn
+frame-numbered f {refusal} e z =
+    let start = startOf (getD f 0 0) in
+    let or : (test : Bool) (n : ℕ) (more : FrameRead) → eqb n 0 ≡ false → unnumbered more ≡ false → unnumbered (cond test (Refused n) more) ≡ false =
+    λ test n more h m. cases test (λ a. rw a h) (λ a. rw a m) in
+    let no : unnumbered (frameOf f) ≡ false =
+    or (eqb (length f) 0) 19 _ refl
+    (or (isUnknown start) 20 _ refl
+    (or (isSd2 start && ltb (length f) 4) 19 _ refl
+    (or (isSd2 start && not (headHolds f)) 21 _ refl
+    (or (ltb (length f) (frameLength start f)) 19 _ refl
+    (or (isChecked start && not (eqb (getD f (checkPlace start f) 0) (checkOf (body start f)))) 22 _ refl
+    (or (isChecked start && not (eqb (getD f (checkPlace start f + 1) 0) endByte)) 23 _ refl
+    (or (isAddressed start && extended (destinationIn start f) (sourceIn start f)) 24 _ refl
+    (or (isChecked start && bitAt (codeIn start f) 7) 34 _ refl refl)))))))) in
+    let y : _≡_ {A = Bool} true false = sym (eq-eqb refusal 0 z) ∙ ap unnumbered (sym e) ∙ no in
+    let x : _≡_ {A = ℕ} 0 1 = cc in
+    omega arith

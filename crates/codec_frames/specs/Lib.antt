@@ -2,3 +2,4 @@
 pub mod Frames
 pub mod Ways
 pub mod Laws
+pub mod Behind

@@ -1,30 +1,23 @@
 // A poll record of document 01, checked once and then read in place: the refusal of a record for a number of applications, what
-// its first 64 bits say, the decision of an application and a telegram; and written in place, one of these at a time. Every call
-// is total on every slice and none reads or writes past its end. It leans on codec_fields for the bits and on codec_telegrams and codec_decisions for the
+// its first 64 bits say, the decision of an application and a telegram, and where these stand. Every call is total on every
+// slice and none reads past its end. It leans on codec_fields for the bits and on codec_telegrams and codec_decisions for the
 // words.
 ghost use mathlib.Core.Path.{_≡_};
 ghost use Prim.Native.Nat.{_+_, _*_};
 ghost use Rattle.codec_fields.specs.Fields.{bitNumber};
-ghost use Rattle.codec_records.specs.Records.{headOf, recordRefusal, decisionAt, telegramAt, headWord, headStored, decisionStored, telegramStored};
+ghost use Rattle.codec_records.specs.Records.{headOf, recordRefusal, decisionAt, telegramAt};
 ghost use Rattle.codec_records.specs.Shortcut.{decisionsRefusal, entriesRefusal};
 use codec_decisions::Decision;
 use codec_decisions::decision_refusal;
 use codec_decisions::read_decision;
-use codec_decisions::write_decision;
 use codec_fields::bit;
 use codec_fields::field;
 use codec_fields::field_byte;
 use codec_fields::field_short;
 use codec_fields::load;
-use codec_fields::put;
-use codec_fields::put_bit;
-use codec_fields::put_byte;
-use codec_fields::put_short;
-use codec_fields::store;
 use codec_telegrams::Telegram;
 use codec_telegrams::read_telegram;
 use codec_telegrams::telegram_refusal;
-use codec_telegrams::write_telegram;
 
 // A record's first 64 bits: the clock, below 2 to the 48, the pending bytes, the number of telegrams, and whether a
 // transmission goes on.
@@ -49,7 +42,7 @@ pub fn read_head(bytes: &[u8]) -> Head
 }
 
 // Where a decision stands.
-fn decision_place(application: u8, high: bool) -> usize
+pub fn decision_place(application: u8, high: bool) -> usize
     ensures { λ r. ⌜ r ≡ 8 + 3 * (2 * application + bitNumber high) ⌝ }
 {
     if high {
@@ -59,7 +52,7 @@ fn decision_place(application: u8, high: bool) -> usize
 }
 
 // Where a telegram stands.
-fn telegram_place(applications: u8, telegram: u8) -> usize
+pub fn telegram_place(applications: u8, telegram: u8) -> usize
     ensures { λ r. ⌜ r ≡ 8 + 6 * applications + 4 * telegram ⌝ }
 {
     8 + 6 * (applications as usize) + 4 * (telegram as usize)
@@ -140,49 +133,4 @@ pub fn record_refusal(bytes: &[u8], applications: u8) -> u8
         return 12;
     }
     entries_refusal(bytes, applications, telegrams)
-}
-
-// The word that says a head. Of a number that does not fit its field the lowest bits are taken.
-fn head_word(head: Head) -> u64
-    ensures { λ r. ⌜ r ≡ headWord head ⌝ }
-{
-    let mut word = put(0, 48, head.clock);
-    word = put_bit(word, head.transmitting);
-    word = put_byte(word, 4, head.telegrams);
-    put_short(word, 11, head.pending)
-}
-
-// Writes a head into a record's first 8 bytes; every other byte stays. A shorter slice stays as it is. Of a number that does not
-// fit its field the lowest bits are taken.
-pub fn store_head(bytes: &mut [u8], head: Head)
-    ensures { λ _. ⌜ now (bytes .exit) ≡ headStored (now (bytes .entry)) head ⌝ }
-{
-    store(bytes, 0, 8, head_word(head));
-}
-
-// Writes the decision of an application, normal or high priority, into its 3 bytes; every other byte stays. For an application past
-// the last, and where the slice ends before, all of it stays. Of an address that does not fit its field the lowest bits are taken.
-pub fn store_decision(
-    bytes: &mut [u8],
-    applications: u8,
-    application: u8,
-    high: bool,
-    decided: Decision,
-)
-    ensures { λ _. ⌜ now (bytes .exit) ≡ decisionStored (now (bytes .entry)) applications application high decided ⌝ }
-{
-    if applications <= application {
-        return;
-    }
-    let at = decision_place(application, high);
-    store(bytes, at, 3, write_decision(decided));
-}
-
-// Writes a telegram into its 4 bytes; every other byte stays. Where the slice ends before, all of it stays. Of a number that does not
-// fit its field the lowest bits are taken.
-pub fn store_telegram(bytes: &mut [u8], applications: u8, index: u8, heard: Telegram)
-    ensures { λ _. ⌜ now (bytes .exit) ≡ telegramStored (now (bytes .entry)) applications index heard ⌝ }
-{
-    let at = telegram_place(applications, index);
-    store(bytes, at, 4, write_telegram(heard));
 }

@@ -16,11 +16,12 @@ use Rattle.ring_addresses.specs.Set.{up, down, placeOf, walk, headOr, la
 pub true≢false : true ≡ false → ⊥
 true≢false e = let z : _≡_ {A = ℕ} 0 1 = cc in omega arith
 
-and-left : (a b : Bool) → a && b ≡ true → a ≡ true
+-- both of two that hold together
+pub and-left : (a b : Bool) → a && b ≡ true → a ≡ true
 and-left true b e = refl
 and-left false b e = e
 
-and-right : (a b : Bool) → a && b ≡ true → b ≡ true
+pub and-right : (a b : Bool) → a && b ≡ true → b ≡ true
 and-right true b e = e
 and-right false b e = absurd (true≢false (sym e))
 
@@ -47,63 +48,15 @@ walk-end f p n d l =
     let none : n - d ≡ 0 = omega arith in
     rw none
 
--- several steps of it: no member at any of the r places from distance d on
-walk-skip : (f : ℕ → Bool) (p : ℕ → ℕ) (n d r : ℕ) → ((j : ℕ) → j < r → d + j < n → f (p (d + j)) ≡ false)
-    → walk f p (n - d) d ≡ walk f p (n - (d + r)) (d + r)
-walk-skip f p n d zero h = ap (λ (e : ℕ). walk f p (n - e) e) (sym (add-zero d))
-walk-skip f p n d (suc r) h =
-    go (ltb d n) refl (λ k. walk-skip f p n (d + 1) r k)
-  where
-    go : (b : Bool) → ltb d n ≡ b
-        → (((j : ℕ) → j < r → d + 1 + j < n → f (p (d + 1 + j)) ≡ false) → walk f p (n - (d + 1)) (d + 1) ≡ walk f p (n - (d + 1 + r)) (d + 1 + r))
-        → walk f p (n - d) d ≡ walk f p (n - (d + suc r)) (d + suc r)
-    go true q on =
-        let l : d < n = ltb-true d n q in
-        let same : d + 1 + r ≡ d + suc r = omega arith in
-        let here : f (p d) ≡ false = ap (λ (e : ℕ). f (p e)) (sym (add-zero d)) ∙ h 0 (omega arith) (omega arith) in
-        walk-pass f p n d l here
-        ∙ on (λ j m u. let e : d + 1 + j ≡ d + suc j = omega arith in ap (λ (x : ℕ). f (p x)) e ∙ h (suc j) (omega arith) (omega arith))
-        ∙ ap (λ (e : ℕ). walk f p (n - e) e) same
-    go false q on =
-        let l : n ≤ d = ltb-false d n q in
-        walk-end f p n d l ∙ sym (walk-end f p n (d + suc r) (omega arith))
-
 -- a place is an address
 pub place-lt : (way : Bool) (own d : ℕ) → placeOf way own d < 126
 place-lt true own d = omega arith
 place-lt false own d = omega arith
 
 -- the place behind a place
-place-on : (way : Bool) (own d e : ℕ) → d + e ≤ 126 → placeOf way (placeOf way own d) e ≡ placeOf way own (d + e)
+pub place-on : (way : Bool) (own d e : ℕ) → d + e ≤ 126 → placeOf way (placeOf way own d) e ≡ placeOf way own (d + e)
 place-on true own d e l = omega arith
 place-on false own d e l = omega arith
-
--- a search leaves out the place at distance d and the r behind it where none has a member
-pub search-on : (f : ℕ → Bool) (way : Bool) (own d r : ℕ) → f (placeOf way own d) ≡ false
-    → ((j : ℕ) → j < r → f (placeOf way (placeOf way own d) (1 + j)) ≡ false)
-    → walk f (placeOf way own) (126 - d) d ≡ walk f (placeOf way own) (126 - (d + (1 + r))) (d + (1 + r))
-search-on f way own d r h k = walk-skip f (placeOf way own) 126 d (1 + r) all
-  where
-    all : (j : ℕ) → j < 1 + r → d + j < 126 → f (placeOf way own (d + j)) ≡ false
-    all zero l u = ap (λ (e : ℕ). f (placeOf way own e)) (add-zero d) ∙ h
-    all (suc j) l u =
-        let e : suc j ≡ 1 + j = omega arith in
-        ap (λ (x : ℕ). f (placeOf way own (d + x))) e ∙ ap f (sym (place-on way own d (1 + j) (omega arith))) ∙ k j (omega arith)
-
--- places behind an address that are reached without passing 125 or 0
-pub behind-up : (f : ℕ → Bool) (way : Bool) (a r : ℕ) → way ≡ true → a + r < 126 → ((j : ℕ) → j < r → f (a + 1 + j) ≡ false) → (j : ℕ) → j < r
-    → f (placeOf way a (1 + j)) ≡ false
-behind-up f true a r e l h j u =
-    let at : (a + (1 + j)) % 126 ≡ a + 1 + j = omega arith in
-    ap f at ∙ h j u
-behind-up f false a r e l h j u = absurd (true≢false (sym e))
-
-pub behind-down : (f : ℕ → Bool) (way : Bool) (a r : ℕ) → way ≡ false → a < 126 → r ≤ a → ((j : ℕ) → j < r → f (a - 1 - j) ≡ false) → (j : ℕ) → j < r
-    → f (placeOf way a (1 + j)) ≡ false
-behind-down f true a r e m l h j u = absurd (true≢false e)
-behind-down f false a r e m l h j u =
-    let at : (a + 126 - (1 + j)) % 126 ≡ a - 1 - j = omega arith in
-    ap f at ∙ h j u
 
 -- two sets that agree on the k places from distance d on have the same walk
 pub walk-ext : (f g : ℕ → Bool) (p : ℕ → ℕ) (k d : ℕ) → ((e : ℕ) → d ≤ e → e < d + k → f (p e) ≡ g (p e)) → walk f p k d ≡ walk g p k d
@@ -463,9 +416,3 @@ pub same-then : (f g : ℕ → Bool) (n : ℕ) → sameSet f g n ≡ true → (x
 unfolding sameSet
 same-then f g zero e x l = absurd (omega arith)
 same-then f g (suc n) e x l = ⊎-elim (λ q. subst (λ (m : ℕ). f m ≡ g m) (let s : n ≡ x = omega arith in s) (eqB-true (f n) (g n) (and-right (sameSet f g n) (eqB (f n) (g n)) e))) (λ q. same-then f g n (and-left (sameSet f g n) (eqB (f n) (g n)) e) x (omega arith)) (eq-or-lt-of-le l)
-
--- the test looks at members only
-pub same-ext : (f g h : ℕ → Bool) (n : ℕ) → ((x : ℕ) → x < n → g x ≡ h x) → sameSet f g n ≡ sameSet f h n
-unfolding sameSet
-same-ext f g h zero q = refl
-same-ext f g h (suc n) q = rw (same-ext f g h n (λ x l. q x (omega arith)), q n (omega arith))

@@ -21,22 +21,22 @@ fn cut(length: u8, rest: usize) -> usize
 }
 
 // The station after all polls, and the last answer.
-fn poll_all(start: Station, s: &[u8]) -> Polled {
-    let mut polled = station_command::set_online(start);
+fn poll_all(start: Station, links: &mut [u8; 252], s: &[u8]) -> Polled {
+    let mut polled = station_command::set_online(start, links);
     let mut at: usize = 2;
     while at < s.len() {
         let from = at + 1;
         let end = from + cut(s[at], s.len() - from);
         let station = polled.station;
-        polled = station_poll::poll(station, &s[from..end]);
+        polled = station_poll::poll(station, links, &s[from..end]);
         at = end;
     }
     polled
 }
 
 // Polls a new station and prints the last answer.
-fn run(start: Station, s: &[u8]) {
-    let polled = poll_all(start, s);
+fn run(start: Station, links: &mut [u8; 252], s: &[u8]) {
+    let polled = poll_all(start, links, s);
     let answer = polled.answer;
     io::print_hex(STDOUT_FILENO, codec_answers::pack(answer), 16);
     io::write_all(STDOUT_FILENO, b"\n");
@@ -50,7 +50,8 @@ fn main() {
         io::write_all(STDOUT_FILENO, b"run_polls: the first byte is no address\n");
         return;
     };
-    let started = Station::new(p, space[1]);
+    let mut links = [127u8; 252];
+    let started = Station::new(p, space[1], &mut links);
     if started.refusal != 0 {
         io::write_all(
             STDOUT_FILENO,
@@ -58,5 +59,5 @@ fn main() {
         );
         return;
     }
-    run(started.station, &space[..n]);
+    run(started.station, &mut links, &space[..n]);
 }

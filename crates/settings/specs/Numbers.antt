@@ -19,8 +19,8 @@ use Rattle.settings.specs.declared.Created.{Created}
 use Rattle.settings.specs.declared.Created.the-variants as created
 use Rattle.settings.specs.declared.Changed.{Changed}
 use Rattle.settings.specs.declared.Changed.the-variants as changed
-use Rattle.settings.specs.Rules.{addressRefusal, baudRefusal, slotBitsRefusal, hsaRefusal, rotationRefusal, gapWaitRefusal, retryRefusal, minTsdrRefusal, watchdogRefusal, firstOf}
-use Rattle.settings.specs.RuleLaws.{outside-in}
+use Rattle.settings_rules.specs.Rules.{addressRefusal, baudRefusal, slotBitsRefusal, hsaRefusal, rotationRefusal, gapWaitRefusal, retryRefusal, minTsdrRefusal, watchdogRefusal, firstOf}
+use Rattle.settings_rules.specs.Laws.{outside-in}
 use Rattle.settings.specs.Settings.{createdNumber, changedNumber, newAt, newOf, unless, slotBitsOf, hsaOf, rotationOf, gapWaitOf, retryOf, minTsdrOf, watchdogAt, watchdogOf}
 
 new-at-number : (address : ℕ) (coded : Coded) → createdNumber (newAt address coded) ≡ firstOf (baudRefusal coded ∷ [])

@@ -15,7 +15,7 @@ use Rattle.settings.specs.declared.Created.{Created}
 use Rattle.settings.specs.declared.Created.the-variants as created
 use Rattle.settings.specs.declared.Changed.{Changed}
 use Rattle.settings.specs.declared.Changed.the-variants as changed
-use Rattle.settings.specs.Rules.{addressRefusal, baudRefusal, leastOf, slotBitsRefusal, hsaRefusal, rotationRefusal, roomRefusal, gapWaitRefusal, retryRefusal, minTsdrRefusal, factorsRefusal, firstOf}
+use Rattle.settings_rules.specs.Rules.{addressRefusal, baudRefusal, leastOf, slotBitsRefusal, hsaRefusal, rotationRefusal, roomRefusal, gapWaitRefusal, retryRefusal, minTsdrRefusal, factorsRefusal, firstOf}
 use Rattle.settings.specs.Settings.{unless}
 use Rattle.settings_build.specs.declared.PlainSettings.{PlainSettings}
 

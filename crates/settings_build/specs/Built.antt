@@ -11,7 +11,7 @@ use Rattle.bit_times.specs.Times.{baudOf}
 use Rattle.bit_times.specs.Laws.{baud-code}
 use Rattle.settings.specs.declared.Parameters.{Parameters}
 use Rattle.settings.specs.declared.Created.the-variants as created
-use Rattle.settings.specs.Rules.{baudRefusal, factorsRefusal}
+use Rattle.settings_rules.specs.Rules.{baudRefusal, factorsRefusal}
 use Rattle.settings_build.specs.declared.PlainSettings.{PlainSettings}
 use Rattle.settings_build.specs.Build.{firstRefusal, pairOf, builtAt, buildOf, factorsPair, plainOf}
 use Rattle.settings_build.specs.Passes.{passes}

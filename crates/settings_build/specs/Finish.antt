@@ -17,7 +17,7 @@ use Rattle.settings.specs.declared.Parameters.{Parameters}
 use Rattle.settings.specs.declared.Created.the-variants as created
 use Rattle.settings.specs.declared.Changed.{Changed}
 use Rattle.settings.specs.declared.Changed.the-variants as changed
-use Rattle.settings.specs.Rules.{refuseBelow, refuseOutside, addressRefusal, baudRefusal, slotBitsRefusal, hsaRefusal, rotationRefusal, roomRefusal, gapWaitRefusal, retryRefusal, minTsdrRefusal, factorsRefusal}
+use Rattle.settings_rules.specs.Rules.{refuseBelow, refuseOutside, addressRefusal, baudRefusal, slotBitsRefusal, hsaRefusal, rotationRefusal, roomRefusal, gapWaitRefusal, retryRefusal, minTsdrRefusal, factorsRefusal}
 use Rattle.settings.specs.Settings.{changedNumber, changedSettings, defaultOf, newAt, newOf, unless, slotBitsOf, hsaOf, rotationOf, gapWaitOf}
 use Rattle.settings.specs.Made.{MadeSettings, by-new, made-sound}
 use Rattle.settings.specs.Numbers.{unless-number}

@@ -12,7 +12,7 @@ use Rattle.settings_watchdog.specs.declared.WatchdogFactors.{WatchdogFactors}
 use Rattle.settings_watchdog.specs.declared.WatchdogFactors.the-variants as wf
 use Rattle.settings.specs.declared.Parameters.{Parameters}
 use Rattle.settings.specs.declared.Created.the-variants as created
-use Rattle.settings.specs.Rules.{baudRefusal, roomRefusal, factorsRefusal, firstOf}
+use Rattle.settings_rules.specs.Rules.{baudRefusal, roomRefusal, factorsRefusal, firstOf}
 use Rattle.settings.specs.Made.{MadeSettings, Watched, SoundSettings, made-sound}
 use Rattle.settings_build.specs.Build.{earlyRefusal, firstRefusal, pairOf, builtAt, buildOf, factorsPair, plainOf}
 

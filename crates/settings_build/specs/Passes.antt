@@ -4,8 +4,8 @@ use mathlib.Core.Path.{_≡_}
 use mathlib.Core.List.{List, [], _∷_}
 use native.Mathlib.Omega.{arith}
 use Rattle.bit_times.specs.Times.{baudOf}
-use Rattle.settings.specs.Rules.{addressRefusal, baudRefusal, leastOf, slotBitsRefusal, hsaRefusal, rotationRefusal, roomRefusal, gapWaitRefusal, retryRefusal, minTsdrRefusal, factorsRefusal}
-use Rattle.settings.specs.RuleLaws.{below-in, outside-in, none-refuses}
+use Rattle.settings_rules.specs.Rules.{addressRefusal, baudRefusal, leastOf, slotBitsRefusal, hsaRefusal, rotationRefusal, roomRefusal, gapWaitRefusal, retryRefusal, minTsdrRefusal, factorsRefusal}
+use Rattle.settings_rules.specs.Laws.{below-in, outside-in, none-refuses}
 use Rattle.settings.specs.declared.Parameters.{Parameters}
 use Rattle.settings_build.specs.declared.PlainSettings.{PlainSettings}
 use Rattle.settings_build.specs.Build.{earlyRefusal, firstRefusal, plainOf}

@@ -9,17 +9,17 @@ use bit_times::Coded;
 use settings::Changed;
 use settings::Created;
 use settings::Parameters;
-use settings::address_refusal;
-use settings::baud_refusal;
-use settings::factors_refusal;
-use settings::gap_wait_refusal;
-use settings::hsa_refusal;
-use settings::least_of;
-use settings::min_tsdr_refusal;
-use settings::retry_refusal;
-use settings::room_refusal;
-use settings::rotation_refusal;
-use settings::slot_bits_refusal;
+use settings_rules::address_refusal;
+use settings_rules::baud_refusal;
+use settings_rules::factors_refusal;
+use settings_rules::gap_wait_refusal;
+use settings_rules::hsa_refusal;
+use settings_rules::least_of;
+use settings_rules::min_tsdr_refusal;
+use settings_rules::retry_refusal;
+use settings_rules::room_refusal;
+use settings_rules::rotation_refusal;
+use settings_rules::slot_bits_refusal;
 use settings_watchdog::WatchdogFactors;
 
 // The nine settings as ten plain numbers, unchecked: what a trace header carries. Both factors zero says that there

@@ -3,7 +3,7 @@ use Prim.Native.Nat.{ℕ}
 use mathlib.Core.Bool.{Bool, false}
 use Rattle.bit_times.specs.declared.Micros.{Micros}
 use Rattle.settings.specs.declared.Parameters.{Parameters}
-use Rattle.settings.specs.Rules.{applicationsRefusal}
+use Rattle.settings_rules.specs.Rules.{applicationsRefusal}
 use Rattle.ring.specs.declared.GapState.{GapState}
 use Rattle.ring.specs.declared.GapState.the-variants.{Waiting}
 use Rattle.ring.specs.Ring.{freshOf}
@@ -12,8 +12,7 @@ use Rattle.station.specs.declared.Activity.the-variants as activity
 use Rattle.station.specs.declared.State.{State}
 use Rattle.station.specs.declared.State.the-variants.{Offline, ListenToken, ActiveIdle, UseToken, ClaimToken, AwaitDataResponse, PassToken, CheckTokenPass, AwaitStatusResponse}
 use Rattle.station.specs.declared.Core.{Core}
-use Rattle.station.specs.declared.Station.{Station}
-use Rattle.station.specs.declared.Started.{Started}
+use Rattle.station.specs.Whole.{Station, Started}
 
 -- the same core but for one part; withTokenTimes: but for two
 unfoldable pub withActivity : Core → Activity → Core

@@ -10,7 +10,7 @@ use Rattle.bit_times.specs.declared.Micros.{Micros}
 use Rattle.bit_times.specs.Times.{pauseBits, byteBits, timeOf}
 use Rattle.settings.specs.declared.Parameters.{Parameters}
 use Rattle.settings.specs.Settings.{slotTimeOf, tokenLostOf}
-use Rattle.ring.specs.declared.Ring.{Ring}
+use Rattle.ring.specs.Ring.{Ring}
 use Rattle.codec_answers.specs.declared.Outcome.{Outcome}
 use Rattle.codec_answers.specs.declared.Outcome.the-variants as outcome
 use Rattle.codec_answers.specs.declared.Sent.{Sent}
@@ -27,8 +27,7 @@ use Rattle.station.specs.declared.State.the-variants.{ListenToken, Activ
 use Rattle.station.specs.declared.Core.{Core}
 use Rattle.station.specs.declared.Waited.{Waited}
 use Rattle.station.specs.declared.Step.{Step}
-use Rattle.station.specs.declared.RingStep.{RingStep}
-use Rattle.station.specs.declared.Heard.{Heard}
+use Rattle.station.specs.Whole.{RingStep, Heard}
 use Rattle.station.specs.Parts.{withActivity, withPending}
 
 -- UseTokenData::with_token_time: a new token has no first application

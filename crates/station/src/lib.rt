@@ -5,8 +5,14 @@
 // A step takes the settings, which never change, the part of the station that it may change (`Core`, and the ring where
 // it needs it), the clock and what its own state holds, and hands back the new state beside that part, with what the poll
 // came to. The state stands in no other part: no step can be handed two states that differ.
+//
+// Of the ring only its head travels so; its tables, `links`, are lent beside it. A contract joins the two again: `ringOf ring
+// links`, and `ringStepAt`, `heardAt`, `stationAt` of what holds a ring. A function that touches no table promises for all tables.
 ghost use mathlib.Core.Path.{_≡_};
-ghost use Prim.Native.Nat.{_<_, _^_};
+ghost use Prim.Native.Nat.{ℕ, _<_, _^_};
+ghost use mathlib.Core.List.{List};
+ghost use Rattle.ring.specs.Ring.{ringOf};
+ghost use Rattle.station.specs.Whole.{startedAt, heardAt};
 ghost use Rattle.station.specs.Parts.{withActivity, withPending, withGap, withTokenTimes, withNextApplication, withOnline, stateNumber, freshCore, newStation};
 ghost use Rattle.station.specs.Steps.{withTokenTime, toListenToken, toActiveIdle, toUseToken, knownAt, elapsedOf, markedAt, ongoingOf, waitedOf, pauseOf, sentAt, busActivityOf, rxOf, slotExpiredOf, tokenLostWaitOf, doneOf, transmitOf, heardOf, lastRequestToUs};
 use bit_times::Bits;
@@ -15,7 +21,7 @@ use codec_answers::Notice;
 use codec_answers::Outcome;
 use codec_answers::Sent;
 use ring::GapState;
-use ring::Ring;
+use ring::Head;
 use settings::Parameters;
 
 // Option<Address>: a station that asked for our status, or one whose token was seen once.
@@ -96,11 +102,11 @@ pub struct Core {
     pub online: bool,
 }
 
-// FdlActiveStation, and the number of applications, which is fixed for life.
+// FdlActiveStation but for the ring's tables, and the number of applications, which is fixed for life.
 pub struct Station {
     pub state: State,
     pub core: Core,
-    pub token_ring: Ring,
+    pub token_ring: Head,
     pub p: Parameters,
     pub applications: u8,
 }
@@ -128,17 +134,17 @@ pub struct Step {
     pub consumed: u8,
 }
 
-// A step that may change the ring too.
+// A step that may change the ring too, but for the ring's tables.
 pub struct RingStep {
     pub step: Step,
-    pub ring: Ring,
+    pub ring: Head,
 }
 
-// What the telegrams of a poll have led to so far.
+// What the telegrams of a poll have led to so far, but for the ring's tables.
 pub struct Heard {
     pub state: State,
     pub core: Core,
-    pub ring: Ring,
+    pub ring: Head,
     pub outcome: Outcome,
 }
 
@@ -293,19 +299,19 @@ pub fn fresh_core() -> Core
 }
 
 impl Station {
-    // FdlActiveStation::new, for 1 to 8 applications: offline. Refusal 11.
-    pub fn new(p: Parameters, applications: u8) -> Started
-        ensures { λ r. ⌜ r ≡ newStation p applications ⌝ }
+    // FdlActiveStation::new, for 1 to 8 applications: offline, its ring's tables in what is lent. Refusal 11.
+    pub fn new(p: Parameters, applications: u8, links: &mut [u8; 252]) -> Started
+        ensures { λ r. ⌜ startedAt r (now (links .exit)) ≡ newStation p applications ⌝ }
     {
         Started {
             station: Station {
                 state: State::Offline,
                 core: fresh_core(),
-                token_ring: Ring::fresh(p.address),
+                token_ring: ring::fresh(links, p.address),
                 p,
                 applications,
             },
-            refusal: settings::applications_refusal(applications),
+            refusal: settings_rules::applications_refusal(applications),
         }
     }
 }
@@ -455,8 +461,8 @@ pub fn transmit(p: Parameters, state: State, core: Core, now: Micros, sent: Sent
 }
 
 // What the telegrams of a poll have led to so far, made of its parts.
-pub fn hearing(state: State, core: Core, ring: Ring, outcome: Outcome) -> Heard
-    ensures { λ r. ⌜ r ≡ heardOf state core ring outcome ⌝ }
+pub fn hearing(state: State, core: Core, ring: Head, outcome: Outcome) -> Heard
+    ensures { λ r. ⌜ ((l : List ℕ) → heardAt r l ≡ heardOf state core (ringOf ring l) outcome) ⌝ }
 {
     Heard {
         state,

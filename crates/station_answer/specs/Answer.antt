@@ -1,13 +1,22 @@
 -- What a call hands back (document 01, "Answer, 64 bits"): the station and the answer.
 use Prim.Native.Nat.{ℕ}
+use mathlib.Core.List.{List}
 use Rattle.settings.specs.declared.Parameters.{Parameters}
 use Rattle.ring.specs.Ring.{nextOf, nextNumber}
 use Rattle.codec_answers.specs.declared.Answer.{Answer}
 use Rattle.codec_answers.specs.Answers.{refusedAnswer}
-use Rattle.station.specs.declared.Station.{Station}
-use Rattle.station.specs.declared.RingStep.{RingStep}
+use Rattle.station.specs.Whole.{Station, RingStep, stationAt}
 use Rattle.station.specs.Parts.{stateNumber}
-use Rattle.station_answer.specs.declared.Polled.{Polled}
+use Rattle.station_answer.specs.declared.Polled.{Polled as PolledHead}
+
+-- what a call hands back, with the ring whole, as the records of `Whole` have it
+pub record Polled : Type 0 where
+  pub station : Station
+  pub answer : Answer
+
+-- what a call of the code hands back, with the tables that are lent beside its station
+abbrev pub polledAt : PolledHead → List ℕ → Polled
+polledAt r links = record { station = stationAt (r .station) links; answer = r .answer }
 
 -- document 01: the answer of an entry that is not refused, with the state, next application and next station after it (document 02: nobody's number when we are alone)
 unfoldable pub stepAnswer : RingStep → Answer

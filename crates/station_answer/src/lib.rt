@@ -1,21 +1,22 @@
 // What any call on the station hands back: the station after it and its answer. The answer is document 01's; profirust's
 // PollDone is its outcome. It leans on station, codec_answers and ring.
 ghost use mathlib.Core.Path.{_≡_};
-ghost use Rattle.station_answer.specs.Answer.{stepAnswer, polledOf, refusedPoll};
+ghost use Rattle.station.specs.Whole.{ringStepAt, stationAt};
+ghost use Rattle.station_answer.specs.Answer.{polledAt, stepAnswer, polledOf, refusedPoll};
 use codec_answers::Answer;
 use settings::Parameters;
 use station::RingStep;
 use station::Station;
 
-// What a call hands back: the station after it, and the answer.
+// What a call hands back: the station after it, but for its ring's tables, and the answer.
 pub struct Polled {
     pub station: Station,
     pub answer: Answer,
 }
 
 // The answer of an entry that is not refused.
-fn answer_of(stepped: RingStep) -> Answer
-    ensures { λ r. ⌜ r ≡ stepAnswer stepped ⌝ }
+fn answer_of(stepped: RingStep, links: &[u8; 252]) -> Answer
+    ensures { λ r. ⌜ r ≡ stepAnswer (ringStepAt stepped (now (links .entry))) ⌝ }
 {
     let ring = stepped.ring;
     let step = stepped.step;
@@ -32,13 +33,13 @@ fn answer_of(stepped: RingStep) -> Answer
         consumed: step.consumed,
         notice,
         next_application: core.next_application,
-        next_station: ring::next_station_number(ring.next_station()),
+        next_station: ring::next_station_number(ring::next_station(ring, links)),
     }
 }
 
 // The station after a step, with the step's answer.
-pub fn poll_done(p: Parameters, applications: u8, stepped: RingStep) -> Polled
-    ensures { λ r. ⌜ r ≡ polledOf p applications stepped ⌝ }
+pub fn poll_done(p: Parameters, applications: u8, stepped: RingStep, links: &[u8; 252]) -> Polled
+    ensures { λ r. ⌜ polledAt r (now (links .entry)) ≡ polledOf p applications (ringStepAt stepped (now (links .entry))) ⌝ }
 {
     let step = stepped.step;
     let state = step.state;
@@ -52,13 +53,13 @@ pub fn poll_done(p: Parameters, applications: u8, stepped: RingStep) -> Polled
             p,
             applications,
         },
-        answer: answer_of(stepped),
+        answer: answer_of(stepped, links),
     }
 }
 
 // A refused entry leaves the station as it was.
-pub fn refused(station: Station, refusal: u8) -> Polled
-    ensures { λ r. ⌜ r ≡ refusedPoll station refusal ⌝ }
+pub fn refused(station: Station, links: &[u8; 252], refusal: u8) -> Polled
+    ensures { λ r. ⌜ polledAt r (now (links .entry)) ≡ refusedPoll (stationAt station (now (links .entry))) refusal ⌝ }
 {
     let core = station.core;
     let state = station.state;
@@ -67,7 +68,7 @@ pub fn refused(station: Station, refusal: u8) -> Polled
         refusal,
         station::state_number(state),
         core.next_application,
-        ring::next_station_number(ring.next_station()),
+        ring::next_station_number(ring::next_station(ring, links)),
     );
     Polled { station, answer }
 }

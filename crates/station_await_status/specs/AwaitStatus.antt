@@ -5,8 +5,7 @@ use mathlib.Core.List.{List}
 use lib.Dec.{ltb, eqb}
 use Rattle.bit_times.specs.declared.Micros.{Micros}
 use Rattle.settings.specs.declared.Parameters.{Parameters}
-use Rattle.ring.specs.declared.Ring.{Ring}
-use Rattle.ring.specs.Ring.{addOf}
+use Rattle.ring.specs.Ring.{Ring, addOf}
 use Rattle.codec_telegrams.specs.declared.ResponseState.{ResponseState}
 use Rattle.codec_telegrams.specs.declared.ResponseState.the-variants.{Slave, MasterNotReady, MasterWithoutToken, MasterInRing}
 use Rattle.codec_telegrams.specs.declared.Telegram.{Telegram}
@@ -18,7 +17,7 @@ use Rattle.codec_answers.specs.declared.Notice.the-variants as notice
 use Rattle.station.specs.declared.PassTokenAttempt.the-variants.{First}
 use Rattle.station.specs.declared.State.the-variants.{PassToken, AwaitStatusResponse}
 use Rattle.station.specs.declared.Core.{Core}
-use Rattle.station.specs.declared.RingStep.{RingStep}
+use Rattle.station.specs.Whole.{RingStep}
 use Rattle.station.specs.Steps.{toActiveIdle, rxOf, slotExpiredOf, doneOf, ringStepOf}
 use Rattle.station_pass.specs.Pass.{passTokenOf}
 

@@ -5,14 +5,13 @@ use mathlib.Core.List.{List}
 use lib.Dec.{ltb}
 use Rattle.bit_times.specs.declared.Micros.{Micros}
 use Rattle.settings.specs.declared.Parameters.{Parameters}
-use Rattle.ring.specs.declared.Ring.{Ring}
-use Rattle.ring.specs.Ring.{nextOf, removeOf}
+use Rattle.ring.specs.Ring.{Ring, nextOf, removeOf}
 use Rattle.codec_answers.specs.declared.Outcome.the-variants as outcome
 use Rattle.station.specs.declared.PassTokenAttempt.{PassTokenAttempt}
 use Rattle.station.specs.declared.PassTokenAttempt.the-variants.{First, Second, Third}
 use Rattle.station.specs.declared.State.the-variants.{CheckTokenPass}
 use Rattle.station.specs.declared.Core.{Core}
-use Rattle.station.specs.declared.RingStep.{RingStep}
+use Rattle.station.specs.Whole.{RingStep}
 use Rattle.station.specs.Steps.{toActiveIdle, slotExpiredOf, doneOf, ringStepOf}
 use Rattle.station_listen.specs.Listen.{receivedAll, consumedAll}
 use Rattle.station_pass.specs.Pass.{destinationOf, passTokenOf}

@@ -4,10 +4,12 @@
 ghost use mathlib.Core.Path.{_≡_};
 ghost use Prim.Native.Nat.{_<_, _^_};
 ghost use denote.Ref.{now as contents};
+ghost use Rattle.ring.specs.Ring.{ringOf};
+ghost use Rattle.station.specs.Whole.{ringStepAt};
 ghost use Rattle.station_check_pass.specs.CheckPass.{resendOf, checkReceived, checkTokenPassOf};
 use bit_times::Micros;
 use codec_answers::Outcome;
-use ring::Ring;
+use ring::Head;
 use settings::Parameters;
 use station::Core;
 use station::PassTokenAttempt;
@@ -19,18 +21,20 @@ use station::State;
 fn do_check_token_pass_resend(
     p: Parameters,
     core: Core,
-    ring: Ring,
+    ring: Head,
+    links: &mut [u8; 252],
     now: Micros,
     attempt: PassTokenAttempt,
 ) -> RingStep
     requires { ⌜ now .0 < 2 ^ 48 ⌝ }
-    ensures { λ r. ⌜ r ≡ resendOf p core ring now attempt ⌝ }
+    ensures { λ r. ⌜ ringStepAt r (contents (links .exit)) ≡ resendOf p core (ringOf ring (contents (links .entry))) now attempt ⌝ }
 {
     match attempt {
         PassTokenAttempt::First => station_pass::do_pass_token(
             p,
             core,
             ring,
+            links,
             now,
             false,
             PassTokenAttempt::Second,
@@ -39,18 +43,16 @@ fn do_check_token_pass_resend(
             p,
             core,
             ring,
+            links,
             now,
             false,
             PassTokenAttempt::Third,
         ),
-        PassTokenAttempt::Third => station_pass::do_pass_token(
-            p,
-            core,
-            ring.remove_station(station_pass::token_destination(p.address, ring.next_station())),
-            now,
-            false,
-            PassTokenAttempt::First,
-        ),
+        PassTokenAttempt::Third => {
+            let gone = station_pass::token_destination(p.address, ring::next_station(ring, links));
+            ring::remove_station(ring, links, gone);
+            station_pass::do_pass_token(p, core, ring, links, now, false, PassTokenAttempt::First)
+        }
     }
 }
 
@@ -58,14 +60,15 @@ fn do_check_token_pass_resend(
 fn do_check_token_pass_received(
     p: Parameters,
     core: Core,
-    ring: Ring,
+    ring: Head,
+    links: &mut [u8; 252],
     now: Micros,
     attempt: PassTokenAttempt,
     bytes: &[u8],
     applications: u8,
     telegrams: u8,
 ) -> RingStep
-    ensures { λ r. ⌜ r ≡ checkReceived p core ring now attempt (contents (bytes .entry)) applications telegrams ⌝ }
+    ensures { λ r. ⌜ ringStepAt r (contents (links .exit)) ≡ checkReceived p core (ringOf ring (contents (links .entry))) now attempt (contents (bytes .entry)) applications telegrams ⌝ }
 {
     if 0 < telegrams {
         let idle = station::transition_active_idle();
@@ -74,6 +77,7 @@ fn do_check_token_pass_received(
             idle,
             core,
             ring,
+            links,
             now,
             false,
             bytes,
@@ -92,7 +96,8 @@ fn do_check_token_pass_received(
 pub fn do_check_token_pass(
     p: Parameters,
     core: Core,
-    ring: Ring,
+    ring: Head,
+    links: &mut [u8; 252],
     now: Micros,
     attempt: PassTokenAttempt,
     bytes: &[u8],
@@ -100,17 +105,18 @@ pub fn do_check_token_pass(
     telegrams: u8,
 ) -> RingStep
     requires { ⌜ now .0 < 2 ^ 48 ⌝ }
-    ensures { λ r. ⌜ r ≡ checkTokenPassOf p core ring now attempt (contents (bytes .entry)) applications telegrams ⌝ }
+    ensures { λ r. ⌜ ringStepAt r (contents (links .exit)) ≡ checkTokenPassOf p core (ringOf ring (contents (links .entry))) now attempt (contents (bytes .entry)) applications telegrams ⌝ }
 {
     let slot = station::check_slot_expired(p, core, now);
     let waited = slot.core;
     if slot.over {
-        return do_check_token_pass_resend(p, waited, ring, now, attempt);
+        return do_check_token_pass_resend(p, waited, ring, links, now, attempt);
     }
     do_check_token_pass_received(
         p,
         waited,
         ring,
+        links,
         now,
         attempt,
         bytes,

@@ -2,14 +2,13 @@
 use mathlib.Core.Bool.{Bool, false, cond}
 use Rattle.bit_times.specs.declared.Micros.{Micros}
 use Rattle.settings.specs.declared.Parameters.{Parameters}
-use Rattle.ring.specs.declared.Ring.{Ring}
-use Rattle.ring.specs.Ring.{claimOf}
+use Rattle.ring.specs.Ring.{Ring, claimOf}
 use Rattle.codec_answers.specs.declared.Outcome.the-variants as outcome
 use Rattle.codec_answers.specs.declared.Sent.the-variants as sent
 use Rattle.station.specs.declared.State.{State}
 use Rattle.station.specs.declared.State.the-variants.{ClaimToken}
 use Rattle.station.specs.declared.Core.{Core}
-use Rattle.station.specs.declared.RingStep.{RingStep}
+use Rattle.station.specs.Whole.{RingStep}
 use Rattle.station.specs.Steps.{toUseToken, pauseOf, doneOf, transmitOf, ringStepOf}
 
 -- do_claim_token: the token is sent once more, or is ours

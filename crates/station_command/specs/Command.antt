@@ -3,11 +3,10 @@ use mathlib.Core.Bool.{true}
 use Rattle.ring.specs.Ring.{freshOf}
 use Rattle.codec_answers.specs.declared.Outcome.the-variants as outcome
 use Rattle.station.specs.declared.State.the-variants.{Offline}
-use Rattle.station.specs.declared.Station.{Station}
+use Rattle.station.specs.Whole.{Station}
 use Rattle.station.specs.Parts.{withOnline, freshCore}
 use Rattle.station.specs.Steps.{doneOf, ringStepOf}
-use Rattle.station_answer.specs.declared.Polled.{Polled}
-use Rattle.station_answer.specs.Answer.{polledOf, refusedPoll}
+use Rattle.station_answer.specs.Answer.{Polled, polledOf, refusedPoll}
 
 -- set_online, set_state: all else stays
 unfoldable pub onlineOf : Station → Polled

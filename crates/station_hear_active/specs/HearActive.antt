@@ -5,8 +5,7 @@ use mathlib.Core.Bool.{Bool, false, cond}
 use lib.Dec.{eqb}
 use Rattle.bit_times.specs.declared.Micros.{Micros}
 use Rattle.settings.specs.declared.Parameters.{Parameters}
-use Rattle.ring.specs.declared.Ring.{Ring}
-use Rattle.ring.specs.Ring.{prevOf, witnessOf}
+use Rattle.ring.specs.Ring.{Ring, prevOf, witnessOf}
 use Rattle.codec_telegrams.specs.declared.Telegram.{Telegram}
 use Rattle.codec_telegrams.specs.declared.Telegram.the-variants as telegram
 use Rattle.codec_answers.specs.declared.Outcome.the-variants as outcome
@@ -16,7 +15,7 @@ use Rattle.station.specs.declared.State.{State}
 use Rattle.station.specs.declared.State.the-variants.{Offline, ListenToken, ActiveIdle, UseToken, ClaimToken, AwaitDataResponse, PassToken, CheckTokenPass, AwaitStatusResponse}
 use Rattle.station.specs.declared.Core.{Core}
 use Rattle.station.specs.Steps.{toListenToken, toUseToken, heardOf, lastRequestToUs}
-use Rattle.station.specs.declared.Heard.{Heard}
+use Rattle.station.specs.Whole.{Heard}
 
 -- handle_telegram: a token with our own source: the first is counted, the second back to back leads to ListenToken
 unfoldable pub activeCollided : Core → Ring → OptionAddress → OptionAddress → ℕ → Heard

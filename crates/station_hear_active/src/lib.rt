@@ -1,11 +1,16 @@
 // One telegram heard in ActiveIdle, and while a passed token is checked: handle_telegram of profirust's active.rs. It leans
 // on station and ring.
 ghost use mathlib.Core.Path.{_≡_};
+ghost use Prim.Native.Nat.{ℕ};
+ghost use mathlib.Core.List.{List};
+ghost use denote.Ref.{now as contents};
+ghost use Rattle.ring.specs.Ring.{ringOf};
+ghost use Rattle.station.specs.Whole.{heardAt};
 ghost use Rattle.station_hear_active.specs.HearActive.{activeCollided, remembers, acceptedOf, tokenToUs, tokenWitnessed, tokenHeard, activeRequested, activeHeard, handleTelegram};
 use bit_times::Micros;
 use codec_answers::Outcome;
 use codec_telegrams::Telegram;
-use ring::Ring;
+use ring::Head;
 use settings::Parameters;
 use station::Core;
 use station::Heard;
@@ -15,12 +20,12 @@ use station::State;
 // handle_telegram: a token with our own source. The first is counted, the second back to back leads to ListenToken.
 fn handle_telegram_collision(
     core: Core,
-    ring: Ring,
+    ring: Head,
     status_request: OptionAddress,
     new_previous_station: OptionAddress,
     collision_count: u8,
 ) -> Heard
-    ensures { λ r. ⌜ r ≡ activeCollided core ring «status_request» «new_previous_station» «collision_count» ⌝ }
+    ensures { λ r. ⌜ ((l : List ℕ) → heardAt r l ≡ activeCollided core (ringOf ring l) «status_request» «new_previous_station» «collision_count») ⌝ }
 {
     if collision_count == 0 {
         return station::hearing(
@@ -48,8 +53,8 @@ fn is_remembered(remembered: OptionAddress, address: u8) -> bool
 }
 
 // handle_telegram: the token is ours to use.
-fn handle_telegram_accept(core: Core, ring: Ring, now: Micros) -> Heard
-    ensures { λ r. ⌜ r ≡ acceptedOf core ring now ⌝ }
+fn handle_telegram_accept(core: Core, ring: Head, now: Micros) -> Heard
+    ensures { λ r. ⌜ ((l : List ℕ) → heardAt r l ≡ acceptedOf core (ringOf ring l) now) ⌝ }
 {
     station::hearing(
         station::transition_use_token(now),
@@ -63,20 +68,25 @@ fn handle_telegram_accept(core: Core, ring: Ring, now: Micros) -> Heard
 // it is accepted, from any other its sender is remembered.
 fn handle_telegram_to_us(
     core: Core,
-    ring: Ring,
+    ring: Head,
+    links: &mut [u8; 252],
     now: Micros,
     status_request: OptionAddress,
     new_previous_station: OptionAddress,
     destination: u8,
     source: u8,
 ) -> Heard
-    ensures { λ r. ⌜ r ≡ tokenToUs core ring now «status_request» «new_previous_station» destination source ⌝ }
+    ensures { λ r. ⌜ heardAt r (contents (links .exit)) ≡ tokenToUs core (ringOf ring (contents (links .entry))) now «status_request» «new_previous_station» destination source ⌝ }
 {
-    if source == ring.previous_station() {
+    if source == ring::previous_station(ring, links) {
         return handle_telegram_accept(core, ring, now);
     }
     if is_remembered(new_previous_station, source) {
-        return handle_telegram_accept(core, ring.witness_token_pass(source, destination), now);
+        return handle_telegram_accept(
+            core,
+            ring::witness_token_pass(ring, links, source, destination),
+            now,
+        );
     }
     station::hearing(
         State::ActiveIdle {
@@ -93,13 +103,14 @@ fn handle_telegram_to_us(
 // handle_telegram: another station's token is witnessed; collisions are counted only back to back.
 fn handle_telegram_witness(
     core: Core,
-    ring: Ring,
+    ring: Head,
+    links: &mut [u8; 252],
     status_request: OptionAddress,
     new_previous_station: OptionAddress,
     destination: u8,
     source: u8,
 ) -> Heard
-    ensures { λ r. ⌜ r ≡ tokenWitnessed core ring «status_request» «new_previous_station» destination source ⌝ }
+    ensures { λ r. ⌜ heardAt r (contents (links .exit)) ≡ tokenWitnessed core (ringOf ring (contents (links .entry))) «status_request» «new_previous_station» destination source ⌝ }
 {
     station::hearing(
         State::ActiveIdle {
@@ -108,7 +119,7 @@ fn handle_telegram_witness(
             collision_count: 0,
         },
         core,
-        ring.witness_token_pass(source, destination),
+        ring::witness_token_pass(ring, links, source, destination),
         Outcome::Bus,
     )
 }
@@ -117,7 +128,8 @@ fn handle_telegram_witness(
 fn handle_telegram_token(
     p: Parameters,
     core: Core,
-    ring: Ring,
+    ring: Head,
+    links: &mut [u8; 252],
     now: Micros,
     status_request: OptionAddress,
     new_previous_station: OptionAddress,
@@ -126,7 +138,7 @@ fn handle_telegram_token(
     source: u8,
     last: bool,
 ) -> Heard
-    ensures { λ r. ⌜ r ≡ tokenHeard p core ring now «status_request» «new_previous_station» «collision_count» destination source last ⌝ }
+    ensures { λ r. ⌜ heardAt r (contents (links .exit)) ≡ tokenHeard p core (ringOf ring (contents (links .entry))) now «status_request» «new_previous_station» «collision_count» destination source last ⌝ }
 {
     if source == p.address {
         return handle_telegram_collision(
@@ -141,6 +153,7 @@ fn handle_telegram_token(
         return handle_telegram_witness(
             core,
             ring,
+            links,
             status_request,
             new_previous_station,
             destination,
@@ -151,6 +164,7 @@ fn handle_telegram_token(
         return handle_telegram_to_us(
             core,
             ring,
+            links,
             now,
             status_request,
             new_previous_station,
@@ -161,6 +175,7 @@ fn handle_telegram_token(
     handle_telegram_witness(
         core,
         ring,
+        links,
         status_request,
         new_previous_station,
         destination,
@@ -171,14 +186,14 @@ fn handle_telegram_token(
 // handle_telegram: a status request to us that is last of its poll is noted.
 fn handle_telegram_request(
     core: Core,
-    ring: Ring,
+    ring: Head,
     status_request: OptionAddress,
     new_previous_station: OptionAddress,
     collision_count: u8,
     source: u8,
     noted: bool,
 ) -> Heard
-    ensures { λ r. ⌜ r ≡ activeRequested core ring «status_request» «new_previous_station» «collision_count» source noted ⌝ }
+    ensures { λ r. ⌜ ((l : List ℕ) → heardAt r l ≡ activeRequested core (ringOf ring l) «status_request» «new_previous_station» «collision_count» source noted) ⌝ }
 {
     if noted {
         return station::hearing(
@@ -208,7 +223,8 @@ fn handle_telegram_request(
 fn handle_telegram_active(
     p: Parameters,
     core: Core,
-    ring: Ring,
+    ring: Head,
+    links: &mut [u8; 252],
     now: Micros,
     status_request: OptionAddress,
     new_previous_station: OptionAddress,
@@ -216,7 +232,7 @@ fn handle_telegram_active(
     telegram: Telegram,
     last: bool,
 ) -> Heard
-    ensures { λ r. ⌜ r ≡ activeHeard p core ring now «status_request» «new_previous_station» «collision_count» telegram last ⌝ }
+    ensures { λ r. ⌜ heardAt r (contents (links .exit)) ≡ activeHeard p core (ringOf ring (contents (links .entry))) now «status_request» «new_previous_station» «collision_count» telegram last ⌝ }
 {
     match telegram {
         Telegram::Token {
@@ -226,6 +242,7 @@ fn handle_telegram_active(
             p,
             core,
             ring,
+            links,
             now,
             status_request,
             new_previous_station,
@@ -275,12 +292,13 @@ pub fn handle_telegram(
     p: Parameters,
     state: State,
     core: Core,
-    ring: Ring,
+    ring: Head,
+    links: &mut [u8; 252],
     now: Micros,
     telegram: Telegram,
     last: bool,
 ) -> Heard
-    ensures { λ r. ⌜ r ≡ handleTelegram p state core ring now telegram last ⌝ }
+    ensures { λ r. ⌜ heardAt r (contents (links .exit)) ≡ handleTelegram p state core (ringOf ring (contents (links .entry))) now telegram last ⌝ }
 {
     match state {
         State::ActiveIdle {
@@ -291,6 +309,7 @@ pub fn handle_telegram(
             p,
             core,
             ring,
+            links,
             now,
             status_request,
             new_previous_station,

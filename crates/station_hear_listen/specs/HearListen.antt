@@ -4,8 +4,7 @@ use Prim.Native.Nat.{ℕ}
 use mathlib.Core.Bool.{Bool, cond}
 use lib.Dec.{eqb}
 use Rattle.settings.specs.declared.Parameters.{Parameters}
-use Rattle.ring.specs.declared.Ring.{Ring}
-use Rattle.ring.specs.Ring.{freshOf, witnessOf}
+use Rattle.ring.specs.Ring.{Ring, freshOf, witnessOf}
 use Rattle.codec_telegrams.specs.declared.Telegram.{Telegram}
 use Rattle.codec_telegrams.specs.declared.Telegram.the-variants as telegram
 use Rattle.codec_answers.specs.declared.Outcome.the-variants as outcome
@@ -15,7 +14,7 @@ use Rattle.station.specs.declared.State.{State}
 use Rattle.station.specs.declared.State.the-variants.{Offline, ListenToken, ActiveIdle, UseToken, ClaimToken, AwaitDataResponse, PassToken, CheckTokenPass, AwaitStatusResponse}
 use Rattle.station.specs.declared.Core.{Core}
 use Rattle.station.specs.Parts.{freshCore}
-use Rattle.station.specs.declared.Heard.{Heard}
+use Rattle.station.specs.Whole.{Heard}
 use Rattle.station.specs.Steps.{heardOf, lastRequestToUs}
 
 -- do_listen_token: a telegram with our own source: the first is counted, the second makes a fresh station, offline.

@@ -1,10 +1,14 @@
 // One telegram heard in ListenToken: the closure of do_listen_token in profirust's active.rs, which receive_all_telegrams
 // hands each telegram to. It leans on station and ring.
 ghost use mathlib.Core.Path.{_≡_};
+ghost use Prim.Native.Nat.{ℕ};
+ghost use mathlib.Core.List.{List};
+ghost use Rattle.ring.specs.Ring.{ringOf};
+ghost use Rattle.station.specs.Whole.{heardAt};
 ghost use Rattle.station_hear_listen.specs.HearListen.{collided, listened, listenHeard, listenTelegram};
 use codec_answers::Outcome;
 use codec_telegrams::Telegram;
-use ring::Ring;
+use ring::Head;
 use settings::Parameters;
 use station::Core;
 use station::Heard;
@@ -15,11 +19,12 @@ use station::State;
 fn do_listen_token_collision(
     p: Parameters,
     core: Core,
-    ring: Ring,
+    ring: Head,
+    links: &mut [u8; 252],
     status_request: OptionAddress,
     collision_count: u8,
 ) -> Heard
-    ensures { λ r. ⌜ r ≡ collided p core ring «status_request» «collision_count» ⌝ }
+    ensures { λ r. ⌜ heardAt r (now (links .exit)) ≡ collided p core (ringOf ring (now (links .entry))) «status_request» «collision_count» ⌝ }
 {
     if collision_count == 0 {
         return station::hearing(
@@ -35,7 +40,7 @@ fn do_listen_token_collision(
     station::hearing(
         State::Offline,
         station::fresh_core(),
-        Ring::fresh(p.address),
+        ring::fresh(links, p.address),
         Outcome::Bus,
     )
 }
@@ -43,13 +48,13 @@ fn do_listen_token_collision(
 // do_listen_token: a status request to us that is last of its poll is noted.
 fn do_listen_token_request(
     core: Core,
-    ring: Ring,
+    ring: Head,
     status_request: OptionAddress,
     source: u8,
     collision_count: u8,
     noted: bool,
 ) -> Heard
-    ensures { λ r. ⌜ r ≡ listened core ring «status_request» «collision_count» source noted ⌝ }
+    ensures { λ r. ⌜ ((l : List ℕ) → heardAt r l ≡ listened core (ringOf ring l) «status_request» «collision_count» source noted) ⌝ }
 {
     if noted {
         return station::hearing(
@@ -77,13 +82,14 @@ fn do_listen_token_request(
 fn do_listen_token_heard(
     p: Parameters,
     core: Core,
-    ring: Ring,
+    ring: Head,
+    links: &mut [u8; 252],
     status_request: OptionAddress,
     collision_count: u8,
     telegram: Telegram,
     last: bool,
 ) -> Heard
-    ensures { λ r. ⌜ r ≡ listenHeard p core ring «status_request» «collision_count» telegram last ⌝ }
+    ensures { λ r. ⌜ heardAt r (now (links .exit)) ≡ listenHeard p core (ringOf ring (now (links .entry))) «status_request» «collision_count» telegram last ⌝ }
 {
     let own = p.address;
     match telegram {
@@ -92,7 +98,7 @@ fn do_listen_token_heard(
             source,
         } => {
             if source == own {
-                do_listen_token_collision(p, core, ring, status_request, collision_count)
+                do_listen_token_collision(p, core, ring, links, status_request, collision_count)
             } else {
                 station::hearing(
                     State::ListenToken {
@@ -100,7 +106,7 @@ fn do_listen_token_heard(
                         collision_count,
                     },
                     core,
-                    ring.witness_token_pass(source, destination),
+                    ring::witness_token_pass(ring, links, source, destination),
                     Outcome::Bus,
                 )
             }
@@ -120,7 +126,7 @@ fn do_listen_token_heard(
             status_request: asks,
         } => {
             if source == own {
-                do_listen_token_collision(p, core, ring, status_request, collision_count)
+                do_listen_token_collision(p, core, ring, links, status_request, collision_count)
             } else {
                 do_listen_token_request(
                     core,
@@ -134,7 +140,7 @@ fn do_listen_token_heard(
         }
         Telegram::Response { source, .. } => {
             if source == own {
-                do_listen_token_collision(p, core, ring, status_request, collision_count)
+                do_listen_token_collision(p, core, ring, links, status_request, collision_count)
             } else {
                 station::hearing(
                     State::ListenToken {
@@ -155,11 +161,12 @@ pub fn do_listen_token_telegram(
     p: Parameters,
     state: State,
     core: Core,
-    ring: Ring,
+    ring: Head,
+    links: &mut [u8; 252],
     telegram: Telegram,
     last: bool,
 ) -> Heard
-    ensures { λ r. ⌜ r ≡ listenTelegram p state core ring telegram last ⌝ }
+    ensures { λ r. ⌜ heardAt r (now (links .exit)) ≡ listenTelegram p state core (ringOf ring (now (links .entry))) telegram last ⌝ }
 {
     match state {
         State::ListenToken {
@@ -169,6 +176,7 @@ pub fn do_listen_token_telegram(
             p,
             core,
             ring,
+            links,
             status_request,
             collision_count,
             telegram,

@@ -7,7 +7,7 @@ use lib.Dec.{ltb, leb, eqb}
 use Rattle.bit_times.specs.declared.Micros.{Micros}
 use Rattle.bit_times.specs.Times.{timeOf}
 use Rattle.settings.specs.declared.Parameters.{Parameters}
-use Rattle.settings.specs.Rules.{gapAllowance}
+use Rattle.settings_rules.specs.Rules.{gapAllowance}
 use Rattle.settings.specs.Settings.{rotationTimeOf}
 use Rattle.ring.specs.declared.GapState.{GapState}
 use Rattle.ring.specs.declared.GapState.the-variants.{Waiting, DoPoll}

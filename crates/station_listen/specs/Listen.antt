@@ -6,8 +6,7 @@ use mathlib.Core.List.{List}
 use lib.Dec.{eqb}
 use Rattle.bit_times.specs.declared.Micros.{Micros}
 use Rattle.settings.specs.declared.Parameters.{Parameters}
-use Rattle.ring.specs.declared.Ring.{Ring}
-use Rattle.ring.specs.Ring.{prevOf}
+use Rattle.ring.specs.Ring.{Ring, prevOf}
 use Rattle.codec_telegrams.specs.declared.ResponseState.{ResponseState}
 use Rattle.codec_telegrams.specs.declared.ResponseState.the-variants.{MasterNotReady, MasterWithoutToken, MasterInRing}
 use Rattle.codec_telegrams.specs.declared.Telegram.{Telegram}
@@ -20,12 +19,11 @@ use Rattle.station.specs.declared.OptionAddress.the-variants as optionAddress
 use Rattle.station.specs.declared.State.{State}
 use Rattle.station.specs.declared.State.the-variants.{ListenToken, ActiveIdle}
 use Rattle.station.specs.declared.Core.{Core}
-use Rattle.station.specs.declared.RingStep.{RingStep}
+use Rattle.station.specs.Whole.{RingStep, Heard}
 use Rattle.station.specs.Steps.{toActiveIdle, pauseOf, rxOf, tokenLostWaitOf, doneOf, transmitOf, ringStepOf, heardOf}
 use Rattle.station_claim.specs.Claim.{claimTokenOf}
 use Rattle.station_hear_listen.specs.HearListen.{listenTelegram}
 use Rattle.station_hear_active.specs.HearActive.{handleTelegram}
-use Rattle.station.specs.declared.Heard.{Heard}
 
 -- handle_lost_token: a lost token is claimed; else the state goes on with `rest`
 unfoldable pub handleLostToken : Parameters → Core → Ring → Micros → (Core → RingStep) → RingStep

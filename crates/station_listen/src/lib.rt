@@ -2,8 +2,11 @@
 // each of which begins with handle_lost_token. It leans on station_hear_listen and station_hear_active for one telegram heard, on
 // station_claim for a lost token, on codec_records for what was received, on station and ring.
 ghost use mathlib.Core.Path.{_≡_};
-ghost use Prim.Native.Nat.{_<_, _^_};
+ghost use Prim.Native.Nat.{ℕ, _<_, _^_};
+ghost use mathlib.Core.List.{List};
 ghost use denote.Ref.{now as contents};
+ghost use Rattle.ring.specs.Ring.{ringOf};
+ghost use Rattle.station.specs.Whole.{ringStepAt, heardAt};
 ghost use Rattle.station_listen.specs.Listen.{responseState, listenAnswered, listenResponse, heardTelegram, receivedAll, consumedAll, listenTokenOf, activeResponse, activeIdleOf};
 use bit_times::Micros;
 use codec_answers::Notice;
@@ -11,7 +14,7 @@ use codec_answers::Outcome;
 use codec_answers::Sent;
 use codec_telegrams::ResponseState;
 use codec_telegrams::Telegram;
-use ring::Ring;
+use ring::Head;
 use settings::Parameters;
 use station::Core;
 use station::Heard;
@@ -21,11 +24,11 @@ use station::State;
 use station::Step;
 
 // do_listen_token: without token exactly if ready and asked by the previous station.
-fn do_listen_token_state(ring: Ring, source: u8) -> ResponseState
-    ensures { λ r. ⌜ r ≡ responseState ring source ⌝ }
+fn do_listen_token_state(ring: Head, links: &[u8; 252], source: u8) -> ResponseState
+    ensures { λ r. ⌜ r ≡ responseState (ringOf ring (contents (links .entry))) source ⌝ }
 {
-    if ring.ready_for_ring() {
-        if source == ring.previous_station() {
+    if ring::ready_for_ring(ring) {
+        if source == ring::previous_station(ring, links) {
             return ResponseState::MasterWithoutToken;
         }
         return ResponseState::MasterNotReady;
@@ -34,10 +37,10 @@ fn do_listen_token_state(ring: Ring, source: u8) -> ResponseState
 }
 
 // do_listen_token: after the response a ready station goes to ActiveIdle, whoever asked.
-fn do_listen_token_answered(ring: Ring, collision_count: u8) -> State
-    ensures { λ r. ⌜ r ≡ listenAnswered ring «collision_count» ⌝ }
+fn do_listen_token_answered(ring: Head, collision_count: u8) -> State
+    ensures { λ r. ⌜ ((l : List ℕ) → r ≡ listenAnswered (ringOf ring l) «collision_count») ⌝ }
 {
-    if ring.ready_for_ring() {
+    if ring::ready_for_ring(ring) {
         return station::transition_active_idle();
     }
     State::ListenToken {
@@ -50,18 +53,19 @@ fn do_listen_token_answered(ring: Ring, collision_count: u8) -> State
 fn do_listen_token_respond(
     p: Parameters,
     core: Core,
-    ring: Ring,
+    ring: Head,
+    links: &[u8; 252],
     now: Micros,
     source: u8,
     collision_count: u8,
 ) -> RingStep
     requires { ⌜ now .0 < 2 ^ 48 ⌝ }
-    ensures { λ r. ⌜ r ≡ listenResponse p core ring now source «collision_count» ⌝ }
+    ensures { λ r. ⌜ ringStepAt r (contents (links .entry)) ≡ listenResponse p core (ringOf ring (contents (links .entry))) now source «collision_count» ⌝ }
 {
     let pause = station::wait_synchronization_pause(p, core, now);
     let waited = pause.core;
     if pause.over {
-        let state = do_listen_token_state(ring, source);
+        let state = do_listen_token_state(ring, links, source);
         let answered = do_listen_token_answered(ring, collision_count);
         return RingStep {
             step: station::transmit(
@@ -94,12 +98,13 @@ fn do_listen_token_respond(
 fn receive_telegram(
     p: Parameters,
     before: Heard,
+    links: &mut [u8; 252],
     now: Micros,
     listening: bool,
     telegram: Telegram,
     last: bool,
 ) -> Heard
-    ensures { λ r. ⌜ r ≡ heardTelegram p before now listening telegram last ⌝ }
+    ensures { λ r. ⌜ heardAt r (contents (links .exit)) ≡ heardTelegram p (heardAt before (contents (links .entry))) now listening telegram last ⌝ }
 {
     let state = before.state;
     let core = before.core;
@@ -111,11 +116,12 @@ fn receive_telegram(
             state,
             marked,
             ring,
+            links,
             telegram,
             last,
         );
     }
-    station_hear_active::handle_telegram(p, state, marked, ring, now, telegram, last)
+    station_hear_active::handle_telegram(p, state, marked, ring, links, now, telegram, last)
 }
 
 // receive_all_telegrams, in their order. With none the poll waits for the bus.
@@ -123,28 +129,29 @@ pub fn receive_all_telegrams(
     p: Parameters,
     state: State,
     core: Core,
-    ring: Ring,
+    ring: Head,
+    links: &mut [u8; 252],
     now: Micros,
     listening: bool,
     bytes: &[u8],
     applications: u8,
     telegrams: u8,
 ) -> Heard
-    ensures { λ r. ⌜ r ≡ receivedAll p state core ring now listening (contents (bytes .entry)) applications telegrams ⌝ }
+    ensures { λ r. ⌜ heardAt r (contents (links .exit)) ≡ receivedAll p state core (ringOf ring (contents (links .entry))) now listening (contents (bytes .entry)) applications telegrams ⌝ }
 {
     let mut all = station::hearing(state, core, ring, Outcome::Bus);
     let mut index: u8 = 0;
     while index < telegrams {
         let telegram = codec_records::telegram(bytes, applications, index);
         index += 1;
-        all = receive_telegram(p, all, now, listening, telegram, index == telegrams);
+        all = receive_telegram(p, all, links, now, listening, telegram, index == telegrams);
     }
     all
 }
 
 // The step that the telegrams of a poll led to; all of them are consumed.
 pub fn consumed_all(all: Heard, telegrams: u8) -> RingStep
-    ensures { λ r. ⌜ r ≡ consumedAll all telegrams ⌝ }
+    ensures { λ r. ⌜ ((l : List ℕ) → ringStepAt r l ≡ consumedAll (heardAt all l) telegrams) ⌝ }
 {
     let state = all.state;
     let core = all.core;
@@ -169,14 +176,15 @@ fn received_some(
     p: Parameters,
     state: State,
     core: Core,
-    ring: Ring,
+    ring: Head,
+    links: &mut [u8; 252],
     now: Micros,
     listening: bool,
     bytes: &[u8],
     applications: u8,
     telegrams: u8,
 ) -> RingStep
-    ensures { λ r. ⌜ r ≡ consumedAll (receivedAll p state core ring now listening (contents (bytes .entry)) applications telegrams) telegrams ⌝ }
+    ensures { λ r. ⌜ ringStepAt r (contents (links .exit)) ≡ consumedAll (receivedAll p state core (ringOf ring (contents (links .entry))) now listening (contents (bytes .entry)) applications telegrams) telegrams ⌝ }
 {
     consumed_all(
         receive_all_telegrams(
@@ -184,6 +192,7 @@ fn received_some(
             state,
             core,
             ring,
+            links,
             now,
             listening,
             bytes,
@@ -199,14 +208,15 @@ fn received(
     p: Parameters,
     state: State,
     core: Core,
-    ring: Ring,
+    ring: Head,
+    links: &mut [u8; 252],
     now: Micros,
     listening: bool,
     bytes: &[u8],
     applications: u8,
     telegrams: u8,
 ) -> RingStep
-    ensures { λ r. ⌜ r ≡ consumedAll (receivedAll p state core ring now listening (contents (bytes .entry)) applications telegrams) telegrams ⌝ }
+    ensures { λ r. ⌜ ringStepAt r (contents (links .exit)) ≡ consumedAll (receivedAll p state core (ringOf ring (contents (links .entry))) now listening (contents (bytes .entry)) applications telegrams) telegrams ⌝ }
 {
     if telegrams == 0 {
         return RingStep {
@@ -219,6 +229,7 @@ fn received(
         state,
         core,
         ring,
+        links,
         now,
         listening,
         bytes,
@@ -231,7 +242,8 @@ fn received(
 pub fn do_listen_token(
     p: Parameters,
     core: Core,
-    ring: Ring,
+    ring: Head,
+    links: &mut [u8; 252],
     now: Micros,
     status_request: OptionAddress,
     collision_count: u8,
@@ -240,7 +252,7 @@ pub fn do_listen_token(
     telegrams: u8,
 ) -> RingStep
     requires { ⌜ now .0 < 2 ^ 48 ⌝ }
-    ensures { λ r. ⌜ r ≡ listenTokenOf p core ring now «status_request» «collision_count» (contents (bytes .entry)) applications telegrams ⌝ }
+    ensures { λ r. ⌜ ringStepAt r (contents (links .exit)) ≡ listenTokenOf p core (ringOf ring (contents (links .entry))) now «status_request» «collision_count» (contents (bytes .entry)) applications telegrams ⌝ }
 {
     let lost = station::token_lost(p, core, now);
     let waited = lost.core;
@@ -256,6 +268,7 @@ pub fn do_listen_token(
             },
             waited,
             ring,
+            links,
             now,
             true,
             bytes,
@@ -266,6 +279,7 @@ pub fn do_listen_token(
             p,
             waited,
             ring,
+            links,
             now,
             source,
             collision_count,
@@ -277,14 +291,14 @@ pub fn do_listen_token(
 fn do_active_idle_respond(
     p: Parameters,
     core: Core,
-    ring: Ring,
+    ring: Head,
     now: Micros,
     source: u8,
     new_previous_station: OptionAddress,
     collision_count: u8,
 ) -> RingStep
     requires { ⌜ now .0 < 2 ^ 48 ⌝ }
-    ensures { λ r. ⌜ r ≡ activeResponse p core ring now source «new_previous_station» «collision_count» ⌝ }
+    ensures { λ r. ⌜ ((l : List ℕ) → ringStepAt r l ≡ activeResponse p core (ringOf ring l) now source «new_previous_station» «collision_count») ⌝ }
 {
     let pause = station::wait_synchronization_pause(p, core, now);
     let waited = pause.core;
@@ -326,7 +340,8 @@ fn do_active_idle_respond(
 pub fn do_active_idle(
     p: Parameters,
     core: Core,
-    ring: Ring,
+    ring: Head,
+    links: &mut [u8; 252],
     now: Micros,
     status_request: OptionAddress,
     new_previous_station: OptionAddress,
@@ -336,7 +351,7 @@ pub fn do_active_idle(
     telegrams: u8,
 ) -> RingStep
     requires { ⌜ now .0 < 2 ^ 48 ⌝ }
-    ensures { λ r. ⌜ r ≡ activeIdleOf p core ring now «status_request» «new_previous_station» «collision_count» (contents (bytes .entry)) applications telegrams ⌝ }
+    ensures { λ r. ⌜ ringStepAt r (contents (links .exit)) ≡ activeIdleOf p core (ringOf ring (contents (links .entry))) now «status_request» «new_previous_station» «collision_count» (contents (bytes .entry)) applications telegrams ⌝ }
 {
     let lost = station::token_lost(p, core, now);
     let waited = lost.core;
@@ -353,6 +368,7 @@ pub fn do_active_idle(
             },
             waited,
             ring,
+            links,
             now,
             false,
             bytes,

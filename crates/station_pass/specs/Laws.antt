@@ -2,8 +2,7 @@
 use Prim.Native.Nat.{ℕ, _<_}
 use mathlib.Core.Path.{_≡_, refl, sym, ap, subst, _∙_}
 use mathlib.Core.List.{List, [], _∷_}
-use Rattle.ring.specs.declared.Ring.{Ring}
-use Rattle.ring.specs.Ring.{others, nextOf, witnessOf, removeOf}
+use Rattle.ring.specs.Ring.{Ring, others, nextOf, witnessOf, removeOf}
 use Rattle.ring.specs.Laws.{SoundRing, firstOrOwn, first-is, first-alone, first-low, next-is, next-alone, next-witness, remove-me}
 use Rattle.station_pass.specs.Pass.{destinationOf}
 

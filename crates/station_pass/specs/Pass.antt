@@ -4,18 +4,17 @@ use mathlib.Core.Bool.{Bool, cond}
 use lib.Dec.{ltb}
 use Rattle.bit_times.specs.declared.Micros.{Micros}
 use Rattle.settings.specs.declared.Parameters.{Parameters}
-use Rattle.ring.specs.declared.Ring.{Ring}
 use Rattle.ring.specs.declared.NextStation.{NextStation}
 use Rattle.ring.specs.declared.NextStation.the-variants.{Nobody, Neighbour}
 use Rattle.ring.specs.declared.GapState.{GapState}
 use Rattle.ring.specs.declared.GapState.the-variants.{Waiting, DoPoll}
-use Rattle.ring.specs.Ring.{nextOf, witnessOf, gapOf}
+use Rattle.ring.specs.Ring.{Ring, nextOf, witnessOf, gapOf}
 use Rattle.codec_answers.specs.declared.Outcome.the-variants as outcome
 use Rattle.codec_answers.specs.declared.Sent.the-variants as sent
 use Rattle.station.specs.declared.PassTokenAttempt.{PassTokenAttempt}
 use Rattle.station.specs.declared.State.the-variants.{PassToken, CheckTokenPass, AwaitStatusResponse}
 use Rattle.station.specs.declared.Core.{Core}
-use Rattle.station.specs.declared.RingStep.{RingStep}
+use Rattle.station.specs.Whole.{RingStep}
 use Rattle.station.specs.Parts.{withGap}
 use Rattle.station.specs.Steps.{toUseToken, pauseOf, doneOf, transmitOf, ringStepOf}
 

@@ -5,15 +5,14 @@ use mathlib.Core.List.{List}
 use lib.Dec.{eqb}
 use Rattle.bit_times.specs.declared.Micros.{Micros}
 use Rattle.settings.specs.declared.Parameters.{Parameters}
-use Rattle.ring.specs.declared.Ring.{Ring}
+use Rattle.ring.specs.Ring.{Ring}
 use Rattle.codec_records.specs.declared.Head.{Head}
 use Rattle.codec_records.specs.Records.{headOf, recordRefusal}
 use Rattle.codec_answers.specs.declared.Outcome.the-variants as outcome
 use Rattle.station.specs.declared.State.{State}
 use Rattle.station.specs.declared.State.the-variants.{Offline, ListenToken, ActiveIdle, UseToken, ClaimToken, AwaitDataResponse, PassToken, CheckTokenPass, AwaitStatusResponse}
 use Rattle.station.specs.declared.Core.{Core}
-use Rattle.station.specs.declared.Station.{Station}
-use Rattle.station.specs.declared.RingStep.{RingStep}
+use Rattle.station.specs.Whole.{Station, RingStep}
 use Rattle.station.specs.Parts.{withActivity}
 use Rattle.station.specs.Steps.{toListenToken, markedAt, ongoingOf, busActivityOf, doneOf, ringStepOf}
 use Rattle.station_claim.specs.Claim.{claimTokenOf}
@@ -22,8 +21,7 @@ use Rattle.station_listen.specs.Listen.{listenTokenOf, activeIdleOf}
 use Rattle.station_pass.specs.Pass.{passTokenOf}
 use Rattle.station_await_status.specs.AwaitStatus.{awaitStatusOf}
 use Rattle.station_check_pass.specs.CheckPass.{checkTokenPassOf}
-use Rattle.station_answer.specs.declared.Polled.{Polled}
-use Rattle.station_answer.specs.Answer.{polledOf, refusedPoll}
+use Rattle.station_answer.specs.Answer.{Polled, polledOf, refusedPoll}
 
 -- poll_inner, online: from Offline the station goes to ListenToken
 unfoldable pub connectedOf : State → State

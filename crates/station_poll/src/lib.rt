@@ -2,15 +2,19 @@
 // It leans on all of the station's crates: on those of its states for what a poll does, on station_answer for what it hands
 // back.
 ghost use mathlib.Core.Path.{_≡_};
-ghost use Prim.Native.Nat.{_<_, _^_};
+ghost use Prim.Native.Nat.{ℕ, _<_, _^_};
+ghost use mathlib.Core.List.{List};
 ghost use denote.Ref.{now as contents};
+ghost use Rattle.ring.specs.Ring.{ringOf};
+ghost use Rattle.station.specs.Whole.{stationAt, ringStepAt};
 ghost use Rattle.station.specs.Steps.{ringStepOf};
+ghost use Rattle.station_answer.specs.Answer.{polledAt};
 ghost use Rattle.station_hold.specs.Hold.{useTokenOf};
 ghost use Rattle.station_pass.specs.Pass.{passTokenOf};
 ghost use Rattle.station_poll.specs.Poll.{connectedOf, dispatchOf, pollOnline, pollInner, acceptedPoll, pollOf};
 use bit_times::Micros;
 use codec_answers::Outcome;
-use ring::Ring;
+use ring::Head;
 use settings::Parameters;
 use station::Core;
 use station::PassTokenAttempt;
@@ -42,7 +46,7 @@ fn poll_inner_connected(state: State) -> State
 fn poll_inner_use_token(
     p: Parameters,
     core: Core,
-    ring: Ring,
+    ring: Head,
     now: Micros,
     data: UseTokenData,
     first_cycle_done: bool,
@@ -50,7 +54,7 @@ fn poll_inner_use_token(
     applications: u8,
 ) -> RingStep
     requires { ⌜ now .0 < 2 ^ 48 ⌝ }
-    ensures { λ r. ⌜ r ≡ ringStepOf (useTokenOf p core now «data» «first_cycle_done» (contents (bytes .entry)) applications) ring ⌝ }
+    ensures { λ r. ⌜ ((l : List ℕ) → ringStepAt r l ≡ ringStepOf (useTokenOf p core now «data» «first_cycle_done» (contents (bytes .entry)) applications) (ringOf ring l)) ⌝ }
 {
     RingStep {
         step: station_hold::do_use_token(p, core, now, data, first_cycle_done, bytes, applications),
@@ -62,15 +66,16 @@ fn poll_inner_use_token(
 fn poll_inner_pass_token(
     p: Parameters,
     core: Core,
-    ring: Ring,
+    ring: Head,
+    links: &mut [u8; 252],
     now: Micros,
     do_gap: bool,
     attempt: PassTokenAttempt,
 ) -> RingStep
     requires { ⌜ now .0 < 2 ^ 48 ⌝ }
-    ensures { λ r. ⌜ r ≡ passTokenOf p core ring now «do_gap» attempt ⌝ }
+    ensures { λ r. ⌜ ringStepAt r (contents (links .exit)) ≡ passTokenOf p core (ringOf ring (contents (links .entry))) now «do_gap» attempt ⌝ }
 {
-    station_pass::do_pass_token(p, core, ring, now, do_gap, attempt)
+    station_pass::do_pass_token(p, core, ring, links, now, do_gap, attempt)
 }
 
 // poll_inner: what the state asks for. Offline cannot be: poll_inner_connected comes first.
@@ -78,14 +83,15 @@ fn poll_inner_dispatch(
     p: Parameters,
     state: State,
     core: Core,
-    ring: Ring,
+    ring: Head,
+    links: &mut [u8; 252],
     now: Micros,
     bytes: &[u8],
     applications: u8,
     telegrams: u8,
 ) -> RingStep
     requires { ⌜ now .0 < 2 ^ 48 ⌝ }
-    ensures { λ r. ⌜ r ≡ dispatchOf p state core ring now (contents (bytes .entry)) applications telegrams ⌝ }
+    ensures { λ r. ⌜ ringStepAt r (contents (links .exit)) ≡ dispatchOf p state core (ringOf ring (contents (links .entry))) now (contents (bytes .entry)) applications telegrams ⌝ }
 {
     match state {
         State::Offline => RingStep {
@@ -99,6 +105,7 @@ fn poll_inner_dispatch(
             p,
             core,
             ring,
+            links,
             now,
             status_request,
             collision_count,
@@ -114,6 +121,7 @@ fn poll_inner_dispatch(
             p,
             core,
             ring,
+            links,
             now,
             status_request,
             new_previous_station,
@@ -150,12 +158,13 @@ fn poll_inner_dispatch(
             ring,
         },
         State::PassToken { do_gap, attempt } => {
-            poll_inner_pass_token(p, core, ring, now, do_gap, attempt)
+            poll_inner_pass_token(p, core, ring, links, now, do_gap, attempt)
         }
         State::CheckTokenPass { attempt } => station_check_pass::do_check_token_pass(
             p,
             core,
             ring,
+            links,
             now,
             attempt,
             bytes,
@@ -166,6 +175,7 @@ fn poll_inner_dispatch(
             p,
             core,
             ring,
+            links,
             now,
             address,
             bytes,
@@ -180,7 +190,8 @@ fn poll_inner_online(
     p: Parameters,
     state: State,
     core: Core,
-    ring: Ring,
+    ring: Head,
+    links: &mut [u8; 252],
     now: Micros,
     transmitting: bool,
     pending: u16,
@@ -189,7 +200,7 @@ fn poll_inner_online(
     telegrams: u8,
 ) -> RingStep
     requires { ⌜ now .0 < 2 ^ 48 ⌝ }
-    ensures { λ r. ⌜ r ≡ pollOnline p state core ring now transmitting pending (contents (bytes .entry)) applications telegrams ⌝ }
+    ensures { λ r. ⌜ ringStepAt r (contents (links .exit)) ≡ pollOnline p state core (ringOf ring (contents (links .entry))) now transmitting pending (contents (bytes .entry)) applications telegrams ⌝ }
 {
     let activity = core.last_bus_activity;
     if station::check_for_ongoing_transmission(activity, now, transmitting) {
@@ -204,7 +215,17 @@ fn poll_inner_online(
         };
     }
     let checked = station::check_for_bus_activity(core, now, pending);
-    poll_inner_dispatch(p, state, checked, ring, now, bytes, applications, telegrams)
+    poll_inner_dispatch(
+        p,
+        state,
+        checked,
+        ring,
+        links,
+        now,
+        bytes,
+        applications,
+        telegrams,
+    )
 }
 
 // poll_inner: a station that is not online does nothing.
@@ -212,7 +233,8 @@ fn poll_inner(
     p: Parameters,
     state: State,
     core: Core,
-    ring: Ring,
+    ring: Head,
+    links: &mut [u8; 252],
     now: Micros,
     transmitting: bool,
     pending: u16,
@@ -221,7 +243,7 @@ fn poll_inner(
     telegrams: u8,
 ) -> RingStep
     requires { ⌜ now .0 < 2 ^ 48 ⌝ }
-    ensures { λ r. ⌜ r ≡ pollInner p state core ring now transmitting pending (contents (bytes .entry)) applications telegrams ⌝ }
+    ensures { λ r. ⌜ ringStepAt r (contents (links .exit)) ≡ pollInner p state core (ringOf ring (contents (links .entry))) now transmitting pending (contents (bytes .entry)) applications telegrams ⌝ }
 {
     if core.online {
         return poll_inner_online(
@@ -229,6 +251,7 @@ fn poll_inner(
             poll_inner_connected(state),
             core,
             ring,
+            links,
             now,
             transmitting,
             pending,
@@ -244,8 +267,8 @@ fn poll_inner(
 }
 
 // A poll whose record is not refused.
-fn poll_accepted(station: Station, bytes: &[u8]) -> Polled
-    ensures { λ r. ⌜ r ≡ acceptedPoll station (contents (bytes .entry)) ⌝ }
+fn poll_accepted(station: Station, links: &mut [u8; 252], bytes: &[u8]) -> Polled
+    ensures { λ r. ⌜ polledAt r (contents (links .exit)) ≡ acceptedPoll (stationAt station (contents (links .entry))) (contents (bytes .entry)) ⌝ }
 {
     let head = codec_records::read_head(bytes);
     let applications = station.applications;
@@ -258,6 +281,7 @@ fn poll_accepted(station: Station, bytes: &[u8]) -> Polled
         state,
         core,
         ring,
+        links,
         Micros(head.clock),
         head.transmitting,
         head.pending,
@@ -265,16 +289,16 @@ fn poll_accepted(station: Station, bytes: &[u8]) -> Polled
         applications,
         head.telegrams,
     );
-    station_answer::poll_done(p, applications, stepped)
+    station_answer::poll_done(p, applications, stepped, links)
 }
 
 // poll_multi, on a poll record. Refusals 12 to 15.
-pub fn poll(station: Station, bytes: &[u8]) -> Polled
-    ensures { λ r. ⌜ r ≡ pollOf station (contents (bytes .entry)) ⌝ }
+pub fn poll(station: Station, links: &mut [u8; 252], bytes: &[u8]) -> Polled
+    ensures { λ r. ⌜ polledAt r (contents (links .exit)) ≡ pollOf (stationAt station (contents (links .entry))) (contents (bytes .entry)) ⌝ }
 {
     let refusal = codec_records::record_refusal(bytes, station.applications);
     if refusal == 0 {
-        return poll_accepted(station, bytes);
+        return poll_accepted(station, links, bytes);
     }
-    station_answer::refused(station, refusal)
+    station_answer::refused(station, links, refusal)
 }

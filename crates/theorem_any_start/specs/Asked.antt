@@ -6,7 +6,7 @@ use mathlib.Core.List.{List, _∷_, _++_}
 use lib.ListN.{length}
 use Rattle.ring.specs.Ring.{others}
 use Rattle.codec_answers.specs.declared.Sent.{Sent}
-use Rattle.station.specs.declared.Station.{Station}
+use Rattle.station.specs.Whole.{Station}
 use Rattle.theorem_silence.specs.Silence.{AllQuiet}
 use Rattle.theorem_silence.specs.Letter.{afterPolls, sentIn, Asks}
 use Rattle.theorem_any_start.specs.AnyStart.{AnyStart, lostCountedIn, planOf, Before}

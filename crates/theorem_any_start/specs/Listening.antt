@@ -10,7 +10,7 @@ use Rattle.bit_times.specs.declared.Micros.{Micros}
 use Rattle.bit_times.specs.Laws.{time-grows}
 use Rattle.settings.specs.declared.Parameters.{Parameters}
 use Rattle.settings.specs.Settings.{slotTimeOf, tokenLostOf}
-use Rattle.ring.specs.declared.Ring.{Ring}
+use Rattle.ring.specs.Ring.{Ring}
 use Rattle.codec_telegrams.specs.declared.ResponseState.{ResponseState}
 use Rattle.codec_answers.specs.declared.Sent.the-variants as sent
 use Rattle.station.specs.declared.OptionAddress.{OptionAddress}
@@ -20,7 +20,7 @@ use Rattle.station.specs.declared.Activity.the-variants as activity
 use Rattle.station.specs.declared.State.{State}
 use Rattle.station.specs.declared.State.the-variants.{ListenToken, ActiveIdle}
 use Rattle.station.specs.declared.Core.{Core}
-use Rattle.station.specs.declared.RingStep.{RingStep}
+use Rattle.station.specs.Whole.{RingStep}
 use Rattle.station.specs.Steps.{pauseOf, tokenLostWaitOf, busyOf, doneOf, transmitOf, heardOf}
 use Rattle.station_listen.specs.Listen.{handleLostToken, listenAnswered, listenResponse, heardAll, receivedAll, consumedAll, listenTokenOn, listenTokenOf, activeResponse, activeIdleOn, activeIdleOf}
 use Rattle.station_poll.specs.Poll.{connectedOf, dispatchOf}

@@ -7,7 +7,7 @@ use mathlib.Core.Bool.{true}
 use mathlib.Core.Path.{_≡_}
 use lib.ListN.{length}
 use Rattle.ring.specs.Ring.{others}
-use Rattle.station.specs.declared.Station.{Station}
+use Rattle.station.specs.Whole.{Station}
 use Rattle.station.specs.Parts.{stateNumber}
 use Rattle.theorem_sound.specs.Sound.{part-ring}
 use Rattle.theorem_silence.specs.Silence.{online}

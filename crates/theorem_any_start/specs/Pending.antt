@@ -13,7 +13,7 @@ use Rattle.bit_times.specs.Laws.{time-some}
 use Rattle.settings.specs.declared.Parameters.{Parameters}
 use Rattle.settings.specs.Settings.{tokenLostOf}
 use Rattle.settings_build.specs.Build.{firstRefusal, plainOf}
-use Rattle.ring.specs.declared.Ring.{Ring}
+use Rattle.ring.specs.Ring.{Ring}
 use Rattle.codec_records.specs.Records.{headOf, recordRefusal}
 use Rattle.codec_answers.specs.declared.Sent.the-variants.{Nothing}
 use Rattle.station.specs.declared.OptionAddress.{OptionAddress}
@@ -22,8 +22,7 @@ use Rattle.station.specs.declared.Activity.{Activity}
 use Rattle.station.specs.declared.Activity.the-variants as activity
 use Rattle.station.specs.declared.Core.{Core}
 use Rattle.station.specs.declared.State.{State}
-use Rattle.station.specs.declared.RingStep.{RingStep}
-use Rattle.station.specs.declared.Station.{Station}
+use Rattle.station.specs.Whole.{Station, RingStep}
 use Rattle.station.specs.Parts.{withActivity, withPending}
 use Rattle.station.specs.Steps.{knownAt, elapsedOf, markedAt, busyOf, ongoingOf, waitedOf, pauseOf, tokenLostWaitOf, busActivityOf, doneOf, heardOf}
 use Rattle.station_listen.specs.Listen.{handleLostToken, listenResponse, heardAll, receivedAll, consumedAll, listenTokenOn, listenTokenOf, activeResponse, activeIdleOn, activeIdleOf}

@@ -20,7 +20,7 @@ use Rattle.codec_records.specs.Records.{headOf}
 use Rattle.station.specs.declared.Activity.the-variants as activity
 use Rattle.station.specs.declared.PassTokenAttempt.{PassTokenAttempt}
 use Rattle.station.specs.declared.State.the-variants.{PassToken}
-use Rattle.station.specs.declared.Station.{Station}
+use Rattle.station.specs.Whole.{Station}
 use Rattle.station_pass.specs.Pass.{gapAdvanced}
 use Rattle.station_poll.specs.Poll.{pollOf}
 use Rattle.theorem_silence.specs.Silence.{AllQuiet, holdsToken, until, slotAfter}

@@ -9,16 +9,15 @@ use native.Mathlib.Omega.{arith}
 use Rattle.codec_fields.specs.Fields.{fieldOf, beFrom, loadOf, zerosOr14}
 use Rattle.bit_times.specs.Times.{rounded, timeOf}
 use Rattle.settings.specs.Settings.{slotTimeOf, tokenLostOf, rotationTimeOf}
-use Rattle.ring.specs.declared.Ring.{Ring}
 use Rattle.ring.specs.declared.GapState.the-variants.{Waiting, DoPoll}
-use Rattle.ring.specs.Ring.{claimOf, others, polls, candidateOf, gapOf, freshOf}
+use Rattle.ring.specs.Ring.{Ring, claimOf, others, polls, candidateOf, gapOf, freshOf}
 use Rattle.ring.specs.Laws.{others-claim, others-fresh}
 use Rattle.codec_telegrams.specs.Words as words
 use Rattle.codec_decisions.specs.Decisions as decisions
 use Rattle.codec_records.specs.Records as records
 use Rattle.station.specs.declared.PassTokenAttempt.the-variants.{First}
 use Rattle.station.specs.declared.State.the-variants.{ClaimToken, PassToken}
-use Rattle.station.specs.declared.Station.{Station}
+use Rattle.station.specs.Whole.{Station}
 use Rattle.station.specs.Parts.{freshStation, freshCore, stateNumber, withActivity, withGap, withPending, withTokenTimes, withNextApplication, withOnline}
 use Rattle.station.specs.Steps as steps
 use Rattle.station_listen.specs.Listen as listening

@@ -3,9 +3,12 @@ use mathlib.Core.Path.{_≡_, _∙_, sym}
 use denote.Ref.{now}
 use Rattle.theorem_determined.specs.Claim.{Determined}
 use Rattle.amsulfezd.proofs.amsulfezd_replay_trace.Reads as replay-trace-reads
+use Rattle.amsulfezd.proofs.amsulfezd_trace_heard.Reads as trace-heard-reads
 use Rattle.amsulfezd.proofs.amsulfezd_other_edition.Reads as other-edition-reads
 use Rattle.amsulfezd.proofs.amsulfezd_read_frame.Reads as read-frame-reads
 use Rattle.amsulfezd.proofs.amsulfezd_write_frame.Reads as write-frame-reads
+use Rattle.amsulfezd.proofs.amsulfezd_import_capture.Reads as import-capture-reads
+use Rattle.amsulfezd.proofs.amsulfezd_export_capture.Reads as export-capture-reads
 
 -- `amsulfezd_replay_trace` returns a number and writes: both are fixed, the lent buffer in every byte
 pub amsulfezd-replay-trace :
@@ -14,6 +17,14 @@ pub amsulfezd-replay-trace :
     → replay-trace-reads.Post κs a r₂ s₂
     → (r₁ ≡ r₂) × (now (s₁ .1 .0) ≡ now (s₂ .1 .0))
 amsulfezd-replay-trace κs a r₁ r₂ s₁ s₂ p q = (p .0 ∙ sym (q .0), p .1 ∙ sym (q .1))
+
+-- so does `amsulfezd_trace_heard`
+pub amsulfezd-trace-heard :
+    (κs : _) (a : _) (r₁ r₂ : _) (s₁ s₂ : _)
+    → trace-heard-reads.Post κs a r₁ s₁
+    → trace-heard-reads.Post κs a r₂ s₂
+    → (r₁ ≡ r₂) × (now (s₁ .1 .1 .0) ≡ now (s₂ .1 .1 .0))
+amsulfezd-trace-heard κs a r₁ r₂ s₁ s₂ p q = (p .0 ∙ sym (q .0), p .1 ∙ sym (q .1))
 
 -- so does `amsulfezd_other_edition`
 pub amsulfezd-other-edition :
@@ -33,3 +44,19 @@ pub amsulfezd-write-frame :
     → write-frame-reads.Post κs a r₂ s₂
     → (r₁ ≡ r₂) × (now (s₁ .1 .0) ≡ now (s₂ .1 .0))
 amsulfezd-write-frame κs a r₁ r₂ s₁ s₂ p q = (p .0 ∙ sym (q .0), p .1 ∙ sym (q .1))
+
+-- `amsulfezd_import_capture` returns a number, writes, and leaves two numbers: all are fixed
+pub amsulfezd-import-capture :
+    (κs : _) (a : _) (r₁ r₂ : _) (s₁ s₂ : _)
+    → import-capture-reads.Post κs a r₁ s₁
+    → import-capture-reads.Post κs a r₂ s₂
+    → (r₁ ≡ r₂) × (now (s₁ .1 .0) ≡ now (s₂ .1 .0)) × (now (s₁ .1 .1 .0) ≡ now (s₂ .1 .1 .0)) × (now (s₁ .1 .1 .1 .0) ≡ now (s₂ .1 .1 .1 .0))
+amsulfezd-import-capture κs a r₁ r₂ s₁ s₂ p q = (p .0 ∙ sym (q .0), p .1 .0 ∙ sym (q .1 .0), p .1 .1 .0 ∙ sym (q .1 .1 .0), p .1 .1 .1 ∙ sym (q .1 .1 .1))
+
+-- so does `amsulfezd_export_capture`
+pub amsulfezd-export-capture :
+    (κs : _) (a : _) (r₁ r₂ : _) (s₁ s₂ : _)
+    → export-capture-reads.Post κs a r₁ s₁
+    → export-capture-reads.Post κs a r₂ s₂
+    → (r₁ ≡ r₂) × (now (s₁ .1 .0) ≡ now (s₂ .1 .0)) × (now (s₁ .1 .1 .0) ≡ now (s₂ .1 .1 .0)) × (now (s₁ .1 .1 .1 .0) ≡ now (s₂ .1 .1 .1 .0))
+amsulfezd-export-capture κs a r₁ r₂ s₁ s₂ p q = (p .0 ∙ sym (q .0), p .1 .0 ∙ sym (q .1 .0), p .1 .1 .0 ∙ sym (q .1 .1 .0), p .1 .1 .1 ∙ sym (q .1 .1 .1))

@@ -1,11 +1,14 @@
--- What is claimed of each contract, then a file for each crate with the claim proved for each of its public calls.
+-- What is claimed of each contract, what a ring's join says, then a file for each crate with the claim proved for each of its public calls.
 pub mod Claim
+pub mod Joins
 pub mod BitTimes
 pub mod SettingsWatchdog
+pub mod SettingsRules
 pub mod Settings
 pub mod SettingsInPlace
 pub mod SettingsBuild
 pub mod RingAddresses
+pub mod RingLinks
 pub mod Ring
 pub mod CodecFields
 pub mod CodecSlices
@@ -13,7 +16,12 @@ pub mod CodecTelegrams
 pub mod CodecFrames
 pub mod CodecDecisions
 pub mod CodecRecords
+pub mod CodecRecordsWritten
 pub mod CodecAnswers
+pub mod CaptureLines
+pub mod CaptureText
+pub mod CaptureImport
+pub mod CaptureExport
 pub mod Station
 pub mod StationClaim
 pub mod StationHold
@@ -26,6 +34,10 @@ pub mod StationCheckPass
 pub mod StationAnswer
 pub mod StationCommand
 pub mod StationPoll
+pub mod Heard
 pub mod TraceHeaders
+pub mod TraceHeadersWritten
+pub mod TraceEditions
 pub mod Trace
+pub mod TraceHeard
 pub mod Amsulfezd

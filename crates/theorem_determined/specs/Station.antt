@@ -1,6 +1,9 @@
 -- Determined, for the public calls of station.
 use mathlib.Core.Path.{_∙_, sym}
-use Rattle.theorem_determined.specs.Claim.{Determined}
+use mathlib.Core.List.{[]}
+use denote.Ref.{now}
+use Rattle.theorem_determined.specs.Claim.{Determined, DeterminedLent}
+use Rattle.theorem_determined.specs.Joins.{started-same, heard-same}
 use Rattle.station.proofs.with_activity.Reads as with-activity-reads
 use Rattle.station.proofs.with_gap.Reads as with-gap-reads
 use Rattle.station.proofs.with_token_times.Reads as with-token-times-reads
@@ -54,8 +57,8 @@ transition-use-token κs a r₁ r₂ s₁ s₂ p q = p ∙ sym q
 pub fresh-core : Determined fresh-core-reads.Post
 fresh-core κs a r₁ r₂ s₁ s₂ p q = p ∙ sym q
 
-pub new : Determined new-reads.Post
-new κs a r₁ r₂ s₁ s₂ p q = p ∙ sym q
+pub new : DeterminedLent new-reads.Post (λ k s. now (s .1 .1 .0))
+new κs a r₁ r₂ s₁ s₂ p q = started-same r₁ r₂ (now (s₁ .1 .1 .0)) (now (s₂ .1 .1 .0)) (p ∙ sym q)
 
 pub mark-bus-activity : Determined mark-bus-activity-reads.Post
 mark-bus-activity κs a r₁ r₂ s₁ s₂ p q = p ∙ sym q
@@ -85,7 +88,7 @@ pub transmit : Determined transmit-reads.Post
 transmit κs a r₁ r₂ s₁ s₂ p q = p ∙ sym q
 
 pub hearing : Determined hearing-reads.Post
-hearing κs a r₁ r₂ s₁ s₂ p q = p ∙ sym q
+hearing κs a r₁ r₂ s₁ s₂ p q = heard-same r₁ r₂ [] [] (p [] ∙ sym (q [])) .0
 
 pub is-last-request-to-us : Determined is-last-request-to-us-reads.Post
 is-last-request-to-us κs a r₁ r₂ s₁ s₂ p q = p ∙ sym q

@@ -11,8 +11,8 @@ use Rattle.bit_times.specs.Times.{baudOf}
 use Rattle.codec_fields.specs.Fields.{zeroOr14, zerosOr14}
 use Rattle.settings.specs.declared.Created.{Created}
 use Rattle.settings.specs.declared.Created.the-variants as created
-use Rattle.settings.specs.Rules.{refuseBelow, refuseOutside, addressRefusal, baudRefusal, leastOf, slotBitsRefusal, hsaRefusal, rotationRefusal, roomRefusal, gapWaitRefusal, retryRefusal, minTsdrRefusal, factorsRefusal, applicationsRefusal}
-use Rattle.settings.specs.RuleLaws.{first-has}
+use Rattle.settings_rules.specs.Rules.{refuseBelow, refuseOutside, addressRefusal, baudRefusal, leastOf, slotBitsRefusal, hsaRefusal, rotationRefusal, roomRefusal, gapWaitRefusal, retryRefusal, minTsdrRefusal, factorsRefusal, applicationsRefusal}
+use Rattle.settings_rules.specs.Laws.{first-has}
 use Rattle.settings_build.specs.declared.PlainSettings.{PlainSettings}
 use Rattle.settings_build.specs.Build.{earlyRefusal, firstRefusal, builtAt, buildOf}
 use Rattle.theorem_sound.specs.Keeps.{either}

@@ -10,7 +10,7 @@ use lib.ListN.{length, take, drop, length-append, length-drop}
 use lib.Seq.{take-at, drop-at}
 use lib.Pow.{high, low}
 use lib.Dec.{eqb}
-use Rattle.station.specs.declared.Station.{Station}
+use Rattle.station.specs.Whole.{Station}
 use Rattle.trace_headers.specs.Headers.{headerLength}
 use Rattle.theorem_sound.specs.Unchanged.{poll-unchanged, passive-unchanged, online-refusal, offline-refusal}
 use Rattle.trace.specs.Trace.{TraceStart, Accepted, Refused, startOf, answered, runOf, ranOf, replayOn, replayOf, numberOf, written, bufferOf}

@@ -16,13 +16,15 @@ use Rattle.codec_fields.specs.Stores.{bytes-take}
 use Rattle.settings.specs.declared.Parameters.{Parameters}
 use Rattle.settings.specs.declared.Created.{Created}
 use Rattle.settings.specs.declared.Created.the-variants as created
-use Rattle.station.specs.declared.Station.{Station}
+use Rattle.station.specs.Whole.{Station}
 use Rattle.trace_headers.specs.declared.Header.{Header}
 use Rattle.trace_headers.specs.declared.Edition.{Edition}
 use Rattle.trace_headers.specs.declared.Edition.the-variants.{First, Second}
-use Rattle.trace_headers.specs.Headers.{editionOf, otherThan, lengthOf, headerLength, headerIn, headerOf, headerRefusal, headerBytes, headerInto, lentRefusal, otherLength, moveNumber, moveInto}
-use Rattle.trace_headers.specs.Laws.{move-done}
-use Rattle.trace_headers.specs.Moves.{AcceptedHeader, moved, Moves, header-moves}
+use Rattle.trace_headers.specs.Headers.{editionOf, lengthOf, headerLength, headerIn, headerOf, headerRefusal}
+use Rattle.trace_headers_written.specs.HeaderBytes.{headerBytes, headerInto}
+use Rattle.trace_editions.specs.Editions.{otherThan, lentRefusal, otherLength, moveNumber, moveInto}
+use Rattle.trace_editions.specs.Laws.{move-done}
+use Rattle.trace_editions.specs.Moves.{AcceptedHeader, moved, Moves, header-moves}
 use Rattle.trace.specs.Trace.{settingsOf, settingsAt, longestTrace, TraceStart, Accepted, Refused, startedWith, startOf, ranOf, replayOn, replayOf}
 use Rattle.trace.specs.Laws.{start-long, start-refused}
 

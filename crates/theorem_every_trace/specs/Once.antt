@@ -6,7 +6,7 @@ use native.Mathlib.Omega.{arith}
 use native.Mathlib.Nat.{sub-zero}
 use lib.ListN.{length, take, drop, length-append}
 use lib.Seq.{length-take-le, take-at, drop-at}
-use Rattle.station.specs.declared.Station.{Station}
+use Rattle.station.specs.Whole.{Station}
 use Rattle.trace_headers.specs.Headers.{headerLength}
 use Rattle.trace.specs.Entries.{recordLength}
 use Rattle.theorem_every_trace.specs.Statement.{Entry, Whole, laid, Stops, empty, cut, full, Answered}

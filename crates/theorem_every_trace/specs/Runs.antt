@@ -13,8 +13,8 @@ use lib.Dec.{ltb, lit≤}
 use Rattle.codec_fields.specs.Fields.{bytesOf}
 use Rattle.codec_answers.specs.declared.Answer.{Answer}
 use Rattle.codec_answers.specs.Answers.{answerWord}
-use Rattle.station.specs.declared.Station.{Station}
-use Rattle.station_answer.specs.declared.Polled.{Polled}
+use Rattle.station.specs.Whole.{Station}
+use Rattle.station_answer.specs.Answer.{Polled}
 use Rattle.trace.specs.Entries.{recordLength, entryOf}
 use Rattle.trace.specs.Trace.{Run, ended, answered, runFrom, runOf, written}
 use Rattle.trace.specs.Laws.{precededBy, run-none, run-cut, run-full, run-more}

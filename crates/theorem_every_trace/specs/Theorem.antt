@@ -7,9 +7,9 @@ use native.Mathlib.Nat.{le-refl, sub-zero}
 use lib.ListN.{length, take, drop, take-append-drop}
 use lib.Seq.{length-take-le}
 use Rattle.codec_answers.specs.declared.Answer.{Answer}
-use Rattle.station.specs.declared.Station.{Station}
+use Rattle.station.specs.Whole.{Station}
 use Rattle.trace_headers.specs.Headers.{headerLength}
-use Rattle.station_answer.specs.declared.Polled.{Polled}
+use Rattle.station_answer.specs.Answer.{Polled}
 use Rattle.trace.specs.Entries.{recordLength, entryOf}
 use Rattle.trace.specs.Trace.{TraceStart, Accepted, Refused, startOf, Run, runFrom, runOf, ranOf, replayOf, numberOf, bufferOf}
 use Rattle.trace.specs.Laws.{start-long, replay-started, replay-refused, run-none, run-cut, run-full, run-more}

@@ -18,7 +18,9 @@ use Rattle.settings.specs.declared.Parameters.{Parameters}
 use Rattle.settings.specs.Settings.{slotTimeOf, tokenLostOf}
 use Rattle.ring.specs.declared.GapState.{GapState}
 use Rattle.ring.specs.declared.GapState.the-variants.{Waiting, DoPoll}
+use Rattle.ring_links.specs.Links.{linksOf}
 use Rattle.ring.specs.Ring.{freshOf, gapOf}
+use Rattle.ring.specs.Worked.{among}
 use Rattle.codec_answers.specs.declared.Answer.{Answer}
 use Rattle.codec_answers.specs.declared.Sent.{Sent}
 use Rattle.codec_answers.specs.declared.Sent.the-variants as sent
@@ -28,9 +30,9 @@ use Rattle.station.specs.declared.Activity.{Activity}
 use Rattle.station.specs.declared.Activity.the-variants as activity
 use Rattle.station.specs.declared.PassTokenAttempt.the-variants.{First}
 use Rattle.station.specs.declared.State.the-variants.{Offline, ListenToken, PassToken}
-use Rattle.station.specs.declared.Station.{Station}
+use Rattle.station.specs.Whole.{Station}
 use Rattle.station.specs.Parts.{withGap, zeroTime}
-use Rattle.station_answer.specs.declared.Polled.{Polled}
+use Rattle.station_answer.specs.Answer.{Polled}
 use Rattle.station_poll.specs.Poll.{pollOf}
 use Rattle.trace.specs.Entries.{entryOf}
 use Rattle.trace.specs.Trace.{TraceStart, Accepted, Refused, startOf, replayOf}
@@ -159,7 +161,7 @@ aloneStation =
     record {
       state = PassToken true First;
       core = record { «last_token_time» = record { 0 = 7532 }; «end_token_hold_time» = record { 0 = 64872 }; «last_bus_activity» = activity.At (record { 0 = 7598 }); «gap_state» = Waiting 0; «pending_bytes» = 0; «next_application» = 0; online = true };
-      «token_ring» = record { low = 2 ^ 5; high = 0; own = 5; laps = 0; ready = true };
+      «token_ring» = record { links = linksOf (among (5 ∷ [])); own = 5; laps = 0; ready = true };
       p = example 10;
       applications = 1;
     }
@@ -179,7 +181,7 @@ neighbourStation =
     record {
       state = PassToken true First;
       core = record { «last_token_time» = record { 0 = 7700 }; «end_token_hold_time» = record { 0 = 64872 }; «last_bus_activity» = activity.At (record { 0 = 7766 }); «gap_state» = Waiting 0; «pending_bytes» = 0; «next_application» = 0; online = true };
-      «token_ring» = record { low = 2 ^ 5 + 2 ^ 9; high = 0; own = 5; laps = 1; ready = true };
+      «token_ring» = record { links = linksOf (among (5 ∷ 9 ∷ [])); own = 5; laps = 1; ready = true };
       p = example 10;
       applications = 1;
     }
@@ -209,7 +211,7 @@ collidedOnce =
     record {
       state = ListenToken optionAddress.None 1;
       core = record { «last_token_time» = record { 0 = 9400 }; «end_token_hold_time» = record { 0 = 72672 }; «last_bus_activity» = activity.At (record { 0 = 10200 }); «gap_state» = DoPoll 6; «pending_bytes» = 7; «next_application» = 1; online = true };
-      «token_ring» = record { low = 2 ^ 5 + 2 ^ 9 + 2 ^ 12; high = 0; own = 5; laps = 2; ready = true };
+      «token_ring» = record { links = linksOf (among (5 ∷ 9 ∷ 12 ∷ [])); own = 5; laps = 2; ready = true };
       p = example 1;
       applications = 2;
     }
@@ -220,7 +222,7 @@ freshBut last =
     record {
       state = Offline;
       core = record { «last_token_time» = zeroTime; «end_token_hold_time» = zeroTime; «last_bus_activity» = last; «gap_state» = Waiting 0; «pending_bytes» = 0; «next_application» = 0; online = false };
-      «token_ring» = record { low = 2 ^ 5; high = 0; own = 5; laps = 0; ready = false };
+      «token_ring» = record { links = linksOf (among (5 ∷ [])); own = 5; laps = 0; ready = false };
       p = example 1;
       applications = 2;
     }

@@ -17,110 +17,23 @@ use Rattle.codec_frames.specs.declared.Start.the-variants.{Sd1, Sd2, Sd3, Sd4, 
 use Rattle.codec_frames.specs.declared.FrameRead.the-variants.{Accepted, Refused}
 use Rattle.codec_frames.specs.Frames.{frameBytes, isOtherRequest, startOf, isUnknown, headHolds, frameLength, frameOn, frameOf}
 use Rattle.codec_frames.specs.Laws.{empty-way, head-long}
+use Rattle.codec_frames.specs.Behind.{Enough, byte-behind, behind-on}
 use Rattle.theorem_frames.specs.Whole.{Whole, accepted}
 use Rattle.theorem_frames.specs.RoundTrip.{frame-reads-back}
 
 -- What follows a frame
 
-module _ (p x y : List ℕ) where
-  -- what stands in the first part is the same whatever follows it
-  same-byte : (i : ℕ) → i < length p → getD (p ++ x) i 0 ≡ getD (p ++ y) i 0
-  same-byte i h = List·getD-append p x 0 i h ∙ sym (List·getD-append p y 0 i h)
-
-  same-part : (h n : ℕ) → h + n ≤ length p → take n (drop h (p ++ x)) ≡ take n (drop h (p ++ y))
-  same-part h n room =
-      let low : h ≤ length p = omega arith in
-      let rest : n ≤ length (drop h p) = rw length-drop (omega arith) in
-      rw (drop-append-le h p x low, drop-append-le h p y low, take-append-le n (drop h p) x rest, take-append-le n (drop h p) y rest)
-
--- and the first part is as long
-some-bytes : (p z : List ℕ) → 1 ≤ length p → eqb (length (p ++ z)) 0 ≡ false
-some-bytes p z h = ne-eqb (length (p ++ z)) 0 (λ e. omega (arith, length-append p z))
-
-long-enough : (p z : List ℕ) (n : ℕ) → n ≤ length p → ltb (length (p ++ z)) n ≡ false
-long-enough p z n h = le-ltb (length (p ++ z)) n (omega (arith, length-append p z))
-
--- so is what a reader makes of a whole frame
-same-on : (p x y : List ℕ) (start : Start) → isUnknown start ≡ false → frameLength start (p ++ x) ≡ length p → frameOn start (p ++ x) ≡ frameOn start (p ++ y)
-unfolding frameOn
-same-on p x y Sd1 known e =
-    let at = same-byte p x y in
-    rw (
-      some-bytes p x (omega arith),
-      some-bytes p y (omega arith),
-      long-enough p x 6 (omega arith),
-      long-enough p y 6 (omega arith),
-      same-part p x y 1 3 (omega arith),
-      at 1 (omega arith),
-      at 2 (omega arith),
-      at 3 (omega arith),
-      at 4 (omega arith),
-      at 5 (omega arith),
-    )
-same-on p x y Sd2 known e =
-    let at = same-byte p x y in
-    let one : getD (p ++ x) 1 0 ≡ getD (p ++ y) 1 0 = at 1 (omega arith) in
-    let n = getD (p ++ y) 1 0 in
-    let long : 4 + n + 2 ≤ length p = omega arith in
-    cases (headHolds (p ++ y))
-    (λ a.
-    let four : 4 ≤ n = head-long (p ++ y) a in
-    rw (
-      some-bytes p x (omega arith),
-      some-bytes p y (omega arith),
-      long-enough p x 4 (omega arith),
-      long-enough p y 4 (omega arith),
-      one,
-      at 2 (omega arith),
-      at 3 (omega arith),
-      a,
-      long-enough p x (4 + n + 2) long,
-      long-enough p y (4 + n + 2) long,
-      same-part p x y 4 n (omega arith),
-      at (4 + n) (omega arith),
-      at (4 + n + 1) (omega arith),
-      at 4 (omega arith),
-      at 5 (omega arith),
-      at 6 (omega arith),
-    ))
-    (λ a.
-    rw (
-      some-bytes p x (omega arith),
-      some-bytes p y (omega arith),
-      long-enough p x 4 (omega arith),
-      long-enough p y 4 (omega arith),
-      one,
-      at 2 (omega arith),
-      at 3 (omega arith),
-      a,
-    ))
-same-on p x y Sd3 known e =
-    let at = same-byte p x y in
-    rw (
-      some-bytes p x (omega arith),
-      some-bytes p y (omega arith),
-      long-enough p x 14 (omega arith),
-      long-enough p y 14 (omega arith),
-      same-part p x y 1 11 (omega arith),
-      at 1 (omega arith),
-      at 2 (omega arith),
-      at 3 (omega arith),
-      at 12 (omega arith),
-      at 13 (omega arith),
-    )
-same-on p x y Sd4 known e =
-    let at = same-byte p x y in
-    rw (
-      some-bytes p x (omega arith),
-      some-bytes p y (omega arith),
-      long-enough p x 3 (omega arith),
-      long-enough p y 3 (omega arith),
-      at 1 (omega arith),
-      at 2 (omega arith),
-    )
-same-on p x y Sc known e =
-    rw (some-bytes p x (omega arith), some-bytes p y (omega arith), long-enough p x 1 (omega arith), long-enough p y 1 (omega arith))
-same-on p x y Unknown known e = let z : _≡_ {A = ℕ} 0 1 = cc in absurd (omega arith)
+-- a whole frame has bytes enough
+enough : (p x : List ℕ) (start : Start) → isUnknown start ≡ false → frameLength start (p ++ x) ≡ length p → Enough start p
+enough p x Sd1 known e = omega arith
+enough p x Sd2 known e =
+    let one : 1 < length p = omega arith in
+    let long : 4 + getD (p ++ x) 1 0 + 2 ≤ length p = omega arith in
+    (omega arith, λ a. rw (byte-behind p x 1 one) at long)
+enough p x Sd3 known e = omega arith
+enough p x Sd4 known e = omega arith
+enough p x Sc known e = omega arith
+enough p x Unknown known e = let z : _≡_ {A = ℕ} 0 1 = cc in absurd (omega arith)
 
 -- a frame has at least one byte
 used-some : (start : Start) (f : List ℕ) → isUnknown start ≡ false → 1 ≤ frameLength start f
@@ -144,9 +57,9 @@ read-alone f rest {t} {used} e =
     let size : length p ≡ used = length-take-le used f long in
     let some : 1 ≤ used = rw (a .2) at (used-some start f (w .known)) in
     let first : getD (p ++ rest) 0 0 ≡ getD f 0 0 =
-    sym (same-byte p (drop used f) rest 0 (omega arith)) ∙ ap (λ (l : List ℕ). getD l 0 0) whole in
-    let same = same-on p (drop used f) rest start (w .known) (rw whole (a .2 ∙ sym size)) in
-    rw first (sym same ∙ ap (frameOn start) whole ∙ e)
+    byte-behind p rest 0 (omega arith) ∙ sym (byte-behind p (drop used f) 0 (omega arith)) ∙ ap (λ (l : List ℕ). getD l 0 0) whole in
+    let long-enough = enough p (drop used f) start (w .known) (rw whole (a .2 ∙ sym size)) in
+    rw first (behind-on p rest start long-enough ∙ sym (behind-on p (drop used f) start long-enough) ∙ ap (frameOn start) whole ∙ e)
 
 -- A cut frame
 

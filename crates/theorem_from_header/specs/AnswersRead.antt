@@ -15,7 +15,7 @@ use Rattle.codec_answers.specs.declared.Answer.{Answer}
 use Rattle.codec_answers.specs.declared.Unpacked.the-variants.{Is}
 use Rattle.codec_answers.specs.Answers.{answerWord, unpackOf, Fits}
 use Rattle.codec_answers.specs.Laws.{answer-unpacks}
-use Rattle.station.specs.declared.Station.{Station}
+use Rattle.station.specs.Whole.{Station}
 use Rattle.trace.specs.Entries.{entryOf}
 use Rattle.trace.specs.Trace.{Accepted, startOf, written}
 use Rattle.trace.specs.Laws.{written-append}

@@ -12,14 +12,14 @@ use lib.Dec.{eqb}
 use Rattle.settings.specs.declared.Parameters.{Parameters}
 use Rattle.settings.specs.declared.Created.{Created}
 use Rattle.settings.specs.declared.Created.the-variants as created
-use Rattle.settings.specs.Rules.{factorsRefusal, applicationsRefusal}
-use Rattle.settings.specs.RuleLaws.{none-refuses}
+use Rattle.settings_rules.specs.Rules.{factorsRefusal, applicationsRefusal}
+use Rattle.settings_rules.specs.Laws.{none-refuses}
 use Rattle.settings_build.specs.Build.{earlyRefusal, firstRefusal, buildOf, plainOf}
 use Rattle.codec_fields.specs.Fields.{zeroOr14}
 use Rattle.codec_records.specs.Records.{recordRefusal}
 use Rattle.station.specs.declared.PassTokenAttempt.the-variants.{First}
 use Rattle.station.specs.declared.State.the-variants.{PassToken}
-use Rattle.station.specs.declared.Station.{Station}
+use Rattle.station.specs.Whole.{Station}
 use Rattle.station.specs.Parts.{freshStation}
 use Rattle.station_answer.specs.Answer.{polledOf, refusedPoll}
 use Rattle.station_command.specs.Command.{onlineOf, offlineOf, passiveOf}

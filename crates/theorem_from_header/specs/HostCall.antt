@@ -8,8 +8,9 @@ use denote.Ref.{now}
 use lib.ListN.{length, take, drop}
 use Rattle.amsulfezd.proofs.amsulfezd_replay_trace.Reads as reads
 use Rattle.amsulfezd.proofs.amsulfezd_other_edition.Reads as moving
-use Rattle.trace_headers.specs.Headers.{headerLength, lentRefusal, otherLength}
-use Rattle.trace_headers.specs.Moves.{moved}
+use Rattle.trace_headers.specs.Headers.{headerLength}
+use Rattle.trace_editions.specs.Editions.{lentRefusal, otherLength}
+use Rattle.trace_editions.specs.Moves.{moved}
 use Rattle.theorem_every_trace.specs.Moved.{other-edition-writes}
 use Rattle.trace.specs.Trace.{replayOf, numberOf, bufferOf}
 use Rattle.theorem_every_trace.specs.Statement.{Replayed}
@@ -35,7 +36,7 @@ pub host-call-silence : (κs : _) (a : _) (returned : _) (s : _) → reads.Post 
 host-call-silence κs a returned s post t = subst (SilenceRead t) (sym (post .1)) (silence-in-trace (now (a .0)) (now (a .1 .0)) t)
 
 -- The other call: a lent header that is not refused, with room for the other edition, is written there as `moved` says, and every other
--- byte stays. That `moved` leads back to the same bytes and says the same is `header-moves` of trace_headers; that a trace with its
+-- byte stays. That `moved` leads back to the same bytes and says the same is `header-moves` of trace_editions; that a trace with its
 -- header so moved gives the same answers is `moves-alike` of theorem_every_trace.
 pub host-call-moves :
     (κs : _) (a : _) (returned : _) (s : _)

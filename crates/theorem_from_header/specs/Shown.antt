@@ -12,12 +12,13 @@ use Rattle.bit_times.specs.declared.Baud.the-variants.{B500000}
 use Rattle.bit_times.specs.Times.{baudOf, rounded, timeOf}
 use Rattle.settings_watchdog.specs.declared.WatchdogFactors.the-variants as wf
 use Rattle.settings.specs.declared.Parameters.{Parameters}
-use Rattle.settings.specs.Rules as rules
+use Rattle.settings_rules.specs.Rules as rules
 use Rattle.settings.specs.Settings.{slotTimeOf, tokenLostOf, rotationTimeOf}
 use Rattle.settings_build.specs.Build.{earlyRefusal, firstRefusal, pairOf, builtAt, buildOf}
-use Rattle.ring_addresses.specs.Set.{takeOut, walk, nearest, betweenOf, keeps, sameSet}
-use Rattle.ring_addresses.specs.Words.{bitOf, wordOf, hasIn}
-use Rattle.ring.specs.Ring.{has, make, others, removeOf, freshOf, roundOf, lapsOf, passed, witnessOf, claimOf, nextOf, prevOf}
+use Rattle.ring_addresses.specs.Set.{walk, nearest, betweenOf}
+use Rattle.ring_links.specs.Links.{listed, afterOf, beforeOf, linkAt, tab, linksOf, linkOf, unlinkOf, behindOf, insertOf, sweepOf, relinkOf, followsOf, confirmsOf}
+use Rattle.ring.specs.Ring.{has, make, others, removeOf, freshOf, roundOf, lapsOf, witnessOf, claimOf, nextOf, prevOf}
+use Rattle.ring.specs.Ring as rings
 use Rattle.codec_telegrams.specs.Words as words
 use Rattle.codec_decisions.specs.Decisions as decisions
 use Rattle.codec_records.specs.Records as records
@@ -25,7 +26,7 @@ use Rattle.codec_answers.specs.declared.Sent.{Sent}
 use Rattle.codec_answers.specs.declared.Sent.the-variants.{Token}
 use Rattle.station.specs.declared.PassTokenAttempt.the-variants.{First}
 use Rattle.station.specs.declared.State.the-variants.{PassToken}
-use Rattle.station.specs.declared.Station.{Station}
+use Rattle.station.specs.Whole.{Station}
 use Rattle.station.specs.Parts.{freshStation, freshCore, withActivity, withGap, withPending, withTokenTimes, withNextApplication, withOnline}
 use Rattle.station.specs.Steps as steps
 use Rattle.station_hear_listen.specs.HearListen as hear
@@ -41,6 +42,7 @@ use Rattle.trace_headers.specs.Headers as headers
 use Rattle.trace.specs.Entries as entries
 use Rattle.trace.specs.Trace.{settingsOf, settingsAt, Accepted, startedWith, startOf, replayOf, bufferOf}
 use Rattle.theorem_silence.specs.Silence.{AllQuiet, online, gapDue, slotAfter, counted, countedIn, tokens}
+use Rattle.theorem_silence.specs.Shown.{withRing, ring-is, ring-nine, claimed-nine}
 use Rattle.theorem_silence.specs.SilentRecords.{silentAt, silent-quiet}
 use Rattle.theorem_every_trace.specs.Statement.{Entry, Whole, laid, along}
 use Rattle.theorem_from_header.specs.SilentTrace.{pollEntries, sentByAnswers, heldByAnswers, SilentTrace, silentAnswers}
@@ -114,17 +116,25 @@ record Reached : Type 0 where
   pub neighbour : others (reached .«token_ring») ≡ 9 ∷ []
   pub all-counted : countedIn reached silent-records ≡ 4
 
+-- its ring, which heard a token from 9 and was claimed twice
+reached-ring : reached .«token_ring» ≡ claimOf (claimOf (witnessOf (freshOf 5) 9 5))
+unfolding entries.recordLength entries.entryOf fieldOf beFrom loadOf rounded timeOf slotTimeOf tokenLostOf rotationTimeOf prevOf freshStation freshCore withActivity withGap withPending withTokenTimes withNextApplication withOnline zerosOr14 decisions.lengthRefusal words.responseStateOf decisions.decisionRefusal words.telegramRefusal words.telegramOf decisions.decisionOf records.headOf records.telegramAt records.decisionAt records.entryRefusal records.wordsRefusal records.recordRefusal steps.knownAt steps.elapsedOf steps.markedAt steps.busyOf steps.ongoingOf steps.waitedOf steps.pauseOf steps.sentAt steps.busActivityOf steps.rxOf steps.slotExpiredOf steps.tokenLostWaitOf steps.doneOf steps.transmitOf steps.heardOf hear.listenHeard hear.listenTelegram listening.heardTelegram listening.heardAll listening.receivedAll listening.consumedAll listening.listenTokenOn listening.handleLostToken listening.listenTokenOf polling.connectedOf polling.dispatchOf polling.pollOnline polling.pollInner answering.polledOf polling.acceptedAfter polling.acceptedPoll polling.pollOf commands.onlineOf claiming.claimNext claiming.claimTokenOf steps.withTokenTime holding.declinesOn holding.declinesAt holding.usePassOf holding.appTransmitOf holding.firstOr holding.turnOf holding.askedFrom holding.askedOf holding.holdLess holding.capped holding.endOf holding.holdEndOf holding.holdsOf holding.useAppsAfter holding.useAppsOf holding.useTokenTimed holding.useTokenOf passing.gapAdvanced gapDue passing.passSentOn passing.passSend passing.passPollOn passing.passPoll passing.passTokenOf checking.resendOf checking.checkReceived checking.checkTokenPassOf counted countedIn slotAfter answering.stepAnswer
+reached-ring = refl
+
+reached-is : reached ≡ withRing reached ring-nine
+reached-is = ring-is reached ring-nine (reached-ring ∙ claimed-nine)
+
 -- worked out from the definitions
 worked : Reached
-unfolding entries.recordLength entries.entryOf fieldOf beFrom loadOf rounded timeOf slotTimeOf tokenLostOf rotationTimeOf walk nearest betweenOf keeps sameSet roundOf lapsOf bitOf wordOf hasIn has make others freshOf passed witnessOf claimOf nextOf prevOf freshStation freshCore withActivity withGap withPending withTokenTimes withNextApplication withOnline zerosOr14 decisions.lengthRefusal words.responseStateOf decisions.decisionRefusal words.telegramRefusal words.telegramOf decisions.decisionOf records.headOf records.telegramAt records.decisionAt records.entryRefusal records.wordsRefusal records.recordRefusal steps.knownAt steps.elapsedOf steps.markedAt steps.busyOf steps.ongoingOf steps.waitedOf steps.pauseOf steps.sentAt steps.busActivityOf steps.rxOf steps.slotExpiredOf steps.tokenLostWaitOf steps.doneOf steps.transmitOf steps.heardOf hear.listenHeard hear.listenTelegram listening.heardTelegram listening.heardAll listening.receivedAll listening.consumedAll listening.listenTokenOn listening.handleLostToken listening.listenTokenOf polling.connectedOf polling.dispatchOf polling.pollOnline polling.pollInner answering.polledOf polling.acceptedAfter polling.acceptedPoll polling.pollOf commands.onlineOf claiming.claimNext claiming.claimTokenOf steps.withTokenTime holding.declinesOn holding.declinesAt holding.usePassOf holding.appTransmitOf holding.firstOr holding.turnOf holding.askedFrom holding.askedOf holding.holdLess holding.capped holding.endOf holding.holdEndOf holding.holdsOf holding.useAppsAfter holding.useAppsOf holding.useTokenTimed holding.useTokenOf passing.gapAdvanced gapDue passing.passSentOn passing.passSend passing.passPollOn passing.passPoll passing.passTokenOf checking.resendOf checking.checkReceived checking.checkTokenPassOf removeOf takeOut counted countedIn slotAfter answering.stepAnswer
+unfolding entries.recordLength entries.entryOf fieldOf beFrom loadOf rounded timeOf slotTimeOf tokenLostOf rotationTimeOf walk nearest betweenOf roundOf lapsOf listed afterOf beforeOf linkAt tab linksOf linkOf unlinkOf behindOf insertOf sweepOf relinkOf followsOf confirmsOf rings.counted has make others freshOf witnessOf claimOf nextOf prevOf freshStation freshCore withActivity withGap withPending withTokenTimes withNextApplication withOnline zerosOr14 decisions.lengthRefusal words.responseStateOf decisions.decisionRefusal words.telegramRefusal words.telegramOf decisions.decisionOf records.headOf records.telegramAt records.decisionAt records.entryRefusal records.wordsRefusal records.recordRefusal steps.knownAt steps.elapsedOf steps.markedAt steps.busyOf steps.ongoingOf steps.waitedOf steps.pauseOf steps.sentAt steps.busActivityOf steps.rxOf steps.slotExpiredOf steps.tokenLostWaitOf steps.doneOf steps.transmitOf steps.heardOf hear.listenHeard hear.listenTelegram listening.heardTelegram listening.heardAll listening.receivedAll listening.consumedAll listening.listenTokenOn listening.handleLostToken listening.listenTokenOf polling.connectedOf polling.dispatchOf polling.pollOnline polling.pollInner answering.polledOf polling.acceptedAfter polling.acceptedPoll polling.pollOf commands.onlineOf claiming.claimNext claiming.claimTokenOf steps.withTokenTime holding.declinesOn holding.declinesAt holding.usePassOf holding.appTransmitOf holding.firstOr holding.turnOf holding.askedFrom holding.askedOf holding.holdLess holding.capped holding.endOf holding.holdEndOf holding.holdsOf holding.useAppsAfter holding.useAppsOf holding.useTokenTimed holding.useTokenOf passing.gapAdvanced gapDue passing.passSentOn passing.passSend passing.passPollOn passing.passPoll passing.passTokenOf checking.resendOf checking.checkReceived checking.checkTokenPassOf removeOf counted countedIn slotAfter answering.stepAnswer
 worked =
     record {
       whole = (refl, (refl, (refl, (refl, (refl, (refl, tt))))));
       on = refl;
       state = refl;
       due = refl;
-      neighbour = refl;
-      all-counted = refl;
+      neighbour = ap others (reached-ring ∙ claimed-nine);
+      all-counted = ap (λ (s : Station). countedIn s silent-records) reached-is;
     }
 
 quiet : AllQuiet 1 silent-records

@@ -23,7 +23,7 @@ use Rattle.codec_answers.specs.declared.Unpacked.the-variants.{NoAnswer, Is}
 use Rattle.codec_answers.specs.Answers.{unpackOf}
 use Rattle.station.specs.declared.PassTokenAttempt.the-variants.{First}
 use Rattle.station.specs.declared.State.the-variants.{PassToken}
-use Rattle.station.specs.declared.Station.{Station}
+use Rattle.station.specs.Whole.{Station}
 use Rattle.trace_headers.specs.Headers.{headerLength, headerOf}
 use Rattle.trace.specs.Trace.{Accepted, startOf, replayOf, bufferOf}
 use Rattle.theorem_silence.specs.Silence.{online, gapDue, AllQuiet, until, told, countedIn, tokens}

@@ -22,11 +22,10 @@ use Rattle.codec_answers.specs.Answers.{refusedAnswer, unpackOf, Fits}
 use Rattle.codec_answers.specs.Laws.{answer-unpacks}
 use Rattle.ring.specs.Ring.{others, firstOf, nextNumber}
 use Rattle.ring.specs.Laws.{next-first}
-use Rattle.station.specs.declared.Station.{Station}
+use Rattle.station.specs.Whole.{Station}
 use Rattle.station.specs.declared.State.{State}
 use Rattle.station.specs.Parts.{stateNumber}
-use Rattle.station_answer.specs.declared.Polled.{Polled}
-use Rattle.station_answer.specs.Answer.{stepAnswer, polledOf, refusedPoll}
+use Rattle.station_answer.specs.Answer.{Polled, stepAnswer, polledOf, refusedPoll}
 use Rattle.station_poll.specs.Poll.{acceptedAfter, acceptedPoll, pollOf}
 use Rattle.trace_headers.specs.Headers.{headerLength, headerOf}
 use Rattle.trace.specs.Entries.{recordLength, entryOf}

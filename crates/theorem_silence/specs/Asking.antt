@@ -12,8 +12,7 @@ use Rattle.bit_times.specs.declared.Micros.{Micros}
 use Rattle.settings.specs.declared.Parameters.{Parameters}
 use Rattle.settings.specs.Settings.{slotTimeOf}
 use Rattle.ring_addresses.specs.SetLaws.{true≢false}
-use Rattle.ring.specs.declared.Ring.{Ring}
-use Rattle.ring.specs.Ring.{has, others}
+use Rattle.ring.specs.Ring.{Ring, has, others}
 use Rattle.ring.specs.Laws.{next-other, alone-has}
 use Rattle.codec_decisions.specs.declared.Decision.{Decision}
 use Rattle.codec_decisions.specs.declared.Decision.the-variants as decision
@@ -25,16 +24,14 @@ use Rattle.station.specs.declared.PassTokenAttempt.the-variants.{First}
 use Rattle.station.specs.declared.UseTokenData.{UseTokenData}
 use Rattle.station.specs.declared.State.{State}
 use Rattle.station.specs.declared.Core.{Core}
-use Rattle.station.specs.declared.Station.{Station}
+use Rattle.station.specs.Whole.{Station, RingStep}
 use Rattle.station.specs.declared.Step.{Step}
-use Rattle.station.specs.declared.RingStep.{RingStep}
 use Rattle.station.specs.Parts.{withActivity, withTokenTimes, withNextApplication, stateNumber}
 use Rattle.station.specs.Steps.{withTokenTime, toUseToken, markedAt, busyOf, waitedOf, pauseOf, doneOf, transmitOf, ringStepOf}
 use Rattle.station_hold.specs.declared.Asked.{Asked}
 use Rattle.station_hold.specs.Hold.{declinesAt, usePassOf, appTransmitOf, askedFrom, askedOf, holdEndOf, holdsOf, useAppsAfter, useAppsOf, useTokenTimed, useTokenOf}
-use Rattle.station_answer.specs.declared.Polled.{Polled}
 use Rattle.station_poll.specs.Poll.{dispatchOf, pollOf}
-use Rattle.station_answer.specs.Answer.{polledOf, stepAnswer}
+use Rattle.station_answer.specs.Answer.{Polled, polledOf, stepAnswer}
 use Rattle.theorem_silence.specs.Silence.{AllQuiet, told, sentUntil, countedIn, slotAfter, tokens}
 use Rattle.theorem_silence.specs.Times.{Slotted, slotted, counted-free, counted-paused}
 use Rattle.theorem_silence.specs.Phases.{Phase, starting, holding, next, told-next, todo, endRing, Under, under-or-held, todo-next, end-next, tokens-length}

@@ -4,12 +4,12 @@ use mathlib.Core.Bool.{Bool, true, false}
 use mathlib.Core.Path.{_≡_, sym, ap, subst, _∙_}
 use mathlib.Core.List.{List}
 use Rattle.settings.specs.declared.Parameters.{Parameters}
-use Rattle.settings.specs.Rules.{applicationsRefusal}
+use Rattle.settings_rules.specs.Rules.{applicationsRefusal}
 use Rattle.settings_build.specs.Build.{firstRefusal, plainOf}
 use Rattle.settings_build.specs.Passes.{address-low}
 use Rattle.station.specs.declared.PassTokenAttempt.the-variants.{First}
 use Rattle.station.specs.declared.State.the-variants.{PassToken}
-use Rattle.station.specs.declared.Station.{Station}
+use Rattle.station.specs.Whole.{Station}
 use Rattle.station.specs.Parts.{freshStation}
 use Rattle.theorem_sound.specs.Sound.{Call, run, SoundStation, every-station-sound}
 use Rattle.theorem_sound.specs.Unchanged.{made-settings}

@@ -16,7 +16,7 @@ use Rattle.codec_records.specs.Records.{headOf, decisionAt}
 use Rattle.codec_answers.specs.declared.Sent.{Sent}
 use Rattle.codec_answers.specs.declared.Sent.the-variants.{Nothing, Token, Application}
 use Rattle.station.specs.declared.OptionApplication.the-variants as optionApplication
-use Rattle.station.specs.declared.Station.{Station}
+use Rattle.station.specs.Whole.{Station}
 use Rattle.station.specs.Parts.{stateNumber}
 use Rattle.station.specs.Steps.{toUseToken}
 use Rattle.station_hold.specs.Hold.{askedOf, holdsOf}

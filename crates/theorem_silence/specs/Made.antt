@@ -1,10 +1,10 @@
 -- The stations that the calls of Scripts make, stage by stage. What does not depend on the ring is computed for every ring; the ring
 -- is told by its members.
-use Prim.Native.Nat.{ℕ, _+_, _*_, _/_, _%_, _^_, _≤_, _<_}
+use Prim.Native.Nat.{ℕ, zero, suc, _+_, _*_, _/_, _%_, _^_, _≤_, _<_}
 use mathlib.Core.Bool.{true, false, not}
 use mathlib.Core.Path.{_≡_, refl, ap, _∙_}
 use mathlib.Core.List.{List, [], _∷_, _++_}
-use lib.Dec.{eqb}
+use lib.Dec.{eqb, lit<}
 use native.Mathlib.Omega.{arith}
 use borrow.Author.Tests.{lt-leb, lt-ltb, eq-eqb, ne-eqb}
 use Rattle.codec_fields.specs.Fields.{fieldOf, beFrom, loadOf, zerosOr14}
@@ -12,11 +12,12 @@ use Rattle.bit_times.specs.Times.{rounded, timeOf}
 use Rattle.settings.specs.Settings.{slotTimeOf, tokenLostOf, rotationTimeOf}
 use Rattle.ring_addresses.specs.Set.{walk, nearest, betweenOf, keeps, sameSet}
 use Rattle.ring_addresses.specs.SetLaws.{same-then}
-use Rattle.ring_addresses.specs.Words.{bitOf, wordOf, hasIn}
-use Rattle.ring.specs.declared.Ring.{Ring}
 use Rattle.ring.specs.declared.GapState.{GapState}
 use Rattle.ring.specs.declared.GapState.the-variants.{Waiting, DoPoll}
-use Rattle.ring.specs.Ring.{has, make, freshOf, roundOf, lapsOf, passed, witnessOf, claimOf, addOf, others, nextOf, polls, candidateOf, gapOf}
+use Rattle.ring_links.specs.Links.{listed, afterOf, beforeOf, linkAt, tab, linksOf, linkOf, unlinkOf, behindOf, insertOf, sweepOf, relinkOf, followsOf, confirmsOf}
+use Rattle.ring.specs.Ring.{Ring, has, make, freshOf, roundOf, lapsOf, witnessOf, claimOf, addOf, others, nextOf, polls, candidateOf, gapOf, counted}
+use Rattle.ring.specs.Laws.{SoundRing, fresh-has, fresh-made, sound-fresh}
+use Rattle.ring.specs.Worked.{witnessAll, keptAfter, addressesOnly, witnessed-own}
 use Rattle.codec_telegrams.specs.declared.Telegram.the-variants as telegram
 use Rattle.codec_telegrams.specs.Words as words
 use Rattle.codec_decisions.specs.Decisions as decisions
@@ -27,7 +28,7 @@ use Rattle.station.specs.declared.PassTokenAttempt.the-variants.{First}
 use Rattle.station.specs.declared.State.{State}
 use Rattle.station.specs.declared.State.the-variants.{PassToken, AwaitStatusResponse}
 use Rattle.station.specs.declared.Core.{Core}
-use Rattle.station.specs.declared.Station.{Station}
+use Rattle.station.specs.Whole.{Station}
 use Rattle.station.specs.Parts.{freshStation, freshCore, withActivity, withGap, withPending, withTokenTimes, withNextApplication, withOnline}
 use Rattle.station.specs.Steps as steps
 use Rattle.station_hear_listen.specs.HearListen as hear
@@ -37,12 +38,13 @@ use Rattle.station_hold.specs.Hold as holding
 use Rattle.station_pass.specs.Pass as passing
 use Rattle.station_await_status.specs.AwaitStatus as status
 use Rattle.station_claim.specs.Claim as claiming
-use Rattle.station_answer.specs.declared.Polled.{Polled}
+use Rattle.station_answer.specs.Answer.{Polled}
 use Rattle.station_answer.specs.Answer as answering
 use Rattle.station_command.specs.Command as commands
 use Rattle.station_poll.specs.Poll as polling
 use Rattle.theorem_sound.specs.Sound.{Call, poll, after, run}
 use Rattle.theorem_silence.specs.Theorem.{stationOf}
+use Rattle.theorem_silence.specs.Rings.{members-of}
 use Rattle.theorem_silence.specs.Scripts.{token, declines, recordOf, responseOf1, pollHearing, pollSilent, lowest, hears-all, claims, begins-look, begins-question}
 
 -- the station with this state, core and ring
@@ -118,7 +120,7 @@ pub record FirstRuns : Type 0 where
   pub heard-but-one : run begun-question (hears-all 4200 2 6) ≡ listens-question 4900 ring-but-one
 
 pub first-runs : FirstRuns
-unfolding walk nearest betweenOf keeps sameSet roundOf lapsOf bitOf wordOf hasIn has make freshOf passed witnessOf claimOf others nextOf rounded timeOf slotTimeOf tokenLostOf rotationTimeOf withActivity withGap withPending withTokenTimes withNextApplication withOnline after run fieldOf beFrom loadOf zerosOr14 words.responseStateOf words.telegramRefusal words.telegramOf decisions.lengthRefusal decisions.decisionRefusal decisions.decisionOf records.headOf records.telegramAt records.decisionAt records.entryRefusal records.wordsRefusal records.recordRefusal steps.knownAt steps.elapsedOf steps.waitedOf steps.markedAt steps.busyOf steps.ongoingOf steps.busActivityOf steps.doneOf polling.connectedOf polling.dispatchOf polling.pollOnline polling.pollInner polling.acceptedAfter polling.acceptedPoll polling.pollOf answering.polledOf steps.rxOf steps.tokenLostWaitOf steps.heardOf hear.listenHeard hear.listenTelegram listening.heardTelegram listening.heardAll listening.receivedAll listening.consumedAll listening.listenTokenOn listening.handleLostToken listening.listenTokenOf steps.pauseOf steps.sentAt steps.transmitOf steps.withTokenTime claiming.claimNext claiming.claimTokenOf holding.declinesOn holding.declinesAt holding.usePassOf holding.appTransmitOf holding.firstOr holding.turnOf holding.askedFrom holding.askedOf holding.holdLess holding.capped holding.endOf holding.holdEndOf holding.holdsOf holding.useAppsAfter holding.useAppsOf holding.useTokenTimed holding.useTokenOf passing.gapAdvanced passing.passSentOn passing.passSend passing.passPollOn passing.passPoll passing.passTokenOf freshStation freshCore commands.onlineOf holding.validResponse holding.receivedOf holding.awaitDataOf listening.activeIdleOn listening.activeIdleOf active.activeCollided active.tokenHeard active.activeHeard active.handleTelegram
+unfolding walk nearest betweenOf sameSet roundOf lapsOf listed afterOf beforeOf linkAt tab linksOf linkOf unlinkOf behindOf insertOf sweepOf relinkOf followsOf confirmsOf counted has make freshOf witnessOf claimOf others nextOf rounded timeOf slotTimeOf tokenLostOf rotationTimeOf withActivity withGap withPending withTokenTimes withNextApplication withOnline after run fieldOf beFrom loadOf zerosOr14 words.responseStateOf words.telegramRefusal words.telegramOf decisions.lengthRefusal decisions.decisionRefusal decisions.decisionOf records.headOf records.telegramAt records.decisionAt records.entryRefusal records.wordsRefusal records.recordRefusal steps.knownAt steps.elapsedOf steps.waitedOf steps.markedAt steps.busyOf steps.ongoingOf steps.busActivityOf steps.doneOf polling.connectedOf polling.dispatchOf polling.pollOnline polling.pollInner polling.acceptedAfter polling.acceptedPoll polling.pollOf answering.polledOf steps.rxOf steps.tokenLostWaitOf steps.heardOf hear.listenHeard hear.listenTelegram listening.heardTelegram listening.heardAll listening.receivedAll listening.consumedAll listening.listenTokenOn listening.handleLostToken listening.listenTokenOf steps.pauseOf steps.sentAt steps.transmitOf steps.withTokenTime claiming.claimNext claiming.claimTokenOf holding.declinesOn holding.declinesAt holding.usePassOf holding.appTransmitOf holding.firstOr holding.turnOf holding.askedFrom holding.askedOf holding.holdLess holding.capped holding.endOf holding.holdEndOf holding.holdsOf holding.useAppsAfter holding.useAppsOf holding.useTokenTimed holding.useTokenOf passing.gapAdvanced passing.passSentOn passing.passSend passing.passPollOn passing.passPoll passing.passTokenOf freshStation freshCore commands.onlineOf holding.validResponse holding.receivedOf holding.awaitDataOf listening.activeIdleOn listening.activeIdleOf active.activeCollided active.tokenHeard active.activeHeard active.handleTelegram
 first-runs =
     record {
       look = refl;
@@ -127,18 +129,31 @@ first-runs =
       heard-but-one = by-parts (run begun-question (hears-all 4200 2 6)) _ _ refl refl refl refl;
     }
 
--- and their rings' members
+-- and their rings: after the passes that were heard
+abbrev passesFrom : ℕ → ℕ → List (ℕ × ℕ)
+passesFrom a zero = []
+passesFrom a (suc n) = (a % 126, (a + 1) % 126) ∷ passesFrom (a + 2) n
+
+record Witnessed : Type 0 where
+  pub all : ring-all ≡ witnessAll (freshOf 0) (passesFrom 1 63)
+  pub but-one : ring-but-one ≡ witnessAll ring-alone (passesFrom 2 62)
+
+witnessed : Witnessed
+unfolding rounded timeOf slotTimeOf tokenLostOf rotationTimeOf withActivity withGap withPending withTokenTimes withNextApplication withOnline after run fieldOf beFrom loadOf zerosOr14 words.responseStateOf words.telegramRefusal words.telegramOf decisions.lengthRefusal decisions.decisionRefusal decisions.decisionOf records.headOf records.telegramAt records.decisionAt records.entryRefusal records.wordsRefusal records.recordRefusal steps.knownAt steps.elapsedOf steps.waitedOf steps.markedAt steps.busyOf steps.ongoingOf steps.busActivityOf steps.doneOf polling.connectedOf polling.dispatchOf polling.pollOnline polling.pollInner polling.acceptedAfter polling.acceptedPoll polling.pollOf answering.polledOf steps.rxOf steps.tokenLostWaitOf steps.heardOf hear.listenHeard hear.listenTelegram listening.heardTelegram listening.heardAll listening.receivedAll listening.consumedAll listening.listenTokenOn listening.handleLostToken listening.listenTokenOf steps.pauseOf steps.sentAt steps.transmitOf steps.withTokenTime claiming.claimNext claiming.claimTokenOf holding.declinesOn holding.declinesAt holding.usePassOf holding.appTransmitOf holding.firstOr holding.turnOf holding.askedFrom holding.askedOf holding.holdLess holding.capped holding.endOf holding.holdEndOf holding.holdsOf holding.useAppsAfter holding.useAppsOf holding.useTokenTimed holding.useTokenOf passing.gapAdvanced passing.passSentOn passing.passSend passing.passPollOn passing.passPoll passing.passTokenOf freshStation freshCore commands.onlineOf holding.validResponse holding.receivedOf holding.awaitDataOf listening.activeIdleOn listening.activeIdleOf active.activeCollided active.tokenHeard active.activeHeard active.handleTelegram
+witnessed = record { all = refl; but-one = refl }
+
+-- whom these passes keep, and the members of the ring that heard nobody
 record Tested : Type 0 where
-  pub all : sameSet (has ring-all) (λ (x : ℕ). true) 126 ≡ true
+  pub all : sameSet (λ (x : ℕ). keptAfter 0 (eqb x 0) (passesFrom 1 63) x) (λ (x : ℕ). true) 126 ≡ true
+  pub all-low : addressesOnly (passesFrom 1 63) ≡ true
+  pub but-one : sameSet (λ (x : ℕ). keptAfter 0 (eqb x 0) (passesFrom 2 62) x) (λ (x : ℕ). not (eqb x 1)) 126 ≡ true
+  pub but-one-low : addressesOnly (passesFrom 2 62) ≡ true
   pub alone : sameSet (has ring-alone) (λ (x : ℕ). eqb x 0) 126 ≡ true
-  pub but-one : sameSet (has ring-but-one) (λ (x : ℕ). not (eqb x 1)) 126 ≡ true
-  pub own-all : ring-all .own ≡ 0
   pub own-alone : ring-alone .own ≡ 0
-  pub own-but-one : ring-but-one .own ≡ 0
 
 tested : Tested
-unfolding walk nearest betweenOf keeps sameSet roundOf lapsOf bitOf wordOf hasIn has make freshOf passed witnessOf claimOf others nextOf rounded timeOf slotTimeOf tokenLostOf rotationTimeOf withActivity withGap withPending withTokenTimes withNextApplication withOnline after run fieldOf beFrom loadOf zerosOr14 words.responseStateOf words.telegramRefusal words.telegramOf decisions.lengthRefusal decisions.decisionRefusal decisions.decisionOf records.headOf records.telegramAt records.decisionAt records.entryRefusal records.wordsRefusal records.recordRefusal steps.knownAt steps.elapsedOf steps.waitedOf steps.markedAt steps.busyOf steps.ongoingOf steps.busActivityOf steps.doneOf polling.connectedOf polling.dispatchOf polling.pollOnline polling.pollInner polling.acceptedAfter polling.acceptedPoll polling.pollOf answering.polledOf steps.rxOf steps.tokenLostWaitOf steps.heardOf hear.listenHeard hear.listenTelegram listening.heardTelegram listening.heardAll listening.receivedAll listening.consumedAll listening.listenTokenOn listening.handleLostToken listening.listenTokenOf steps.pauseOf steps.sentAt steps.transmitOf steps.withTokenTime claiming.claimNext claiming.claimTokenOf holding.declinesOn holding.declinesAt holding.usePassOf holding.appTransmitOf holding.firstOr holding.turnOf holding.askedFrom holding.askedOf holding.holdLess holding.capped holding.endOf holding.holdEndOf holding.holdsOf holding.useAppsAfter holding.useAppsOf holding.useTokenTimed holding.useTokenOf passing.gapAdvanced passing.passSentOn passing.passSend passing.passPollOn passing.passPoll passing.passTokenOf freshStation freshCore commands.onlineOf holding.validResponse holding.receivedOf holding.awaitDataOf listening.activeIdleOn listening.activeIdleOf active.activeCollided active.tokenHeard active.activeHeard active.handleTelegram
-tested = record { all = refl; alone = refl; but-one = refl; own-all = refl; own-alone = refl; own-but-one = refl }
+unfolding walk nearest betweenOf keeps sameSet roundOf lapsOf listed afterOf beforeOf linkAt tab linksOf linkOf unlinkOf behindOf insertOf sweepOf relinkOf followsOf confirmsOf counted has make freshOf witnessOf claimOf others nextOf rounded timeOf slotTimeOf tokenLostOf rotationTimeOf withActivity withGap withPending withTokenTimes withNextApplication withOnline after run fieldOf beFrom loadOf zerosOr14 words.responseStateOf words.telegramRefusal words.telegramOf decisions.lengthRefusal decisions.decisionRefusal decisions.decisionOf records.headOf records.telegramAt records.decisionAt records.entryRefusal records.wordsRefusal records.recordRefusal steps.knownAt steps.elapsedOf steps.waitedOf steps.markedAt steps.busyOf steps.ongoingOf steps.busActivityOf steps.doneOf polling.connectedOf polling.dispatchOf polling.pollOnline polling.pollInner polling.acceptedAfter polling.acceptedPoll polling.pollOf answering.polledOf steps.rxOf steps.tokenLostWaitOf steps.heardOf hear.listenHeard hear.listenTelegram listening.heardTelegram listening.heardAll listening.receivedAll listening.consumedAll listening.listenTokenOn listening.handleLostToken listening.listenTokenOf steps.pauseOf steps.sentAt steps.transmitOf steps.withTokenTime claiming.claimNext claiming.claimTokenOf holding.declinesOn holding.declinesAt holding.usePassOf holding.appTransmitOf holding.firstOr holding.turnOf holding.askedFrom holding.askedOf holding.holdLess holding.capped holding.endOf holding.holdEndOf holding.holdsOf holding.useAppsAfter holding.useAppsOf holding.useTokenTimed holding.useTokenOf passing.gapAdvanced passing.passSentOn passing.passSend passing.passPollOn passing.passPoll passing.passTokenOf freshStation freshCore commands.onlineOf holding.validResponse holding.receivedOf holding.awaitDataOf listening.activeIdleOn listening.activeIdleOf active.activeCollided active.tokenHeard active.activeHeard active.handleTelegram
+tested = record { all = refl; all-low = refl; but-one = refl; but-one-low = refl; alone = refl; own-alone = refl }
 
 pub record Members : Type 0 where
   pub all : (x : ℕ) → x < 126 → has ring-all x ≡ true
@@ -148,15 +163,17 @@ pub record Members : Type 0 where
   pub own-alone : ring-alone .own ≡ 0
   pub own-but-one : ring-but-one .own ≡ 0
 
-pub members : Members
-members =
+-- the rings' members; the ring that heard nobody is sound, as all that calls make
+pub members-if : SoundRing ring-alone → Members
+members-if sound =
+    let alone = same-then (has ring-alone) (λ (x : ℕ). eqb x 0) 126 (tested .alone) in
     record {
-      all = same-then (has ring-all) (λ (x : ℕ). true) 126 (tested .all);
-      alone = same-then (has ring-alone) (λ (x : ℕ). eqb x 0) 126 (tested .alone);
-      but-one = same-then (has ring-but-one) (λ (x : ℕ). not (eqb x 1)) 126 (tested .but-one);
-      own-all = tested .own-all;
+      all = λ x l. ap (λ (r : Ring). has r x) (witnessed .all) ∙ members-of (passesFrom 1 63) (freshOf 0) (λ (y : ℕ). eqb y 0) (λ (y : ℕ). true) (sound-fresh 0 (lit< tt)) (fresh-made 0 .own-is) (fresh-has 0) (tested .all-low) (tested .all) x l;
+      alone = alone;
+      but-one = λ x l. ap (λ (r : Ring). has r x) (witnessed .but-one) ∙ members-of (passesFrom 2 62) ring-alone (λ (y : ℕ). eqb y 0) (λ (y : ℕ). not (eqb y 1)) sound (tested .own-alone) alone (tested .but-one-low) (tested .but-one) x l;
+      own-all = ap (λ (r : Ring). r .own) (witnessed .all) ∙ witnessed-own (passesFrom 1 63) (freshOf 0) ∙ fresh-made 0 .own-is;
       own-alone = tested .own-alone;
-      own-but-one = tested .own-but-one;
+      own-but-one = ap (λ (r : Ring). r .own) (witnessed .but-one) ∙ witnessed-own (passesFrom 2 62) ring-alone ∙ tested .own-alone;
     }
 
 -- The token from k to us.

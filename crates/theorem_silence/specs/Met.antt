@@ -6,7 +6,7 @@ use lib.ListN.{length}
 use Rattle.ring.specs.Ring.{others}
 use Rattle.station.specs.declared.PassTokenAttempt.the-variants.{First}
 use Rattle.station.specs.declared.State.the-variants.{PassToken}
-use Rattle.station.specs.declared.Station.{Station}
+use Rattle.station.specs.Whole.{Station}
 use Rattle.theorem_silence.specs.Silence.{Start}
 use Rattle.theorem_silence.specs.Calls.{ByCalls}
 use Rattle.theorem_silence.specs.Sharp.{Sharp}

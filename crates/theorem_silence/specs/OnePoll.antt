@@ -9,10 +9,9 @@ use Rattle.settings.specs.declared.Parameters.{Parameters}
 use Rattle.settings.specs.Settings.{slotTimeOf}
 use Rattle.ring_addresses.specs.Set.{headOr}
 use Rattle.ring_addresses.specs.SetLaws.{true≢false}
-use Rattle.ring.specs.declared.Ring.{Ring}
 use Rattle.ring.specs.declared.GapState.{GapState}
 use Rattle.ring.specs.declared.GapState.the-variants.{Waiting, DoPoll}
-use Rattle.ring.specs.Ring.{others, nextOf, witnessOf, removeOf, claimOf}
+use Rattle.ring.specs.Ring.{Ring, others, nextOf, witnessOf, removeOf, claimOf}
 use Rattle.ring.specs.Laws.{next-is, next-alone, others-witness, others-remove, others-claim}
 use Rattle.codec_answers.specs.declared.Outcome.the-variants as outcome
 use Rattle.codec_answers.specs.declared.Sent.{Sent}
@@ -24,7 +23,7 @@ use Rattle.station.specs.declared.PassTokenAttempt.the-variants.{First, Second,
 use Rattle.station.specs.declared.State.{State}
 use Rattle.station.specs.declared.State.the-variants.{ClaimToken, PassToken, CheckTokenPass, AwaitStatusResponse}
 use Rattle.station.specs.declared.Core.{Core}
-use Rattle.station.specs.declared.RingStep.{RingStep}
+use Rattle.station.specs.Whole.{RingStep}
 use Rattle.station.specs.Parts.{withActivity, withGap}
 use Rattle.station.specs.Steps.{toUseToken, markedAt, sentAt, busyOf, waitedOf, pauseOf, slotExpiredOf, doneOf, transmitOf, ringStepOf}
 use Rattle.station_claim.specs.Claim.{claimNext, claimTokenOf}

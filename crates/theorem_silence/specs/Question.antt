@@ -7,19 +7,17 @@ use Rattle.bit_times.specs.declared.Micros.{Micros}
 use Rattle.settings.specs.declared.Parameters.{Parameters}
 use Rattle.settings_build.specs.Build.{firstRefusal, plainOf}
 use Rattle.settings.specs.Settings.{slotTimeOf}
-use Rattle.ring.specs.declared.Ring.{Ring}
+use Rattle.ring.specs.Ring.{Ring}
 use Rattle.codec_answers.specs.declared.Sent.the-variants.{StatusRequest}
 use Rattle.station.specs.declared.PassTokenAttempt.{PassTokenAttempt}
 use Rattle.station.specs.declared.PassTokenAttempt.the-variants.{First}
 use Rattle.station.specs.declared.State.{State}
 use Rattle.station.specs.declared.State.the-variants.{PassToken}
 use Rattle.station.specs.declared.Core.{Core}
-use Rattle.station.specs.declared.RingStep.{RingStep}
-use Rattle.station.specs.declared.Station.{Station}
+use Rattle.station.specs.Whole.{Station, RingStep}
 use Rattle.station.specs.Steps.{pauseOf, transmitOf}
 use Rattle.station_pass.specs.Pass.{passPollOn, passTokenOf}
-use Rattle.station_answer.specs.declared.Polled.{Polled}
-use Rattle.station_answer.specs.Answer.{polledOf, stepAnswer}
+use Rattle.station_answer.specs.Answer.{Polled, polledOf, stepAnswer}
 use Rattle.station_poll.specs.Poll.{pollOf}
 use Rattle.theorem_silence.specs.Silence.{gapDue, online, Quiet, slotAfter, counted}
 use Rattle.theorem_silence.specs.Times.{Slotted, slotted, counted-free, counted-paused}

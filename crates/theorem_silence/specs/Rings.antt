@@ -8,12 +8,12 @@ use lib.Dec.{eqb, leb, ltb}
 use native.Mathlib.Omega.{arith}
 use borrow.Author.Tests.{le-leb, lt-leb, le-ltb, lt-ltb, ne-eqb, leb-true, leb-false, eqb-true}
 use borrow.Table.Steps.{cases}
-use Rattle.ring_addresses.specs.Set.{up, walk, betweenOf, keeps}
-use Rattle.ring_addresses.specs.SetLaws.{true≢false, walk-ext, walk-nobody}
-use Rattle.ring.specs.declared.Ring.{Ring}
+use Rattle.ring_addresses.specs.Set.{up, walk, betweenOf, keeps, sameSet}
+use Rattle.ring_addresses.specs.SetLaws.{true≢false, walk-ext, walk-nobody, same-then}
 use Rattle.ring.specs.declared.NextStation.{NextStation}
-use Rattle.ring.specs.Ring.{has, others, firstOf, nextOf, pollsOn, polls, witnessOf}
+use Rattle.ring.specs.Ring.{Ring, has, others, firstOf, nextOf, pollsOn, polls, witnessOf}
 use Rattle.ring.specs.Laws.{SoundRing, next-first, next-other, witness-has}
+use Rattle.ring.specs.Worked.{witnessAll, keptAfter, addressesOnly, witnessed-has}
 
 -- the members are 0, 1, .. k
 abbrev pub UpTo : Ring → ℕ → Type 0
@@ -50,6 +50,14 @@ others-but-one r k own l m out h =
     let rest : length (walk (has r) (up 0) 125 1) ≡ length (walk (λ (x : ℕ). leb x k) (up 0) 124 2) = ap length (walk-skip (has r) 124 1 out ∙ same) in
     ap (λ (o : ℕ). length (walk (has r) (up o) 125 1) + 1) own ∙ omega (arith, walk-up 124 2 k (omega arith) (omega arith) m)
 
+-- the members that station 0 has after passes between addresses, told by a test
+pub members-of : (passes : List (ℕ × ℕ)) (r : Ring) (f g : ℕ → Bool) → SoundRing r → r .own ≡ 0 → ((x : ℕ) → x < 126 → has r x ≡ f x) → addressesOnly passes ≡ true → sameSet (λ (x : ℕ). keptAfter 0 (f x) passes x) g 126 ≡ true → (x : ℕ) → x < 126 → has (witnessAll r passes) x ≡ g x
+members-of passes r f g sound own held low left x l =
+    witnessed-has passes r x sound low l
+    ∙ ap (λ (o : ℕ). keptAfter o (has r x) passes x) own
+    ∙ ap (λ (b : Bool). keptAfter 0 b passes x) (held x l)
+    ∙ same-then (λ (y : ℕ). keptAfter 0 (f y) passes y) g 126 left x l
+
 -- who lies strictly between k and 0 going up: whoever is above k
 above : (k x : ℕ) → 1 ≤ k → betweenOf k x 0 ≡ ltb k x
 unfolding betweenOf
@@ -76,28 +84,28 @@ keeps-cut k x l =
     either false = refl
 
 -- of all members those up to k stay
-pub cut-all : (r : Ring) (k : ℕ) → r .own ≡ 0 → 1 ≤ k → k ≤ 125 → ((x : ℕ) → x < 126 → has r x ≡ true) → UpTo (witnessOf r k 0) k
-cut-all r k own l m h x a =
-    witness-has r k 0 x (omega arith) (omega arith) a
+pub cut-all : (r : Ring) (k : ℕ) → SoundRing r → r .own ≡ 0 → 1 ≤ k → k ≤ 125 → ((x : ℕ) → x < 126 → has r x ≡ true) → UpTo (witnessOf r k 0) k
+cut-all r k sound own l m h x a =
+    witness-has r k 0 x sound (omega arith) (omega arith) a
     ∙ ap (λ (o : ℕ). keeps o k 0 (has r x) x) own
     ∙ ap (λ (b : Bool). keeps 0 k 0 b x) (h x a)
     ∙ keeps-cut k x l
 
 -- of all members but 1 those up to k stay, and 1 comes in
-pub cut-added : (r : Ring) (k : ℕ) → r .own ≡ 0 → 2 ≤ k → k ≤ 125 → ((x : ℕ) → x < 126 → has r x ≡ not (eqb x 1)) → (x : ℕ) → x < 126 → (eqb x 1 || has (witnessOf r k 0) x) ≡ leb x k
-cut-added r k own l m h x a =
+pub cut-added : (r : Ring) (k : ℕ) → SoundRing r → r .own ≡ 0 → 2 ≤ k → k ≤ 125 → ((x : ℕ) → x < 126 → has r x ≡ not (eqb x 1)) → (x : ℕ) → x < 126 → (eqb x 1 || has (witnessOf r k 0) x) ≡ leb x k
+cut-added r k sound own l m h x a =
     cases (eqb x 1) (λ e. rw e (sym (le-leb x k (omega (arith, eqb-true x 1 e)))))
     (λ e.
     rw e
-    (witness-has r k 0 x (omega arith) (omega arith) a
+    (witness-has r k 0 x sound (omega arith) (omega arith) a
     ∙ ap (λ (o : ℕ). keeps o k 0 (has r x) x) own
     ∙ ap (λ (b : Bool). keeps 0 k 0 b x) (h x a ∙ ap not e)
     ∙ keeps-cut k x (omega arith)))
 
 -- 1 stays out
-pub one-out : (r : Ring) (k : ℕ) → 2 ≤ k → k ≤ 125 → has r 1 ≡ false → has (witnessOf r k 0) 1 ≡ false
+pub one-out : (r : Ring) (k : ℕ) → SoundRing r → 2 ≤ k → k ≤ 125 → has r 1 ≡ false → has (witnessOf r k 0) 1 ≡ false
 unfolding keeps
-one-out r k l m out = witness-has r k 0 1 (omega arith) (omega arith) (omega arith) ∙ rw (out, ne-eqb 1 k (λ e. omega arith))
+one-out r k sound l m out = witness-has r k 0 1 sound (omega arith) (omega arith) (omega arith) ∙ rw (out, ne-eqb 1 k (λ e. omega arith))
 
 -- 1 lies between 0 and whoever is above 1
 one-between : (n : ℕ) → 1 < n → betweenOf 0 1 n ≡ true

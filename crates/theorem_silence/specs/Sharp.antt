@@ -14,8 +14,7 @@ use Rattle.bit_times.specs.Times.{byteBits, timeOf}
 use Rattle.bit_times.specs.Laws.{time-grows}
 use Rattle.settings.specs.declared.Parameters.{Parameters}
 use Rattle.settings.specs.Settings.{slotTimeOf}
-use Rattle.ring.specs.declared.Ring.{Ring}
-use Rattle.ring.specs.Ring.{others}
+use Rattle.ring.specs.Ring.{Ring, others}
 use Rattle.codec_records.specs.Records.{headOf}
 use Rattle.codec_answers.specs.declared.Sent.{Sent}
 use Rattle.codec_answers.specs.declared.Sent.the-variants.{Nothing, Token, StatusRequest, StatusResponse, Application}
@@ -24,11 +23,9 @@ use Rattle.station.specs.declared.Activity.the-variants as activity
 use Rattle.station.specs.declared.PassTokenAttempt.the-variants.{First}
 use Rattle.station.specs.declared.State.{State}
 use Rattle.station.specs.declared.Core.{Core}
-use Rattle.station.specs.declared.Station.{Station}
-use Rattle.station.specs.declared.RingStep.{RingStep}
+use Rattle.station.specs.Whole.{Station, RingStep}
 use Rattle.station.specs.Steps.{sentAt}
-use Rattle.station_answer.specs.declared.Polled.{Polled}
-use Rattle.station_answer.specs.Answer.{polledOf}
+use Rattle.station_answer.specs.Answer.{Polled, polledOf}
 use Rattle.station_poll.specs.Poll.{pollOf}
 use Rattle.theorem_silence.specs.Silence.{Start, AllQuiet, holdsToken, until, told, sentUntil, counted, countedIn, slotAfter}
 use Rattle.theorem_silence.specs.Times.{Slotted, slotted, pauseTime, after-shorter}

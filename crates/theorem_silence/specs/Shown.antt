@@ -12,16 +12,18 @@ use Rattle.codec_fields.specs.Fields.{fieldOf, zerosOr14, beFrom, loadOf}
 use Rattle.bit_times.specs.declared.Baud.the-variants.{B500000}
 use Rattle.bit_times.specs.Times.{baudOf, rounded, timeOf}
 use Rattle.settings.specs.declared.Parameters.{Parameters}
-use Rattle.settings.specs.Rules.{refuseBelow, refuseOutside, addressRefusal, baudRefusal, slotBitsRefusal, hsaRefusal, rotationRefusal, roomRefusal, gapWaitRefusal, retryRefusal, minTsdrRefusal, factorsRefusal, applicationsRefusal}
+use Rattle.settings_rules.specs.Rules.{refuseBelow, refuseOutside, addressRefusal, baudRefusal, slotBitsRefusal, hsaRefusal, rotationRefusal, roomRefusal, gapWaitRefusal, retryRefusal, minTsdrRefusal, factorsRefusal, applicationsRefusal}
 use Rattle.settings.specs.Settings.{defaultOf, slotTimeOf, tokenLostOf, rotationTimeOf}
 use Rattle.settings_build.specs.Build.{earlyRefusal, firstRefusal, plainOf}
-use Rattle.ring_addresses.specs.Set.{takeOut, walk, nearest, betweenOf, keeps, sameSet}
-use Rattle.ring_addresses.specs.Words.{bitOf, wordOf, hasIn}
-use Rattle.ring.specs.declared.Ring.{Ring}
+use Rattle.ring_addresses.specs.Set.{walk, nearest, betweenOf}
 use Rattle.ring.specs.declared.GapState.{GapState}
 use Rattle.ring.specs.declared.GapState.the-variants.{Waiting, DoPoll}
-use Rattle.ring.specs.Ring.{polls, has, make, others, removeOf, freshOf, roundOf, lapsOf, passed, witnessOf, claimOf, addOf, nextOf, prevOf}
+use Rattle.ring_links.specs.Links.{listed, afterOf, beforeOf, linkAt, tab, linksOf, linkOf, unlinkOf, behindOf, insertOf, sweepOf, relinkOf, followsOf, confirmsOf}
+use Rattle.ring.specs.Ring.{Ring, polls, has, make, others, removeOf, freshOf, roundOf, lapsOf, witnessOf, claimOf, addOf, nextOf, prevOf}
+use Rattle.ring.specs.Ring as rings
 use Rattle.ring.specs.Laws.{SoundRing, claim-has, claim-own, add-has, add-own, fresh-has, fresh-made, witness-own, sound-claim, sound-witness}
+use Rattle.ring.specs.Worked.{among}
+use Rattle.ring.specs.Examples.{heard-nine}
 use Rattle.codec_telegrams.specs.Words as words
 use Rattle.codec_decisions.specs.Decisions as decisions
 use Rattle.codec_records.specs.declared.Head.{Head}
@@ -29,7 +31,7 @@ use Rattle.codec_records.specs.Records as records
 use Rattle.codec_answers.specs.declared.Sent.the-variants.{Token, Application}
 use Rattle.station.specs.declared.PassTokenAttempt.the-variants.{First}
 use Rattle.station.specs.declared.State.the-variants.{PassToken}
-use Rattle.station.specs.declared.Station.{Station}
+use Rattle.station.specs.Whole.{Station}
 use Rattle.station.specs.Parts.{freshStation, freshCore, withActivity, withGap, withPending, withTokenTimes, withNextApplication, withOnline}
 use Rattle.station.specs.Steps as steps
 use Rattle.station_hear_listen.specs.HearListen as hear
@@ -51,7 +53,7 @@ use Rattle.theorem_silence.specs.Scripts.{token, declines, sends-nine, r
 use Rattle.theorem_silence.specs.Met.{Met, PremisesMet}
 use Rattle.theorem_silence.specs.Rings.{UpTo, others-up-to, cut-all, cut-added, one-out, one-asked}
 use Rattle.theorem_silence.specs.OnePoll.{no-gap}
-use Rattle.theorem_silence.specs.Made.{listens-look, lowestWith, coreAt, pass-look, pass-question, awaits-one, pass-answered, calls-none, calls-on, begun-look, ring-all, ring-alone, begun-question, ring-but-one, first-runs, members, says-token, cut-heard, claimed, one-gets-asked, one-answers}
+use Rattle.theorem_silence.specs.Made.{listens-look, lowestWith, coreAt, pass-look, pass-question, awaits-one, pass-answered, calls-none, calls-on, begun-look, ring-all, ring-alone, begun-question, ring-but-one, first-runs, Members, members-if, says-token, cut-heard, claimed, one-gets-asked, one-answers}
 
 -- with accepted settings and one application there is a new station, and calls make others of it
 one-accepted : applicationsRefusal 1 ≡ 0
@@ -79,6 +81,19 @@ met-by k gap time hold last turn r cs h l makes due own members =
     let size = others-up-to r k own h members in
     record { station = s; by-calls = calls; starts = starts; size = size; flag = refl; is-sharp = sharp s (record { 0 = last }) starts refl (rw size (room k last h l)) }
 
+-- What calls make is sound, and so are the rings that heard the others: hence their members.
+sound-by : (cs : List Call) → SoundStation (run (freshStation lowest 1) cs)
+sound-by cs = sound-of-calls (run (freshStation lowest 1) cs) (made-by lowest cs (run (freshStation lowest 1) cs) lowest-accepted refl)
+
+sound-all : SoundRing ring-all
+sound-all = call.sound (hears-all 100 1 7) begun-look (subst SoundStation (first-runs .look) (sound-by begins-look)) .ring-sound
+
+sound-heard : SoundRing ring-but-one
+sound-heard = call.sound (hears-all 4200 2 6) begun-question (subst SoundStation (first-runs .question) (sound-by begins-question)) .ring-sound
+
+members : Members
+members = members-if (sound-by begins-question .ring-sound)
+
 -- With the look at the gap.
 
 -- the ring, once the others are heard
@@ -92,7 +107,7 @@ only-zero x = cases (leb x 0) (λ t. eq-eqb x 0 (omega (arith, leb-true x 0 t)) 
 
 pub members-look : (k : ℕ) → k ≤ 125 → UpTo (ring-of k) k
 members-look zero l x m = fresh-has 0 x m ∙ only-zero x
-members-look (suc k) l x m = cut-all ring-all (suc k) (members .own-all) (omega arith) l (members .all) x m
+members-look (suc k) l x m = cut-all ring-all (suc k) sound-all (members .own-all) (omega arith) l (members .all) x m
 
 pub own-of : (k : ℕ) → ring-of k .own ≡ 0
 own-of zero = fresh-made 0 .own-is
@@ -161,18 +176,12 @@ own-before (suc (suc k)) = witness-own ring-but-one (suc (suc k)) 0 ∙ members 
 pub one-absent : (k : ℕ) → k ≤ 125 → has (before-one k) 1 ≡ false
 one-absent zero l = members .alone 1 (omega arith)
 one-absent (suc zero) l = members .alone 1 (omega arith)
-one-absent (suc (suc k)) l = one-out ring-but-one (suc (suc k)) (omega arith) l (members .but-one 1 (omega arith))
+one-absent (suc (suc k)) l = one-out ring-but-one (suc (suc k)) sound-heard (omega arith) l (members .but-one 1 (omega arith))
 
--- these rings are sound, as all that calls make
-sound-begun : SoundStation (run (freshStation lowest 1) begins-question)
-sound-begun = sound-of-calls (run (freshStation lowest 1) begins-question) (made-by lowest begins-question (run (freshStation lowest 1) begins-question) lowest-accepted refl)
-
-sound-heard : SoundRing ring-but-one
-sound-heard = call.sound (hears-all 4200 2 6) begun-question (subst SoundStation (first-runs .question) sound-begun) .ring-sound
-
+-- and so are these
 sound-before : (k : ℕ) → SoundRing (before-one k)
-sound-before zero = sound-begun .ring-sound
-sound-before (suc zero) = sound-begun .ring-sound
+sound-before zero = sound-by begins-question .ring-sound
+sound-before (suc zero) = sound-by begins-question .ring-sound
 sound-before (suc (suc k)) = sound-witness ring-but-one (suc (suc k)) 0 sound-heard
 
 -- the ring, once 1 has answered
@@ -193,11 +202,11 @@ zero-and-one (suc (suc x)) = rw (ne-eqb (suc (suc x)) 1 (λ e. omega arith), ne-
 -- with 1 the ring that was heard has the members 0, 1, .. k
 pub with-one : (k : ℕ) → suc k ≤ 125 → (x : ℕ) → x < 126 → (eqb x 1 || has (before-one (suc k)) x) ≡ leb x (suc k)
 with-one zero l x m = ap (λ (b : Bool). eqb x 1 || b) (members .alone x m) ∙ zero-and-one x
-with-one (suc k) l x m = cut-added ring-but-one (suc (suc k)) (members .own-but-one) (omega arith) l (members .but-one) x m
+with-one (suc k) l x m = cut-added ring-but-one (suc (suc k)) sound-heard (members .own-but-one) (omega arith) l (members .but-one) x m
 
 members-question : (k : ℕ) → k ≤ 125 → UpTo (after-one k) k
 members-question zero l x m = claimed-has ring-alone x ∙ members .alone x m ∙ only-zero x
-members-question (suc k) l x m = add-has (claimOf (claimOf (before-one (suc k)))) 1 x (omega arith) m ∙ ap (λ (b : Bool). eqb x 1 || b) (claimed-has (before-one (suc k)) x) ∙ with-one k l x m
+members-question (suc k) l x m = add-has (claimOf (claimOf (before-one (suc k)))) 1 x (sound-claim (claimOf (before-one (suc k))) (sound-claim (before-one (suc k)) (sound-before (suc k)))) (omega arith) m ∙ ap (λ (b : Bool). eqb x 1 || b) (claimed-has (before-one (suc k)) x) ∙ with-one k l x m
 
 -- the calls lead to a token pass with 1 to be asked
 claims-due : (k : ℕ) → k ≤ 125 → run (run begun-question (others-question k)) (claims 7400) ≡ pass-question (claimOf (claimOf (before-one k)))
@@ -282,14 +291,36 @@ here-accepted : firstRefusal (plainOf here) ≡ 0
 unfolding firstRefusal earlyRefusal plainOf refuseBelow refuseOutside addressRefusal baudRefusal slotBitsRefusal hsaRefusal rotationRefusal roomRefusal gapWaitRefusal retryRefusal minTsdrRefusal factorsRefusal baudOf
 here-accepted = refl
 
+-- the same station with another ring, and with its own
+abbrev pub withRing : Station → Ring → Station
+withRing s r = record { state = s .state; core = s .core; «token_ring» = r; p = s .p; applications = s .applications }
+
+pub ring-is : (s : Station) (r : Ring) → s .«token_ring» ≡ r → s ≡ withRing s r
+ring-is s r e = ap (withRing s) e
+
+-- the ring, which heard a token from 9 and was claimed twice; it is told by its members
+abbrev pub ring-nine : Ring
+ring-nine = make 5 (among (5 ∷ 9 ∷ [])) 1 true
+
+pub claimed-nine : claimOf (claimOf (witnessOf (freshOf 5) 9 5)) ≡ ring-nine
+unfolding make claimOf
+claimed-nine = ap (λ (r : Ring). claimOf (claimOf r)) heard-nine
+
+letter-ring : letterStation .«token_ring» ≡ claimOf (claimOf (witnessOf (freshOf 5) 9 5))
+unfolding fieldOf beFrom loadOf rounded timeOf slotTimeOf tokenLostOf rotationTimeOf prevOf freshStation freshCore withActivity withGap withPending withTokenTimes withNextApplication withOnline after run zerosOr14 decisions.lengthRefusal words.responseStateOf decisions.decisionRefusal words.telegramRefusal words.telegramOf decisions.decisionOf records.headOf records.telegramAt records.decisionAt records.entryRefusal records.wordsRefusal records.recordRefusal steps.knownAt steps.elapsedOf steps.waitedOf steps.markedAt steps.busyOf steps.ongoingOf steps.pauseOf steps.sentAt steps.busActivityOf steps.rxOf steps.slotExpiredOf steps.tokenLostWaitOf steps.doneOf steps.transmitOf steps.heardOf hear.listenHeard hear.listenTelegram listening.heardTelegram listening.heardAll listening.receivedAll listening.consumedAll listening.listenTokenOn listening.handleLostToken listening.listenTokenOf polling.connectedOf polling.dispatchOf polling.pollOnline polling.pollInner answering.polledOf polling.acceptedAfter polling.acceptedPoll polling.pollOf commands.onlineOf claiming.claimNext claiming.claimTokenOf steps.withTokenTime holding.declinesOn holding.declinesAt holding.usePassOf holding.appTransmitOf holding.firstOr holding.turnOf holding.askedFrom holding.askedOf holding.holdLess holding.capped holding.endOf holding.holdEndOf holding.holdsOf holding.useAppsAfter holding.useAppsOf holding.useTokenTimed holding.useTokenOf passing.gapAdvanced passing.passSentOn passing.passSend passing.passPollOn passing.passPoll passing.passTokenOf checking.resendOf checking.checkReceived checking.checkTokenPassOf counted countedIn slotAfter sentIn answering.stepAnswer gapDue
+letter-ring = refl
+
+letter-is : letterStation ≡ withRing letterStation ring-nine
+letter-is = ring-is letterStation ring-nine (letter-ring ∙ claimed-nine)
+
 -- worked out from the definitions
 pub letter-run : LetterRun
-unfolding fieldOf beFrom loadOf rounded timeOf slotTimeOf tokenLostOf rotationTimeOf walk nearest betweenOf keeps sameSet roundOf lapsOf bitOf wordOf hasIn has make others freshOf passed witnessOf claimOf nextOf prevOf freshStation freshCore withActivity withGap withPending withTokenTimes withNextApplication withOnline after run zerosOr14 decisions.lengthRefusal words.responseStateOf decisions.decisionRefusal words.telegramRefusal words.telegramOf decisions.decisionOf records.headOf records.telegramAt records.decisionAt records.entryRefusal records.wordsRefusal records.recordRefusal steps.knownAt steps.elapsedOf steps.waitedOf steps.markedAt steps.busyOf steps.ongoingOf steps.pauseOf steps.sentAt steps.busActivityOf steps.rxOf steps.slotExpiredOf steps.tokenLostWaitOf steps.doneOf steps.transmitOf steps.heardOf hear.listenHeard hear.listenTelegram listening.heardTelegram listening.heardAll listening.receivedAll listening.consumedAll listening.listenTokenOn listening.handleLostToken listening.listenTokenOf polling.connectedOf polling.dispatchOf polling.pollOnline polling.pollInner answering.polledOf polling.acceptedAfter polling.acceptedPoll polling.pollOf commands.onlineOf claiming.claimNext claiming.claimTokenOf steps.withTokenTime holding.declinesOn holding.declinesAt holding.usePassOf holding.appTransmitOf holding.firstOr holding.turnOf holding.askedFrom holding.askedOf holding.holdLess holding.capped holding.endOf holding.holdEndOf holding.holdsOf holding.useAppsAfter holding.useAppsOf holding.useTokenTimed holding.useTokenOf passing.gapAdvanced passing.passSentOn passing.passSend passing.passPollOn passing.passPoll passing.passTokenOf checking.resendOf checking.checkReceived checking.checkTokenPassOf removeOf takeOut counted countedIn slotAfter sentIn answering.stepAnswer gapDue
+unfolding fieldOf beFrom loadOf rounded timeOf slotTimeOf tokenLostOf rotationTimeOf walk nearest betweenOf roundOf lapsOf listed afterOf beforeOf linkAt tab linksOf linkOf unlinkOf behindOf insertOf sweepOf relinkOf followsOf confirmsOf rings.counted has make others freshOf witnessOf claimOf nextOf prevOf freshStation freshCore withActivity withGap withPending withTokenTimes withNextApplication withOnline after run zerosOr14 decisions.lengthRefusal words.responseStateOf decisions.decisionRefusal words.telegramRefusal words.telegramOf decisions.decisionOf records.headOf records.telegramAt records.decisionAt records.entryRefusal records.wordsRefusal records.recordRefusal steps.knownAt steps.elapsedOf steps.waitedOf steps.markedAt steps.busyOf steps.ongoingOf steps.pauseOf steps.sentAt steps.busActivityOf steps.rxOf steps.slotExpiredOf steps.tokenLostWaitOf steps.doneOf steps.transmitOf steps.heardOf hear.listenHeard hear.listenTelegram listening.heardTelegram listening.heardAll listening.receivedAll listening.consumedAll listening.listenTokenOn listening.handleLostToken listening.listenTokenOf polling.connectedOf polling.dispatchOf polling.pollOnline polling.pollInner answering.polledOf polling.acceptedAfter polling.acceptedPoll polling.pollOf commands.onlineOf claiming.claimNext claiming.claimTokenOf steps.withTokenTime holding.declinesOn holding.declinesAt holding.usePassOf holding.appTransmitOf holding.firstOr holding.turnOf holding.askedFrom holding.askedOf holding.holdLess holding.capped holding.endOf holding.holdEndOf holding.holdsOf holding.useAppsAfter holding.useAppsOf holding.useTokenTimed holding.useTokenOf passing.gapAdvanced passing.passSentOn passing.passSend passing.passPollOn passing.passPoll passing.passTokenOf checking.resendOf checking.checkReceived checking.checkTokenPassOf removeOf counted countedIn slotAfter sentIn answering.stepAnswer gapDue
 letter-run =
     record {
       starts = start-of-calls letterStation (made-by here letterCalls letterStation here-accepted refl) refl true refl refl;
-      neighbour = refl;
+      neighbour = ap others (letter-ring ∙ claimed-nine);
       quiet = (quiet-at 7266 refl refl, (quiet-at 7732 refl refl, (quiet-at 8198 refl refl, (quiet-at 8664 refl refl, (quiet-at 9130 refl refl, tt)))));
-      all-counted = refl;
-      sent = refl;
+      all-counted = ap (λ (s : Station). countedIn s five) letter-is;
+      sent = ap (λ (s : Station). sentIn s five) letter-is;
     }

@@ -19,10 +19,9 @@ use lib.Dec.{leb, eqb}
 use Rattle.settings.specs.declared.Parameters.{Parameters}
 use Rattle.settings.specs.Settings.{slotTimeOf}
 use Rattle.settings_build.specs.Build.{firstRefusal, plainOf}
-use Rattle.ring.specs.declared.Ring.{Ring}
 use Rattle.ring.specs.declared.GapState.{GapState}
 use Rattle.ring.specs.declared.GapState.the-variants.{Waiting, DoPoll}
-use Rattle.ring.specs.Ring.{others}
+use Rattle.ring.specs.Ring.{Ring, others}
 use Rattle.codec_records.specs.Records.{headOf, recordRefusal}
 use Rattle.codec_answers.specs.declared.Sent.{Sent}
 use Rattle.codec_answers.specs.declared.Sent.the-variants.{Nothing, Token, StatusRequest, StatusResponse, Application}
@@ -31,7 +30,7 @@ use Rattle.station.specs.declared.Activity.the-variants as activity
 use Rattle.station.specs.declared.PassTokenAttempt.the-variants.{First}
 use Rattle.station.specs.declared.State.the-variants.{PassToken}
 use Rattle.station.specs.declared.Core.{Core}
-use Rattle.station.specs.declared.Station.{Station}
+use Rattle.station.specs.Whole.{Station}
 use Rattle.station.specs.Parts.{stateNumber}
 use Rattle.station_pass.specs.Pass.{gapAdvanced}
 use Rattle.station_poll.specs.Poll.{pollOf}

@@ -8,15 +8,15 @@ use Rattle.codec_fields.specs.Fields.{fieldOf, zerosOr14, beFrom, loadOf}
 use Rattle.bit_times.specs.Times.{rounded, timeOf}
 use Rattle.settings.specs.Settings.{slotTimeOf, tokenLostOf, rotationTimeOf}
 use Rattle.settings_build.specs.Finish.{site}
-use Rattle.ring_addresses.specs.Set.{takeOut, walk, nearest, betweenOf, keeps, sameSet}
-use Rattle.ring_addresses.specs.Words.{bitOf, wordOf, hasIn}
+use Rattle.ring_addresses.specs.Set.{walk, nearest, betweenOf}
 use Rattle.ring.specs.declared.GapState.the-variants.{DoPoll}
-use Rattle.ring.specs.Ring.{has, make, others, removeOf, freshOf, roundOf, lapsOf, passed, witnessOf, claimOf, nextOf, prevOf, candidateOf, polls, gapOf}
+use Rattle.ring_links.specs.Links.{listed, afterOf, beforeOf, linkAt, tab, linksOf, linkOf, unlinkOf, behindOf, insertOf, sweepOf, relinkOf, followsOf, confirmsOf}
+use Rattle.ring.specs.Ring.{has, make, others, removeOf, freshOf, roundOf, lapsOf, witnessOf, claimOf, nextOf, prevOf, candidateOf, polls, gapOf, counted}
 use Rattle.codec_telegrams.specs.Words as words
 use Rattle.codec_decisions.specs.Decisions as decisions
 use Rattle.codec_records.specs.Records as records
 use Rattle.codec_answers.specs.declared.Sent.the-variants.{Application}
-use Rattle.station.specs.declared.Station.{Station}
+use Rattle.station.specs.Whole.{Station}
 use Rattle.station.specs.Parts.{freshStation, freshCore, withActivity, withGap, withPending, withTokenTimes, withNextApplication, withOnline}
 use Rattle.station.specs.Steps as steps
 use Rattle.station_hear_listen.specs.HearListen as hear
@@ -59,5 +59,5 @@ pub record SiteRun : Type 0 where
 
 -- worked out from the definitions
 pub site-run : SiteRun
-unfolding fieldOf beFrom loadOf rounded timeOf slotTimeOf tokenLostOf rotationTimeOf walk nearest betweenOf keeps sameSet roundOf lapsOf bitOf wordOf hasIn has make others freshOf passed witnessOf claimOf nextOf prevOf freshStation freshCore withActivity withGap withPending withTokenTimes withNextApplication withOnline after run zerosOr14 decisions.lengthRefusal words.responseStateOf decisions.decisionRefusal words.telegramRefusal words.telegramOf decisions.decisionOf records.headOf records.telegramAt records.decisionAt records.entryRefusal records.wordsRefusal records.recordRefusal steps.knownAt steps.elapsedOf steps.waitedOf steps.markedAt steps.busyOf steps.ongoingOf steps.pauseOf steps.sentAt steps.busActivityOf steps.rxOf steps.slotExpiredOf steps.tokenLostWaitOf steps.doneOf steps.transmitOf steps.heardOf hear.listenHeard hear.listenTelegram listening.heardTelegram listening.heardAll listening.receivedAll listening.consumedAll listening.listenTokenOn listening.handleLostToken listening.listenTokenOf polling.connectedOf polling.dispatchOf polling.pollOnline polling.pollInner answering.polledOf polling.acceptedAfter polling.acceptedPoll polling.pollOf commands.onlineOf claiming.claimNext claiming.claimTokenOf steps.withTokenTime holding.declinesOn holding.declinesAt holding.usePassOf holding.appTransmitOf holding.firstOr holding.turnOf holding.askedFrom holding.askedOf holding.holdLess holding.capped holding.endOf holding.holdEndOf holding.holdsOf holding.useAppsAfter holding.useAppsOf holding.useTokenTimed holding.useTokenOf passing.gapAdvanced passing.passSentOn passing.passSend passing.passPollOn passing.passPoll passing.passTokenOf checking.resendOf checking.checkReceived checking.checkTokenPassOf removeOf takeOut polls gapOf candidateOf answering.stepAnswer awaiting.awaitStatusOf
+unfolding fieldOf beFrom loadOf rounded timeOf slotTimeOf tokenLostOf rotationTimeOf walk nearest betweenOf roundOf lapsOf listed afterOf beforeOf linkAt tab linksOf linkOf unlinkOf behindOf insertOf sweepOf relinkOf followsOf confirmsOf counted has make others freshOf witnessOf claimOf nextOf prevOf freshStation freshCore withActivity withGap withPending withTokenTimes withNextApplication withOnline after run zerosOr14 decisions.lengthRefusal words.responseStateOf decisions.decisionRefusal words.telegramRefusal words.telegramOf decisions.decisionOf records.headOf records.telegramAt records.decisionAt records.entryRefusal records.wordsRefusal records.recordRefusal steps.knownAt steps.elapsedOf steps.waitedOf steps.markedAt steps.busyOf steps.ongoingOf steps.pauseOf steps.sentAt steps.busActivityOf steps.rxOf steps.slotExpiredOf steps.tokenLostWaitOf steps.doneOf steps.transmitOf steps.heardOf hear.listenHeard hear.listenTelegram listening.heardTelegram listening.heardAll listening.receivedAll listening.consumedAll listening.listenTokenOn listening.handleLostToken listening.listenTokenOf polling.connectedOf polling.dispatchOf polling.pollOnline polling.pollInner answering.polledOf polling.acceptedAfter polling.acceptedPoll polling.pollOf commands.onlineOf claiming.claimNext claiming.claimTokenOf steps.withTokenTime holding.declinesOn holding.declinesAt holding.usePassOf holding.appTransmitOf holding.firstOr holding.turnOf holding.askedFrom holding.askedOf holding.holdLess holding.capped holding.endOf holding.holdEndOf holding.holdsOf holding.useAppsAfter holding.useAppsOf holding.useTokenTimed holding.useTokenOf passing.gapAdvanced passing.passSentOn passing.passSend passing.passPollOn passing.passPoll passing.passTokenOf checking.resendOf checking.checkReceived checking.checkTokenPassOf removeOf polls gapOf candidateOf answering.stepAnswer awaiting.awaitStatusOf
 site-run = record { polled = refl; token-before = refl; hold-ends = refl; sent = refl }

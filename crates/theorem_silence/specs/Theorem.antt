@@ -13,8 +13,7 @@ use Rattle.bit_times.specs.declared.Micros.{Micros}
 use Rattle.settings.specs.declared.Parameters.{Parameters}
 use Rattle.settings.specs.Settings.{slotTimeOf}
 use Rattle.ring_addresses.specs.SetLaws.{true≢false}
-use Rattle.ring.specs.declared.Ring.{Ring}
-use Rattle.ring.specs.Ring.{others}
+use Rattle.ring.specs.Ring.{Ring, others}
 use Rattle.codec_records.specs.Records.{headOf}
 use Rattle.codec_answers.specs.declared.Outcome.the-variants as outcome
 use Rattle.codec_answers.specs.declared.Sent.{Sent}
@@ -24,13 +23,11 @@ use Rattle.station.specs.declared.PassTokenAttempt.the-variants.{First}
 use Rattle.station.specs.declared.State.{State}
 use Rattle.station.specs.declared.State.the-variants.{PassToken}
 use Rattle.station.specs.declared.Core.{Core}
-use Rattle.station.specs.declared.Station.{Station}
-use Rattle.station.specs.declared.RingStep.{RingStep}
+use Rattle.station.specs.Whole.{Station, RingStep}
 use Rattle.station.specs.Parts.{stateNumber}
 use Rattle.station.specs.Steps.{ongoingOf, busActivityOf, doneOf, ringStepOf}
 use Rattle.station_poll.specs.Poll.{connectedOf, pollOnline, pollInner, acceptedAfter, acceptedPoll, pollOf}
-use Rattle.station_answer.specs.declared.Polled.{Polled}
-use Rattle.station_answer.specs.Answer.{polledOf, stepAnswer}
+use Rattle.station_answer.specs.Answer.{Polled, polledOf, stepAnswer}
 use Rattle.theorem_silence.specs.Silence.{Start, Quiet, AllQuiet, holdsToken, until, told, sentUntil, counted, countedIn, slotAfter, Theorem}
 use Rattle.theorem_silence.specs.Times.{Slotted, slotted}
 use Rattle.theorem_silence.specs.Phases.{Phase, asking, awaiting, starting, checking, claiming, holding, next, nextSent, told-next, todo, inRing, endRing, Under, under-or-held, todo-next, todo-some, tokens-length, advance, end-advance, ring-after}

@@ -15,8 +15,8 @@ use Rattle.station.specs.declared.Core.{Core}
 use Rattle.station.specs.Parts.{withActivity}
 use Rattle.station.specs.Steps.{knownAt, elapsedOf, busyOf, waitedOf, pauseOf, slotExpiredOf}
 use Rattle.theorem_silence.specs.Silence.{slotAfter}
-use Rattle.settings.specs.Rules.{slotBitsRefusal}
-use Rattle.settings.specs.RuleLaws.{below-in}
+use Rattle.settings_rules.specs.Rules.{slotBitsRefusal}
+use Rattle.settings_rules.specs.Laws.{below-in}
 use Rattle.settings.specs.Settings.{slotTimeOf}
 use Rattle.settings_build.specs.Build.{firstRefusal, plainOf}
 use Rattle.settings_build.specs.Passes.{passes}

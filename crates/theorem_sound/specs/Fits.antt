@@ -12,7 +12,7 @@ use lib.Dec.{ltb, leb, eqb, lit<, lit≤}
 use Rattle.codec_fields.specs.Fields.{fieldOf, bitAt, zerosOr14}
 use Rattle.bit_times.specs.declared.Micros.{Micros}
 use Rattle.settings.specs.declared.Parameters.{Parameters}
-use Rattle.ring.specs.declared.Ring.{Ring}
+use Rattle.ring.specs.Ring.{Ring}
 use Rattle.ring.specs.declared.GapState.{GapState}
 use Rattle.ring.specs.declared.GapState.the-variants.{Waiting, DoPoll}
 use Rattle.ring.specs.declared.NextStation.{NextStation}
@@ -42,15 +42,13 @@ use Rattle.station.specs.declared.UseTokenData.{UseTokenData}
 use Rattle.station.specs.declared.State.{State}
 use Rattle.station.specs.declared.State.the-variants.{Offline, ListenToken, ActiveIdle, UseToken, ClaimToken, AwaitDataResponse, PassToken, CheckTokenPass, AwaitStatusResponse}
 use Rattle.station.specs.declared.Core.{Core}
-use Rattle.station.specs.declared.Station.{Station}
+use Rattle.station.specs.Whole.{Station, RingStep, Heard}
 use Rattle.station.specs.declared.Step.{Step}
-use Rattle.station.specs.declared.RingStep.{RingStep}
 use Rattle.station.specs.Parts.{withActivity, withGap, withNextApplication, withOnline, freshCore, stateNumber}
 use Rattle.station.specs.Steps.{ongoingOf, busActivityOf, waitedOf, pauseOf, slotExpiredOf, tokenLostWaitOf, doneOf, transmitOf, ringStepOf}
 use Rattle.station_claim.specs.Claim.{claimTokenOf}
 use Rattle.station_hold.specs.declared.Asked.{Asked}
 use Rattle.station_hold.specs.Hold.{validResponse, holdsOf, askedOf, appTransmitOf, usePassOf, useAppsAfter, useAppsOf, useTokenTimed, useTokenOf, receivedOf, withNotice, timeoutOf, awaitDataOf}
-use Rattle.station.specs.declared.Heard.{Heard}
 use Rattle.station_listen.specs.Listen.{handleLostToken, listenResponse, consumedAll, listenTokenOn, listenTokenOf, activeResponse, activeIdleOn, activeIdleOf}
 use Rattle.station_pass.specs.Pass.{passSentOn, passSend, passPollOn, passPoll, passTokenOf}
 use Rattle.station_pass.specs.Laws.{destination-low}

@@ -10,10 +10,9 @@ use lib.Dec.{ltb}
 use Rattle.codec_fields.specs.Fields.{fieldOf, bitAt}
 use Rattle.codec_fields.specs.Widths.{field-below}
 use Rattle.settings.specs.declared.Parameters.{Parameters}
-use Rattle.ring.specs.declared.Ring.{Ring}
 use Rattle.ring.specs.declared.GapState.{GapState}
 use Rattle.ring.specs.declared.GapState.the-variants.{Waiting, DoPoll}
-use Rattle.ring.specs.Ring.{freshOf, claimOf, addOf, removeOf, witnessOf, gapOf}
+use Rattle.ring.specs.Ring.{Ring, freshOf, claimOf, addOf, removeOf, witnessOf, gapOf}
 use Rattle.ring.specs.Laws.{SoundRing, sound-fresh, sound-claim, sound-add, sound-remove, sound-witness, fresh-made, claim-own, add-own, remove-own, witness-own, gap-polls}
 use Rattle.codec_decisions.specs.declared.Decision.{Decision}
 use Rattle.codec_decisions.specs.declared.Decision.the-variants as decision

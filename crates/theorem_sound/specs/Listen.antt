@@ -7,8 +7,7 @@ use native.Mathlib.Omega.{arith}
 use lib.Dec.{eqb, lit≤}
 use Rattle.bit_times.specs.declared.Micros.{Micros}
 use Rattle.settings.specs.declared.Parameters.{Parameters}
-use Rattle.ring.specs.declared.Ring.{Ring}
-use Rattle.ring.specs.Ring.{prevOf}
+use Rattle.ring.specs.Ring.{Ring, prevOf}
 use Rattle.codec_telegrams.specs.declared.Telegram.{Telegram}
 use Rattle.codec_telegrams.specs.declared.Telegram.the-variants as telegram
 use Rattle.codec_telegrams.specs.Words.{TelegramFits}
@@ -22,8 +21,7 @@ use Rattle.station.specs.declared.UseTokenData.{UseTokenData}
 use Rattle.station.specs.declared.State.{State}
 use Rattle.station.specs.declared.State.the-variants.{Offline, ListenToken, ActiveIdle, UseToken, ClaimToken, AwaitDataResponse, PassToken, CheckTokenPass, AwaitStatusResponse}
 use Rattle.station.specs.declared.Core.{Core}
-use Rattle.station.specs.declared.RingStep.{RingStep}
-use Rattle.station.specs.declared.Heard.{Heard}
+use Rattle.station.specs.Whole.{RingStep, Heard}
 use Rattle.station.specs.Steps.{toListenToken, toActiveIdle, pauseOf, tokenLostWaitOf, transmitOf, heardOf}
 use Rattle.station_claim.specs.Claim.{claimNext, claimTokenOf}
 use Rattle.station_hear_active.specs.HearActive.{remembers, activeCollided, acceptedOf, tokenToUs, tokenWitnessed, tokenHeard, activeRequested, activeHeard, handleTelegram}

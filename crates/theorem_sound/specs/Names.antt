@@ -10,9 +10,8 @@ use Rattle.ring.specs.Ring.{others, nextOf, nextNumber}
 use Rattle.ring.specs.Laws.{next-is, next-alone}
 use Rattle.codec_records.specs.Records.{recordRefusal}
 use Rattle.codec_answers.specs.Answers.{refusedAnswer}
-use Rattle.station.specs.declared.Station.{Station}
-use Rattle.station_answer.specs.declared.Polled.{Polled}
-use Rattle.station_answer.specs.Answer.{stepAnswer, polledOf, refusedPoll}
+use Rattle.station.specs.Whole.{Station}
+use Rattle.station_answer.specs.Answer.{Polled, stepAnswer, polledOf, refusedPoll}
 use Rattle.station_command.specs.Command.{onlineOf, offlineOf, passiveOf}
 use Rattle.station_poll.specs.Poll.{acceptedAfter, acceptedPoll, pollOf}
 use Rattle.theorem_sound.specs.Sound.{SoundStation}

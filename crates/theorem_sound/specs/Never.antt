@@ -14,7 +14,7 @@ use lib.Dec.{ltb, eqb}
 use Rattle.codec_fields.specs.Fields.{bitNumber}
 use Rattle.bit_times.specs.declared.Micros.{Micros}
 use Rattle.settings.specs.declared.Parameters.{Parameters}
-use Rattle.ring.specs.declared.Ring.{Ring}
+use Rattle.ring.specs.Ring.{Ring}
 use Rattle.codec_decisions.specs.declared.Decision.the-variants as decision
 use Rattle.codec_decisions.specs.Decisions.{decisionOf}
 use Rattle.codec_telegrams.specs.declared.Telegram.{Telegram}
@@ -32,7 +32,7 @@ use Rattle.station.specs.declared.OptionApplication.the-variants as optionAppli
 use Rattle.station.specs.declared.State.{State}
 use Rattle.station.specs.declared.State.the-variants.{Offline, ListenToken, ActiveIdle, UseToken, ClaimToken, AwaitDataResponse, PassToken, CheckTokenPass, AwaitStatusResponse}
 use Rattle.station.specs.declared.Core.{Core}
-use Rattle.station.specs.declared.Heard.{Heard}
+use Rattle.station.specs.Whole.{Heard}
 use Rattle.station.specs.Parts.{withActivity, withPending, stateNumber}
 use Rattle.station.specs.Steps.{knownAt, markedAt, busyOf, ongoingOf, busActivityOf, heardOf, lastRequestToUs}
 use Rattle.station_hold.specs.declared.Asked.{Asked}

@@ -8,12 +8,11 @@ use borrow.Author.Tests.{ltb-false}
 use lib.Dec.{ltb, eqb, lit≤}
 use Rattle.bit_times.specs.declared.Micros.{Micros}
 use Rattle.settings.specs.declared.Parameters.{Parameters}
-use Rattle.ring.specs.declared.Ring.{Ring}
 use Rattle.ring.specs.declared.NextStation.{NextStation}
 use Rattle.ring.specs.declared.NextStation.the-variants.{Nobody, Neighbour}
 use Rattle.ring.specs.declared.GapState.{GapState}
 use Rattle.ring.specs.declared.GapState.the-variants.{Waiting, DoPoll}
-use Rattle.ring.specs.Ring.{candidateOf, polls, gapOf}
+use Rattle.ring.specs.Ring.{Ring, candidateOf, polls, gapOf}
 use Rattle.codec_telegrams.specs.declared.ResponseState.{ResponseState}
 use Rattle.codec_telegrams.specs.declared.ResponseState.the-variants.{Slave, MasterNotReady, MasterWithoutToken, MasterInRing}
 use Rattle.codec_telegrams.specs.declared.Telegram.{Telegram}

@@ -9,14 +9,14 @@ use Rattle.bit_times.specs.declared.Micros.{Micros}
 use Rattle.bit_times.specs.Times.{rounded, timeOf}
 use Rattle.bit_times.specs.Laws.{time-grows}
 use Rattle.settings.specs.declared.Parameters.{Parameters}
-use Rattle.settings.specs.Rules.{applicationsRefusal}
+use Rattle.settings_rules.specs.Rules.{applicationsRefusal}
 use Rattle.settings.specs.Settings.{rotationTimeOf}
 use Rattle.settings_build.specs.Build.{firstRefusal, plainOf}
 use Rattle.settings_build.specs.Passes.{address-low, rotation-top, rotation-room}
 use Rattle.settings_build.specs.Finish.{site}
 use Rattle.ring.specs.declared.GapState.{GapState}
 use Rattle.ring.specs.declared.GapState.the-variants.{Waiting, DoPoll}
-use Rattle.station.specs.declared.Station.{Station}
+use Rattle.station.specs.Whole.{Station}
 use Rattle.station.specs.Parts.{freshStation}
 use Rattle.station_hold.specs.Hold.{holdLess, endOf}
 use Rattle.station_hold.specs.Laws.{capped-fits}

@@ -9,9 +9,9 @@ use native.Mathlib.Omega.{arith}
 use lib.Dec.{eqb, lit<}
 use Rattle.bit_times.specs.declared.Micros.{Micros}
 use Rattle.settings.specs.declared.Parameters.{Parameters}
-use Rattle.settings.specs.Rules.{applicationsRefusal}
-use Rattle.settings.specs.RuleLaws.{outside-in}
-use Rattle.ring.specs.declared.Ring.{Ring}
+use Rattle.settings_rules.specs.Rules.{applicationsRefusal}
+use Rattle.settings_rules.specs.Laws.{outside-in}
+use Rattle.ring.specs.Ring.{Ring}
 use Rattle.ring.specs.Laws.{SoundRing}
 use Rattle.codec_records.specs.Records.{headOf, recordRefusal}
 use Rattle.codec_records.specs.Laws.{clock-below}
@@ -20,13 +20,11 @@ use Rattle.station.specs.declared.OptionAddress.the-variants as optionAddress
 use Rattle.station.specs.declared.State.{State}
 use Rattle.station.specs.declared.State.the-variants.{Offline, ListenToken, ActiveIdle, UseToken, ClaimToken, AwaitDataResponse, PassToken, CheckTokenPass, AwaitStatusResponse}
 use Rattle.station.specs.declared.Core.{Core}
-use Rattle.station.specs.declared.Station.{Station}
-use Rattle.station.specs.declared.RingStep.{RingStep}
+use Rattle.station.specs.Whole.{Station, RingStep}
 use Rattle.station.specs.Parts.{zeroTime, freshCore, freshStation, stateNumber}
 use Rattle.station.specs.Steps.{ongoingOf, busActivityOf, doneOf, ringStepOf}
-use Rattle.station_answer.specs.declared.Polled.{Polled}
 use Rattle.station_poll.specs.Poll.{connectedOf, dispatchOf, pollOnline, pollInner, acceptedAfter, acceptedPoll, pollOf}
-use Rattle.station_answer.specs.Answer.{polledOf, refusedPoll}
+use Rattle.station_answer.specs.Answer.{Polled, polledOf, refusedPoll}
 use Rattle.station_command.specs.Command.{onlineOf, offlineOf, passiveOf}
 use Rattle.theorem_sound.specs.Moves.{lists, Clock, Moves, none, then, goes-offline, goes-online}
 use Rattle.theorem_sound.specs.Lines.{SoundCore}

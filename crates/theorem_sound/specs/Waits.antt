@@ -20,14 +20,14 @@ use Rattle.bit_times.specs.declared.Baud.{Baud}
 use Rattle.bit_times.specs.Times.{rateOf, pauseBits, timeOf}
 use Rattle.settings.specs.declared.Parameters.{Parameters}
 use Rattle.settings.specs.Settings.{slotTimeOf}
-use Rattle.settings.specs.Rules.{applicationsRefusal}
+use Rattle.settings_rules.specs.Rules.{applicationsRefusal}
 use Rattle.codec_answers.specs.declared.Sent.{Sent}
 use Rattle.codec_answers.specs.declared.Sent.the-variants as sent
 use Rattle.codec_answers.specs.declared.Notice.{Notice}
 use Rattle.codec_answers.specs.declared.Notice.the-variants as notice
 use Rattle.station.specs.declared.Activity.{Activity}
 use Rattle.station.specs.declared.Activity.the-variants as activity
-use Rattle.station.specs.declared.Station.{Station}
+use Rattle.station.specs.Whole.{Station}
 use Rattle.station.specs.Parts.{stateNumber, freshStation}
 use Rattle.theorem_sound.specs.Moves.{lists}
 use Rattle.theorem_sound.specs.Sound.{Call, after, clockOf}

@@ -14,8 +14,8 @@ use Rattle.bit_times.specs.Times.{rateOf, timeOf}
 use Rattle.bit_times.specs.Laws.{time-lasts, time-some}
 use Rattle.settings.specs.declared.Parameters.{Parameters}
 use Rattle.settings.specs.Settings.{slotTimeOf}
-use Rattle.settings.specs.Rules.{applicationsRefusal}
-use Rattle.ring.specs.declared.Ring.{Ring}
+use Rattle.settings_rules.specs.Rules.{applicationsRefusal}
+use Rattle.ring.specs.Ring.{Ring}
 use Rattle.codec_records.specs.Records.{recordRefusal}
 use Rattle.codec_answers.specs.Answers.{refusedAnswer}
 use Rattle.codec_answers.specs.declared.Outcome.the-variants as outcome
@@ -26,13 +26,11 @@ use Rattle.station.specs.declared.Activity.the-variants as activity
 use Rattle.station.specs.declared.State.{State}
 use Rattle.station.specs.declared.State.the-variants.{Offline, ListenToken, ActiveIdle, UseToken, ClaimToken, AwaitDataResponse, PassToken, CheckTokenPass, AwaitStatusResponse}
 use Rattle.station.specs.declared.Core.{Core}
-use Rattle.station.specs.declared.Station.{Station}
+use Rattle.station.specs.Whole.{Station, RingStep}
 use Rattle.station.specs.declared.Step.{Step}
-use Rattle.station.specs.declared.RingStep.{RingStep}
 use Rattle.station.specs.Parts.{withActivity, withPending, stateNumber, freshStation}
 use Rattle.station.specs.Steps.{knownAt, elapsedOf, markedAt, busyOf, ongoingOf, waitedOf, pauseOf, slotExpiredOf, busActivityOf, doneOf, ringStepOf}
-use Rattle.station_answer.specs.declared.Polled.{Polled}
-use Rattle.station_answer.specs.Answer.{stepAnswer, polledOf, refusedPoll}
+use Rattle.station_answer.specs.Answer.{Polled, stepAnswer, polledOf, refusedPoll}
 use Rattle.station_poll.specs.Poll.{connectedOf, dispatchOf, pollOnline, pollInner, acceptedAfter, acceptedPoll, pollOf}
 use Rattle.theorem_sound.specs.Moves.{lists, Known}
 use Rattle.theorem_sound.specs.Kept.{not-true, known-from}

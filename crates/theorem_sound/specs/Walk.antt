@@ -6,7 +6,7 @@ use mathlib.Core.Path.{_≡_, refl}
 use lib.Dec.{ltb}
 use Rattle.bit_times.specs.declared.Micros.{Micros}
 use Rattle.settings.specs.declared.Parameters.{Parameters}
-use Rattle.ring.specs.declared.Ring.{Ring}
+use Rattle.ring.specs.Ring.{Ring}
 use Rattle.ring.specs.declared.GapState.{GapState}
 use Rattle.codec_answers.specs.declared.Outcome.{Outcome}
 use Rattle.codec_answers.specs.declared.Sent.{Sent}
@@ -18,8 +18,7 @@ use Rattle.station.specs.declared.State.{State}
 use Rattle.station.specs.declared.State.the-variants.{Offline, ListenToken, ActiveIdle, UseToken, ClaimToken, AwaitDataResponse, PassToken, CheckTokenPass, AwaitStatusResponse}
 use Rattle.station.specs.declared.Core.{Core}
 use Rattle.station.specs.declared.Step.{Step}
-use Rattle.station.specs.declared.RingStep.{RingStep}
-use Rattle.station.specs.declared.Heard.{Heard}
+use Rattle.station.specs.Whole.{RingStep, Heard}
 use Rattle.station.specs.Parts.{withActivity, withPending, withGap, withNextApplication, freshCore, stateNumber}
 use Rattle.station.specs.Steps.{withTokenTime, toListenToken, toActiveIdle, markedAt, waitedOf, pauseOf, slotExpiredOf, tokenLostWaitOf, rxOf, busActivityOf, doneOf, transmitOf, heardOf}
 use Rattle.station_hold.specs.Hold.{holdEndOf}

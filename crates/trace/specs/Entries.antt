@@ -3,8 +3,8 @@ use Prim.Native.Nat.{ℕ}
 use mathlib.Core.List.{List}
 use mathlib.Core.Bool.{cond}
 use lib.Dec.{eqb, ltb}
-use Rattle.station.specs.declared.Station.{Station}
-use Rattle.station_answer.specs.declared.Polled.{Polled}
+use Rattle.station.specs.Whole.{Station}
+use Rattle.station_answer.specs.Answer.{Polled}
 use Rattle.station_poll.specs.Poll.{pollOf}
 use Rattle.station_command.specs.Command.{onlineOf, offlineOf, passiveOf}
 

@@ -19,10 +19,9 @@ use Rattle.codec_answers.specs.Answers.{answerWord}
 use Rattle.settings.specs.declared.Parameters.{Parameters}
 use Rattle.settings.specs.declared.Created.{Created}
 use Rattle.settings.specs.declared.Created.the-variants as created
-use Rattle.station.specs.declared.Station.{Station}
-use Rattle.station.specs.declared.Started.{Started}
+use Rattle.station.specs.Whole.{Station, Started}
 use Rattle.station.specs.Parts.{freshStation, newStation}
-use Rattle.station_answer.specs.declared.Polled.{Polled}
+use Rattle.station_answer.specs.Answer.{Polled}
 use Rattle.trace.specs.Trace.{settingsOf, settingsAt, TraceStart, Accepted, Refused, startedWith, startOf, Run, ended, answered, runFrom, runOf, ranOf, replayOn, replayOf, numberOf, written, bufferOf}
 use Rattle.trace.specs.Entries.{recordLength, entryOf}
 use Rattle.trace_headers.specs.declared.Header.{Header}
@@ -123,7 +122,92 @@ tail-back out k l bs =
     let b : drop (length l - out) (drop out l) ≡ [] = drop-of-length-le (drop out l) m in
     rw (a, b, drop-drop, append-nil, append-assoc)
 
--- where the loop stands: the run of the whole is that of what is left, after the answers given, which stand in the buffer
+-- The run alone, whatever a loop over a trace's entries keeps beside it.
+
+-- where such a loop stands: the run of the whole is that of what is left, after the answers given
+pub record Reached (fresh : Station) (trace : List ℕ) (room : ℕ) (given : List Answer) (station : Station) (at entries : ℕ) : Type 0 where
+  pub small : length trace ≤ 2 ^ 32
+  pub begun : headerLength trace + entries ≤ at
+  pub within : at ≤ length trace
+  pub many : length given ≡ entries
+  pub run : runOf fresh (drop (headerLength trace) trace) room ≡ precededBy given (runFrom (length trace - headerLength trace - entries) station (drop at trace) (room - 8 * entries))
+
+-- before the first entry
+pub reached-first : (fresh : Station) (trace : List ℕ) (room : ℕ) → headerLength trace ≤ length trace → length trace ≤ 2 ^ 32 → Reached fresh trace room [] fresh (headerLength trace) 0
+reached-first fresh trace room h small =
+    record {
+      small = small;
+      begun = omega arith;
+      within = h;
+      many = refl;
+      run = rw (length-drop, sub-zero (length trace - headerLength trace), sub-zero room);
+    }
+
+module _ {fresh : Station} {trace : List ℕ} {room : ℕ} {given : List Answer} {station : Station} {at entries : ℕ} (g : Reached fresh trace room given station at entries) where
+  -- what is left to run
+  abbrev pub leftRun : Run
+  leftRun = runFrom (length trace - headerLength trace - entries) station (drop at trace) (room - 8 * entries)
+
+  -- where the run ends: with the answers given
+  pub reached-end : (s : Station) (n : ℕ) → leftRun ≡ ended s n → ranOf fresh trace room ≡ record { answers = given; ending = n }
+  unfolding ranOf
+  reached-end s n e =
+      let whole : runOf fresh (drop (headerLength trace) trace) room ≡ precededBy given (ended s n) = g .run ∙ ap (precededBy given) e in
+      rw (whole, append-nil)
+
+  -- no byte is left
+  pub left-none : length trace ≤ at → leftRun ≡ ended station 0
+  left-none h = rw (drop-of-length-le trace h) (run-none _ station _)
+
+  module _ (some : at < length trace) where
+    -- one entry is counted off
+    fuel : length trace - headerLength trace - entries ≡ suc (length trace - headerLength trace - (entries + 1))
+    fuel = omega (arith, g .begun)
+
+    -- the entry's first byte, and what follows it
+    pub here : drop at trace ≡ getD trace at 0 ∷ drop (at + 1) trace
+    here = rw (add-one at) (drop-cons trace at 0 some)
+
+    -- how much follows it
+    left : length (drop (at + 1) trace) ≡ length trace - (at + 1)
+    left = length-drop (at + 1) trace
+
+    -- the trace ends inside the entry
+    pub left-cut : length trace - (at + 1) < recordLength (getD trace at 0) → leftRun ≡ ended station 17
+    left-cut h = rw (fuel, here) (run-cut _ station (getD trace at 0) (drop (at + 1) trace) _ (rw left h))
+
+    -- there is no room for its answer
+    pub left-full : recordLength (getD trace at 0) ≤ length trace - (at + 1) → room - 8 * entries < 8 → leftRun ≡ ended station 18
+    left-full h f = rw (fuel, here) (run-full _ station (getD trace at 0) (drop (at + 1) trace) _ (rw left h) f)
+
+    module _ (n : ℕ) (polled : Polled) (size : n ≡ recordLength (getD trace at 0)) (h : n ≤ length trace - (at + 1)) (f : 8 ≤ room - 8 * entries)
+        (e : polled ≡ entryOf station (getD trace at 0) (take (at + 1 + n - (at + 1)) (drop (at + 1) trace))) where
+      -- the entry is answered, and then the rest is left
+      pub left-more :
+          leftRun
+          ≡ answered (polled .answer)
+          (runFrom (length trace - headerLength trace - (entries + 1)) (polled .station) (drop (at + 1 + n) trace) (room - 8 * (entries + 1)))
+      left-more =
+          let a : at + 1 + n - (at + 1) ≡ n = omega arith in
+          let b : room - 8 * entries - 8 ≡ room - 8 * (entries + 1) = omega arith in
+          rw (fuel, here, ← drop-drop n (at + 1) trace, ← b, e, a, size)
+          (run-more _ station (getD trace at 0) (drop (at + 1) trace) (room - 8 * entries) (rw (left, ← size) h) f)
+
+      -- the loop stands at the next one
+      pub reached-next : Reached fresh trace room (given ++ (polled .answer ∷ [])) (polled .station) (at + 1 + n) (entries + 1)
+      reached-next =
+          record {
+            small = g .small;
+            begun = omega (arith, g .begun);
+            within = omega (arith, h);
+            many = length-append given (polled .answer ∷ []) ∙ ap (λ (k : ℕ). k + 1) (g .many);
+            run = g .run ∙ ap (precededBy given) left-more ∙ after-answered given (polled .answer) _;
+          }
+
+-- The run and the buffer.
+
+-- where the loop stands: at this entry of the run, with the answers given in the buffer. The first three lines are the run's own,
+-- again for the arithmetic of the loop's tests
 pub record Going (fresh : Station) (trace before answers : List ℕ) (station : Station) (at out entries : ℕ) : Type 0 where
   pub small : length trace ≤ 2 ^ 32
   pub begun : headerLength trace + entries ≤ at
@@ -133,9 +217,8 @@ pub record Going (fresh : Station) (trace before answers : List ℕ) (station : 
   pub long : length answers ≡ length before
   pub kept : drop out answers ≡ drop out before
   pub given : List Answer
-  pub many : length given ≡ entries
   pub stand : written given ≡ take out answers
-  pub run : runOf fresh (drop (headerLength trace) trace) (length before) ≡ precededBy given (runFrom (length trace - headerLength trace - entries) station (drop at trace) (length before - out))
+  pub reached : Reached fresh trace (length before) given station at entries
 
 -- before the first entry
 pub begins : (fresh : Station) (trace before : List ℕ) → headerLength trace ≤ length trace → length trace ≤ 2 ^ 32 → Going fresh trace before before fresh (headerLength trace) 0 0
@@ -150,50 +233,34 @@ begins fresh trace before h small =
       long = refl;
       kept = refl;
       given = [];
-      many = refl;
       stand = refl;
-      run = rw (length-drop, sub-zero (length trace - headerLength trace), sub-zero (length before));
+      reached = reached-first fresh trace (length before) h small;
     }
 
 module _ {fresh : Station} {trace before answers : List ℕ} {station : Station} {at out entries : ℕ} (g : Going fresh trace before answers station at out entries) where
   -- where the run ends: what is returned, and what is left in the buffer
   pub over :
       (s : Station) (n : ℕ)
-      → runFrom (length trace - headerLength trace - entries) station (drop at trace) (length before - out) ≡ ended s n
+      → leftRun (g .reached) ≡ ended s n
       → (entries * 256 + n ≡ numberOf (ranOf fresh trace (length before))) × (answers ≡ bufferOf (ranOf fresh trace (length before)) before)
-  unfolding ranOf numberOf bufferOf
+  unfolding numberOf bufferOf
   over s n e =
-      let whole : runOf fresh (drop (headerLength trace) trace) (length before) ≡ precededBy (g .given) (ended s n) = g .run ∙ ap (precededBy (g .given)) e in
       let place : 8 * entries ≡ out = sym (g .place) in
-      rw (whole, append-nil, g .many, place, g .stand, ← g .kept, take-append-drop) (refl, refl)
+      rw (reached-end (g .reached) s n e, g .reached .many, place, g .stand, ← g .kept, take-append-drop) (refl, refl)
 
   module _ (some : at < length trace) where
-    -- one entry is counted off
-    fuel : length trace - headerLength trace - entries ≡ suc (length trace - headerLength trace - (entries + 1))
-    fuel = omega (arith, g .begun)
-
-    -- the entry's first byte, and what follows it
-    here : drop at trace ≡ getD trace at 0 ∷ drop (at + 1) trace
-    here = rw (add-one at) (drop-cons trace at 0 some)
-
-    -- how much follows it
-    left : length (drop (at + 1) trace) ≡ length trace - (at + 1)
-    left = length-drop (at + 1) trace
-
     -- the trace ends inside the entry
     pub cut :
         length trace - (at + 1) < recordLength (getD trace at 0)
         → (entries * 256 + 17 ≡ numberOf (ranOf fresh trace (length before))) × (answers ≡ bufferOf (ranOf fresh trace (length before)) before)
-    cut h = over station 17 (rw (fuel, here) (run-cut _ station (getD trace at 0) (drop (at + 1) trace) _ (rw left h)))
+    cut h = over station 17 (left-cut (g .reached) some h)
 
     -- there is no room for its answer
     pub full :
         recordLength (getD trace at 0) ≤ length trace - (at + 1)
         → length answers - out < 8
         → (entries * 256 + 18 ≡ numberOf (ranOf fresh trace (length before))) × (answers ≡ bufferOf (ranOf fresh trace (length before)) before)
-    full h f =
-        over station 18
-        (rw (fuel, here) (run-full _ station (getD trace at 0) (drop (at + 1) trace) _ (rw left h) (omega (arith, g .long))))
+    full h f = over station 18 (left-full (g .reached) some h (omega (arith, g .long, g .place)))
 
     -- the entry is answered: the loop stands at the next one
     pub next :
@@ -209,18 +276,20 @@ module _ {fresh : Station} {trace before answers : List ℕ} {station : Station}
         rw (stored, tail-back out 8 answers bs)
         (record {
           small = g .small;
-          begun = omega (arith, g .begun);
-          within = omega (arith, h);
+          begun = on .begun;
+          within = on .within;
           place = omega (arith, g .place);
           room = omega (arith, long', f);
           long = long' ∙ g .long;
           kept = drop-paste answers out bs 8 (g .room) (lit≤ tt) ∙ sym (drop-drop 8 out answers) ∙ ap (drop 8) (g .kept) ∙ drop-drop 8 out before;
           given = g .given ++ (polled .answer ∷ []);
-          many = length-append (g .given) (polled .answer ∷ []) ∙ ap (λ (k : ℕ). k + 1) (g .many);
           stand = written-one (g .given) (polled .answer) ∙ ap (λ (l : List ℕ). l ++ bs) (g .stand) ∙ sym (take-paste answers out bs 8 (g .room) (lit≤ tt));
-          run = g .run ∙ ap (precededBy (g .given)) more ∙ after-answered (g .given) (polled .answer) _;
+          reached = on;
         })
       where
+        on : Reached fresh trace (length before) (g .given ++ (polled .answer ∷ [])) (polled .station) (at + 1 + n) (entries + 1)
+        on = reached-next (g .reached) some n polled size h (omega (arith, g .long, g .place, f)) e
+
         bs : List ℕ
         bs = bytesOf (answerWord (polled .answer))
 
@@ -231,22 +300,12 @@ module _ {fresh : Station} {trace before answers : List ℕ} {station : Station}
         long' : length (paste answers out bs 8) ≡ length answers
         long' = length-paste answers out bs 8 (omega (arith, f)) (lit≤ tt)
 
-        more :
-            runFrom (length trace - headerLength trace - entries) station (drop at trace) (length before - out)
-            ≡ answered (polled .answer)
-            (runFrom (length trace - headerLength trace - (entries + 1)) (polled .station) (drop (at + 1 + n) trace) (length before - (out + 8)))
-        more =
-            let a : at + 1 + n - (at + 1) ≡ n = omega arith in
-            let b : length before - out - 8 ≡ length before - (out + 8) = omega arith in
-            rw (fuel, here, ← drop-drop n (at + 1) trace, ← b, e, a, size)
-            (run-more _ station (getD trace at 0) (drop (at + 1) trace) (length before - out) (rw (left, ← size) h) (omega (arith, g .long, f)))
-
   -- no byte is left
   pub done :
       length trace ≤ at
       → (entries * 256 ≡ numberOf (ranOf fresh trace (length before))) × (answers ≡ bufferOf (ranOf fresh trace (length before)) before)
   done h =
-      let last = over station 0 (rw (drop-of-length-le trace h) (run-none _ station _)) in
+      let last = over station 0 (left-none (g .reached) h) in
       (sym (add-zero (entries * 256)) ∙ last .0, last .1)
 
 -- the replay of a trace with settings is the run of a fresh station with these and the header's applications

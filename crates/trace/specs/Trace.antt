@@ -11,7 +11,7 @@ use Rattle.settings.specs.declared.Created.the-variants as created
 use Rattle.settings_build.specs.Build.{buildOf}
 use Rattle.codec_answers.specs.declared.Answer.{Answer}
 use Rattle.codec_answers.specs.Answers.{answerWord}
-use Rattle.station.specs.declared.Station.{Station}
+use Rattle.station.specs.Whole.{Station}
 use Rattle.station.specs.Parts.{freshStation}
 use Rattle.trace_headers.specs.declared.Header.{Header}
 use Rattle.trace_headers.specs.Headers.{headerLength, headerOf, headerRefusal}
@@ -114,3 +114,22 @@ written (a ∷ rest) = bytesOf (answerWord a) ++ written rest
 -- what the call leaves in the buffer: the answers, and past them what was there
 unfoldable pub bufferOf : Replay → List ℕ → List ℕ
 bufferOf r before = written (r .answers) ++ drop (8 * length (r .answers)) before
+
+-- A whole replay: what the calls go over that need no room for answers.
+
+-- room for every answer: no entry has fewer bytes than one
+abbrev pub roomFor : List ℕ → ℕ
+roomFor trace = answerLength * length trace
+
+-- the replay of a trace with room for every answer. It ends with 0 or 17 (that it does not end with 18 is `whole-ending` of Laws)
+unfoldable pub wholeReplay : List ℕ → Replay
+wholeReplay trace = replayOf trace (roomFor trace)
+
+-- what a call returns that leaves `needed` bytes of a whole replay, and has room for `room`: a refused header's number, then 18 where
+-- there is no room, both with no entry; else the entries × 256 + the ending number
+unfoldable pub wholeNumberOn : TraceStart → List ℕ → ℕ → ℕ → ℕ
+wholeNumberOn (Accepted s) trace needed room = cond (ltb room needed) 18 (numberOf (wholeReplay trace))
+wholeNumberOn (Refused n) trace needed room = n
+
+unfoldable pub wholeNumber : List ℕ → ℕ → ℕ → ℕ
+wholeNumber trace needed room = wholeNumberOn (startOf trace) trace needed room

@@ -4,6 +4,8 @@
 ghost use mathlib.Core.Path.{_≡_};
 ghost use Prim.Native.Nat.{_+_, _*_, _≤_, _^_};
 ghost use lib.ListN.{length};
+ghost use Rattle.station.specs.Whole.{stationAt};
+ghost use Rattle.station_answer.specs.Answer.{polledAt};
 ghost use Rattle.trace_headers.specs.Headers.{headerLength};
 ghost use Rattle.trace.specs.Entries.{recordLength, entryOf};
 ghost use Rattle.trace.specs.Trace.{settingsOf, settingsAt, ranOf, replayOf, numberOf, bufferOf};
@@ -26,7 +28,7 @@ fn header_settings(header: Header) -> Created
 }
 
 // The settings of a trace. Refusal 17 where it has fewer bytes than its edition's header or more than 2 to the 32.
-fn trace_settings(trace: &[u8]) -> Created
+pub fn trace_settings(trace: &[u8]) -> Created
     ensures { λ r. ⌜ r ≡ settingsAt (now (trace .entry)) ⌝ }
 {
     if trace.len() < trace_headers::header_length(trace) {
@@ -49,27 +51,27 @@ pub fn record_length(kind: u8) -> usize
 }
 
 // An entry: online, offline, passive, or a poll of the record.
-pub fn answer_entry(station: Station, kind: u8, bytes: &[u8]) -> Polled
-    ensures { λ r. ⌜ r ≡ entryOf station kind (now (bytes .entry)) ⌝ }
+pub fn answer_entry(station: Station, links: &mut [u8; 252], kind: u8, bytes: &[u8]) -> Polled
+    ensures { λ r. ⌜ polledAt r (now (links .exit)) ≡ entryOf (stationAt station (now (links .entry))) kind (now (bytes .entry)) ⌝ }
 {
     if kind == 0 {
-        return station_command::set_online(station);
+        return station_command::set_online(station, links);
     }
     if kind == 1 {
-        return station_command::set_offline(station);
+        return station_command::set_offline(station, links);
     }
     if kind == 2 {
-        return station_command::set_passive(station);
+        return station_command::set_passive(station, links);
     }
-    station_poll::poll(station, bytes)
+    station_poll::poll(station, links, bytes)
 }
 
 // Answers the entries after the header one by one, from a fresh station: the tail of the buffer past the answers given is
 // handed on, and the next answer is written at its head.
-fn run(fresh: Station, trace: &[u8], answers: &mut [u8]) -> u64
+fn run(fresh: Station, links: &mut [u8; 252], trace: &[u8], answers: &mut [u8]) -> u64
     requires { ⌜ (headerLength (now trace) ≤ length (now trace)) × (length (now trace) ≤ 2 ^ 32) ⌝ }
-    ensures { λ r. ⌜ r ≡ numberOf (ranOf fresh (now (trace .entry)) (length (now (answers .entry)))) ⌝ }
-    ensures { λ _. ⌜ now (answers .exit) ≡ bufferOf (ranOf fresh (now (trace .entry)) (length (now (answers .entry)))) (now (answers .entry)) ⌝ }
+    ensures { λ r. ⌜ r ≡ numberOf (ranOf (stationAt fresh (now (links .entry))) (now (trace .entry)) (length (now (answers .entry)))) ⌝ }
+    ensures { λ _. ⌜ now (answers .exit) ≡ bufferOf (ranOf (stationAt fresh (now (links .entry))) (now (trace .entry)) (length (now (answers .entry)))) (now (answers .entry)) ⌝ }
 {
     let mut station = fresh;
     let mut at = trace_headers::header_length(trace);
@@ -86,7 +88,7 @@ fn run(fresh: Station, trace: &[u8], answers: &mut [u8]) -> u64
             return entries * 256 + 18;
         }
         let end = begin + length;
-        let polled = answer_entry(station, kind, &trace[begin..end]);
+        let polled = answer_entry(station, links, kind, &trace[begin..end]);
         store(
             &mut answers[out..],
             0,
@@ -111,8 +113,9 @@ pub fn replay_trace(trace: &[u8], answers: &mut [u8]) -> u64
     match created {
         Created::Accepted(p) => {
             let header = trace_headers::read_header(trace);
-            let started = Station::new(p, header.applications);
-            run(started.station, trace, answers)
+            let mut links = [127u8; 252];
+            let started = Station::new(p, header.applications, &mut links);
+            run(started.station, &mut links, trace, answers)
         }
         Created::Refused(refusal) => refusal as u64,
     }

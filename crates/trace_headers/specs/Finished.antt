@@ -6,8 +6,8 @@ use Rattle.bit_times.specs.Times.{baudOf}
 use Rattle.codec_fields.specs.Fields.{zerosOr14, fieldOf, beFrom}
 use Rattle.settings.specs.declared.Parameters.{Parameters}
 use Rattle.settings.specs.declared.Changed.the-variants as changed
-use Rattle.settings.specs.Rules.{refuseBelow, refuseOutside, addressRefusal, baudRefusal, slotBitsRefusal, hsaRefusal, rotationRefusal, roomRefusal, factorsRefusal, applicationsRefusal}
-use Rattle.settings.specs.RuleLaws.{none-refuses}
+use Rattle.settings_rules.specs.Rules.{refuseBelow, refuseOutside, addressRefusal, baudRefusal, slotBitsRefusal, hsaRefusal, rotationRefusal, roomRefusal, factorsRefusal, applicationsRefusal}
+use Rattle.settings_rules.specs.Laws.{none-refuses}
 use Rattle.settings_build.specs.Build.{earlyRefusal, firstRefusal, plainOf, finishOf}
 use Rattle.settings_build.specs.Finish.{site, finished-passes}
 use Rattle.trace_headers.specs.declared.Header.{Header}

@@ -6,10 +6,36 @@ mod proved {
         pub fn amsulfezd_replay_trace(trace: *const u8, trace_len: usize, answers: *mut u8, answers_len: usize) -> u64;
         /// The call that moves a header to the other edition: document 02's P9.
         pub fn amsulfezd_other_edition(header: *const u8, header_len: usize, out: *mut u8, out_len: usize) -> u64;
+        /// The call that says when an address was heard: document 02's P7.
+        pub fn amsulfezd_trace_heard(
+            trace: *const u8,
+            trace_len: usize,
+            address: u8,
+            entry: *mut u8,
+            entry_len: usize,
+        ) -> u64;
         /// The call that reads a frame: document 02's P1.
         pub fn amsulfezd_read_frame(frame: *const u8, frame_len: usize) -> u64;
         /// The call that writes a frame: document 02's P1.
         pub fn amsulfezd_write_frame(word: u32, frame: *mut u8, frame_len: usize) -> u64;
+        /// The call that imports a capture: document 02's P13.
+        pub fn amsulfezd_import_capture(
+            text: *const u8,
+            text_len: usize,
+            entries: *mut u8,
+            entries_len: usize,
+            line: *mut u64,
+            written: *mut u64,
+        ) -> u64;
+        /// The call that exports a capture: document 02's P13.
+        pub fn amsulfezd_export_capture(
+            entries: *const u8,
+            entries_len: usize,
+            text: *mut u8,
+            text_len: usize,
+            entry: *mut u64,
+            written: *mut u64,
+        ) -> u64;
     }
 }
 
@@ -25,6 +51,12 @@ pub fn other_edition(header: &[u8], out: &mut [u8]) -> u64 {
     unsafe { proved::amsulfezd_other_edition(header.as_ptr(), header.len(), out.as_mut_ptr(), out.len()) }
 }
 
+/// Asks the proved call when an address was heard.
+pub fn trace_heard(trace: &[u8], address: u8, entry: &mut [u8]) -> u64 {
+    // Safety: as above.
+    unsafe { proved::amsulfezd_trace_heard(trace.as_ptr(), trace.len(), address, entry.as_mut_ptr(), entry.len()) }
+}
+
 /// Reads a frame by the proved call.
 pub fn read_frame(frame: &[u8]) -> u64 {
     // Safety: as above.
@@ -35,6 +67,20 @@ pub fn read_frame(frame: &[u8]) -> u64 {
 pub fn write_frame(word: u32, frame: &mut [u8]) -> u64 {
     // Safety: as above.
     unsafe { proved::amsulfezd_write_frame(word, frame.as_mut_ptr(), frame.len()) }
+}
+
+/// Imports a capture by the proved call.
+pub fn import_capture(text: &[u8], entries: &mut [u8], line: &mut u64, written: &mut u64) -> u64 {
+    let (to, room) = (entries.as_mut_ptr(), entries.len());
+    // Safety: as above, and each number is lent to the call alone.
+    unsafe { proved::amsulfezd_import_capture(text.as_ptr(), text.len(), to, room, line, written) }
+}
+
+/// Exports a capture by the proved call.
+pub fn export_capture(entries: &[u8], text: &mut [u8], entry: &mut u64, written: &mut u64) -> u64 {
+    let (to, room) = (text.as_mut_ptr(), text.len());
+    // Safety: as above.
+    unsafe { proved::amsulfezd_export_capture(entries.as_ptr(), entries.len(), to, room, entry, written) }
 }
 
 /// A trace of zero bytes but for its first ones, whose pages the machine has to hand out only when they

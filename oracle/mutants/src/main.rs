@@ -1,6 +1,7 @@
 //! Runs generated traces through the oracle and through a copy of it for each planted error, their headers through the call
-//! that moves them, the settings table where the list says so, and the calls on frames for the errors in those, and prints
-//! for each error which run shows it. Status 0: each is shown by the run that the list names.
+//! that moves them, the call that is asked who was heard, the settings table where the list says so, and the calls on frames
+//! and on captures for the errors in those, and prints for each error which run shows it. Status 0: each is shown by the run
+//! that the list names.
 #![forbid(unsafe_code)]
 
 /// The published text writes `log::warn!`.
@@ -9,6 +10,8 @@ extern crate oracle as log;
 #[path = "../list.rs"]
 mod list;
 
+#[path = "../captures.rs"]
+mod captures;
 #[path = "../frames.rs"]
 mod frames;
 
@@ -18,22 +21,27 @@ mod copies {
     include!(concat!(env!("OUT_DIR"), "/index.rs"));
 }
 
+use captures::CAPTURES;
 use frames::FRAMES;
 use list::{By, PLANTED};
+use oracle::captures::compare::{made as made_of_captures, Call};
+use oracle::captures::tries::{parts as parts_of_captures, Try as CaptureTry};
+use oracle::comparison::calls::{first_difference as first_call, shortened, Left as CallLeft, Parts, Try};
 use oracle::comparison::hex;
-use oracle::comparison::run::{first_difference, moves_otherwise, run, Left};
+use oracle::comparison::run::{first_difference, hears_otherwise, moves_otherwise, parts_from_oracle, run, Left};
 use oracle::comparison::shorten::shorten;
-use oracle::frames::compare::{first_difference as first_frame, made, shortened, Left as FrameLeft};
-use oracle::frames::tries::{parts, Try};
+use oracle::frames::compare::made as made_of_frames;
+use oracle::frames::tries::{parts as parts_of_frames, Try as FrameTry};
 use oracle::generator::trace;
 use oracle::settings_table::table;
 use oracle::trace::replay_trace;
 
-/// What is run of a copy: its trace call, the call that moves a header, and its settings table where the error can stand in
-/// that.
+/// What is run of a copy: its trace call, the call that moves a header, the call that is asked who was heard, and its settings
+/// table where the error can stand in that.
 pub struct Runs {
     traces: fn(&[u8], &mut [u8]) -> u64,
     moves: fn(&[u8], &mut [u8]) -> u64,
+    heard: fn(&[u8], u8, &mut [u8]) -> u64,
     table: fn() -> String,
 }
 
@@ -43,9 +51,17 @@ pub struct FrameRuns {
     write: fn(u32, &mut [u8]) -> u64,
 }
 
+/// What is run of a copy of the importer and exporter of captures.
+pub struct CaptureRuns {
+    import: Call,
+    export: Call,
+}
+
 /// The seed of the traces, and how many are tried.
 const SEED: u64 = 1;
 const TRACES: u64 = 20_000;
+/// Of so many of them it is asked who was heard: each is run for every address.
+const ASKED: u64 = 300;
 
 /// A text on one line, for a cell of the table.
 fn cell(text: &str) -> String {
@@ -67,7 +83,7 @@ fn kind_of(expected: &Left, got: &Left) -> &'static str {
     }
 }
 
-/// For each error that traces or moves may show, the trace that does, in words, and how many entries the shortened one has or
+/// For each error that traces, moves or questions may show, the trace that does, in words, and how many entries the shortened one has or
 /// how many bytes were lent.
 fn shown_by_traces() -> Vec<Option<(String, String)>> {
     let mut shown = vec![None; PLANTED.len()];
@@ -77,19 +93,30 @@ fn shown_by_traces() -> Vec<Option<(String, String)>> {
         let expected = run(&replay_trace, &made);
         left.retain(|i| {
             let copy = &copies::RUNS[*i];
-            if PLANTED[*i].by != By::Moves {
+            if !matches!(PLANTED[*i].by, By::Moves | By::Heard) {
                 let got = run(&copy.traces, &made);
                 if let Some(entry) = first_difference(&expected, &got) {
                     let words = format!("trace {}, entry {}: {}", index, entry, kind_of(&expected, &got));
-                    let shortest = shorten(&copy.traces, &made).entries.len();
+                    let differs = |trace: &_| parts_from_oracle(&copy.traces, trace).is_some();
+                    let shortest = shorten(&differs, &made).entries.len();
                     shown[*i] = Some((words, format!("{} entries", shortest)));
                 }
             }
-            if PLANTED[*i].by != By::Traces {
+            if !matches!(PLANTED[*i].by, By::Traces | By::Heard) {
                 if let Some(found) = moves_otherwise(&copy.moves, &made) {
                     let kind = kind_of(&found.expected, &found.got).replace("answers", "writes");
                     let words = format!("trace {}, room for {}: {}", index, found.expected.buffer.len(), kind);
                     shown[*i] = Some((words, format!("{} bytes lent", found.lent.len())));
+                }
+            }
+            // an error that is hidden and stands elsewhere is hidden from the questions by the same reason
+            if PLANTED[*i].file == "heard" && index < ASKED {
+                if let Some(found) = hears_otherwise(&copy.heard, &made) {
+                    let kind = kind_of(&found.expected, &found.got);
+                    let room = found.expected.buffer.len();
+                    let words = format!("trace {}, asked for {}, room for {}: {}", index, found.address, room, kind);
+                    let differs = |trace: &_| found.differs_on(&copy.heard, trace);
+                    shown[*i] = Some((words, format!("{} entries", shorten(&differs, &made).entries.len())));
                 }
             }
             shown[*i].is_none()
@@ -105,56 +132,89 @@ fn shown_by_table(table: &str, copy: &Runs) -> Option<String> {
     Some(format!("line {}", line + 1))
 }
 
-/// So many frames are made at random.
-const AT_RANDOM: u64 = 100_000;
+/// So many frames, and so many texts and lists of entries, are made at random.
+const FRAMES_AT_RANDOM: u64 = 100_000;
+const CAPTURES_AT_RANDOM: u64 = 20_000;
 
-/// The call that shows an error in the reader or the writer of frames, in words.
-fn shown_by_frames(copy: &FrameRuns) -> Option<String> {
-    let quiet = |tries: &[Try]| std::panic::catch_unwind(|| made(copy.read, copy.write, tries)).ok();
+/// The part of what is tried that shows an error in calls that know no station, and the shortest call that does.
+fn shown_by_calls<T: Try + std::panic::RefUnwindSafe>(
+    parts: Parts<T>,
+    made: &(dyn Fn(&[T]) -> Vec<CallLeft> + std::panic::RefUnwindSafe),
+) -> Option<(&'static str, T)> {
+    let quiet = |tries: &[T]| std::panic::catch_unwind(|| made(tries)).ok();
     // where one panics, each is made alone
-    let calls = |tries: &[Try]| -> Vec<FrameLeft> {
+    let calls = |tries: &[T]| -> Vec<CallLeft> {
         quiet(tries).unwrap_or_else(|| tries.chunks(1).map(|one| quiet(one)?.pop()?).collect())
     };
-    parts(SEED, AT_RANDOM).into_iter().find_map(|(name, tries)| {
-        let one = first_frame(&calls, tries, &mut |_, _| ()).err()?;
-        Some(match shortened(&calls, &one) {
-            Try::Read(frame) if frame.is_empty() => format!("{} | no byte", name),
-            Try::Read(frame) => format!("{} | `{}`", name, hex(&frame)),
-            Try::Write(word, buffer) => format!("{} | word `{:08x}`, room {}", name, word, buffer.len()),
-        })
+    parts.into_iter().find_map(|(name, tries)| {
+        let one = first_call(&calls, tries, &mut |_, _| ()).err()?;
+        Some((name, shortened(&calls, &one)))
     })
 }
 
-/// Prints the table of the errors in the reader and the writer of frames; gives how many were not found.
-fn frame_table() -> usize {
+/// The call that shows an error in the reader or the writer of frames, in words.
+fn shown_by_frames(copy: &FrameRuns) -> Option<String> {
+    let made = |tries: &[FrameTry]| made_of_frames(copy.read, copy.write, tries);
+    let (name, one) = shown_by_calls(parts_of_frames(SEED, FRAMES_AT_RANDOM), &made)?;
+    Some(match one {
+        FrameTry::Read(frame) if frame.is_empty() => format!("{} | no byte", name),
+        FrameTry::Read(frame) => format!("{} | `{}`", name, hex(&frame)),
+        FrameTry::Write(word, buffer) => format!("{} | word `{:08x}`, room {}", name, word, buffer.len()),
+    })
+}
+
+/// The call that shows an error in the importer or the exporter of captures, in words.
+fn shown_by_captures(copy: &CaptureRuns) -> Option<String> {
+    let made = |tries: &[CaptureTry]| made_of_captures(copy.import, copy.export, tries);
+    let (name, one) = shown_by_calls(parts_of_captures(SEED, CAPTURES_AT_RANDOM), &made)?;
+    let (bytes, room) = match &one {
+        CaptureTry::Import(bytes, buffer) => {
+            let text =
+                bytes.iter().flat_map(|byte| std::ascii::escape_default(*byte)).map(char::from).collect::<String>();
+            (text, buffer.len())
+        }
+        CaptureTry::Export(bytes, buffer) => (hex(bytes), buffer.len()),
+    };
+    let lent = if bytes.is_empty() { "nothing".to_string() } else { format!("`{}`", bytes.replace('|', "\\|")) };
+    Some(format!("{} | {}, room {}", name, lent, room))
+}
+
+/// Prints the table of the errors in calls that know no station; gives how many were not found.
+fn table_of<R>(what: &str, planted: &[(&str, &str)], copies: &[R], shown: fn(&R) -> Option<String>) -> usize {
     println!("| No. | Text | Planted | Run | Shown by |");
     println!("|---|---|---|---|---|");
     let mut missed = 0;
-    for (i, ((old, new), copy)) in FRAMES.iter().zip(copies::FRAME_RUNS).enumerate() {
-        let shown = shown_by_frames(copy).unwrap_or_else(|| {
+    for (i, ((old, new), copy)) in planted.iter().zip(copies).enumerate() {
+        let shown = shown(copy).unwrap_or_else(|| {
             missed += 1;
             "NOT FOUND |".to_string()
         });
         println!("| {} | {} | {} | {} |", i + 1, cell(old), cell(new), shown);
     }
     println!();
-    println!("{} planted errors in frames: {} found, {} missed.", FRAMES.len(), FRAMES.len() - missed, missed);
+    println!("{} planted errors in {}: {} found, {} missed.", planted.len(), what, planted.len() - missed, missed);
     missed
 }
 
 fn main() {
     let words: Vec<String> = std::env::args().skip(1).collect();
-    if words == ["frames"] {
-        std::panic::set_hook(Box::new(|_| {}));
-        std::process::exit(i32::from(frame_table() > 0));
-    }
-    if std::env::args().len() > 1 {
-        eprintln!("mutants: usage: mutants [frames]");
-        std::process::exit(2);
-    }
     std::panic::set_hook(Box::new(|_| {}));
+    let missed = match words.iter().map(String::as_str).collect::<Vec<_>>()[..] {
+        [] => trace_table(),
+        ["frames"] => table_of("frames", FRAMES, copies::FRAME_RUNS, shown_by_frames),
+        ["captures"] => table_of("captures", CAPTURES, copies::CAPTURE_RUNS, shown_by_captures),
+        _ => {
+            eprintln!("mutants: usage: mutants [frames | captures]");
+            std::process::exit(2);
+        }
+    };
+    std::process::exit(i32::from(missed > 0));
+}
+
+/// Prints the table of the errors in the station, its traces, headers and settings; gives how many were not found.
+fn trace_table() -> usize {
     let table = table();
-    let (mut by_traces, mut by_moves, mut by_table, mut explained, mut missed) = (0, 0, 0, 0, 0);
+    let (mut by_traces, mut by_moves, mut by_heard, mut by_table, mut explained, mut missed) = (0, 0, 0, 0, 0, 0);
     println!("| No. | File | Text | Planted | Run | Shown by | Shortest |");
     println!("|---|---|---|---|---|---|---|");
     for (i, (error, shown)) in PLANTED.iter().zip(shown_by_traces()).enumerate() {
@@ -171,6 +231,10 @@ fn main() {
                 by_moves += 1;
                 format!("moves | {} | {}", words, shortest)
             }
+            (By::Heard, Some((words, shortest))) => {
+                by_heard += 1;
+                format!("questions | {} | {}", words, shortest)
+            }
             (By::SettingsTable, _) => match shown_by_table(&table, &copies::RUNS[i]) {
                 Some(line) => {
                     by_table += 1;
@@ -184,20 +248,22 @@ fn main() {
             }
             (By::Traces, None) => missing("NOT FOUND by traces".to_string()),
             (By::Moves, None) => missing("NOT FOUND by moves".to_string()),
+            (By::Heard, None) => missing("NOT FOUND by questions".to_string()),
             (By::Nothing(_), Some((words, _))) => missing(format!("{}, though said to be hidden", words)),
         };
         println!("| {} | `{}.rs` | {} | {} | {} |", i + 1, error.file, cell(error.old), cell(error.new), cells);
     }
     println!();
     println!(
-        "{} planted errors: {} found by traces of seed {}, {} by moves of their headers, {} by the settings table, {} explained, {} missed.",
+        "{} planted errors: {} found by traces of seed {}, {} by moves of their headers, {} by questions who was heard, {} by the settings table, {} explained, {} missed.",
         PLANTED.len(),
         by_traces,
         SEED,
         by_moves,
+        by_heard,
         by_table,
         explained,
         missed
     );
-    std::process::exit(i32::from(missed > 0));
+    missed
 }

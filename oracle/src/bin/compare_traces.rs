@@ -25,7 +25,10 @@ fn status(words: &[String]) -> i32 {
                 Ok(program) => {
                     let replay_trace = |trace: &[u8], answers: &mut [u8]| program.replay_trace(trace, answers);
                     let other_edition = |header: &[u8], out: &mut [u8]| program.other_edition(header, out);
-                    let calls = Calls { replay_trace: &replay_trace, other_edition: &other_edition };
+                    let trace_heard =
+                        |trace: &[u8], address: u8, entry: &mut [u8]| program.trace_heard(trace, address, entry);
+                    let calls =
+                        Calls { replay_trace: &replay_trace, other_edition: &other_edition, trace_heard: &trace_heard };
                     compare::main(USAGE, calls, &[seed.clone(), count.clone()])
                 }
                 Err(error) => {

@@ -1,7 +1,9 @@
-//! Runs generated traces through the oracle and through another `replay_trace`, and their headers through `other_edition` of
-//! both, and holds the number and every byte of the buffer to each other.
+//! Runs generated traces through the oracle and through another `replay_trace`, their headers through `other_edition` of both,
+//! asks `trace_heard` of both for every address, and holds the number and every byte of the buffer to each other.
 
-use super::run::{first_difference, moves_otherwise, parts_from_oracle, run, Call, Calls, Move};
+use super::run::{
+    first_difference, hears_otherwise, moves_otherwise, parts_from_oracle, run, Ask, Call, Calls, Move, Question,
+};
 use super::shorten::shorten;
 use super::words;
 use crate::coverage::Met;
@@ -52,6 +54,26 @@ fn describe_move(found: &Move) -> String {
     )
 }
 
+/// What both calls left, on a trace of which an address was heard otherwise.
+fn describe_question(ask: Ask, trace: &Trace, found: Question) -> String {
+    let found = hears_otherwise(ask, trace).unwrap_or(found);
+    format!(
+        "  the shortest trace found that differs, {} entries:
+    {}
+  asked for address {}, a buffer of {} bytes filled with {:02x}; left in it and returned:
+    the oracle:  {}
+    the other:   {}
+",
+        trace.entries.len(),
+        words::hex(&trace.bytes()),
+        found.address,
+        found.expected.buffer.len(),
+        trace.fill,
+        words::heard(&found.expected),
+        words::heard(&found.got),
+    )
+}
+
 /// At most this many points that were never reached are named.
 const NAMED: usize = 20;
 
@@ -65,13 +87,19 @@ pub fn compare_traces(calls: Calls, seed: u64, count: u64) -> (String, bool) {
     for index in 0..count {
         let made = trace(seed, index);
         if let Some(entry) = parts_from_oracle(replay, &made) {
-            let shortest = describe(replay, &shorten(replay, &made));
+            let shortest = describe(replay, &shorten(&|trace| parts_from_oracle(replay, trace).is_some(), &made));
             let at = format!("seed {}, trace {}, entry {}", seed, index, entry);
             return (format!("traces: {}: the answers differ\n{}", at, shortest), false);
         }
         if let Some(found) = moves_otherwise(calls.other_edition, &made) {
             let at = format!("seed {}, trace {}", seed, index);
             return (format!("traces: {}: the header moves otherwise\n{}", at, describe_move(&found)), false);
+        }
+        if let Some(found) = hears_otherwise(calls.trace_heard, &made) {
+            let shortest = shorten(&|trace| found.differs_on(calls.trace_heard, trace), &made);
+            let said = describe_question(calls.trace_heard, &shortest, found);
+            let at = format!("seed {}, trace {}", seed, index);
+            return (format!("traces: {}: an address was heard otherwise\n{}", at, said), false);
         }
         met.see(&made);
     }
@@ -88,6 +116,7 @@ pub fn compare_traces(calls: Calls, seed: u64, count: u64) -> (String, bool) {
         say(format!("all {} coverage points reached", points.size()));
     }
     say(format!("their headers moved to the other edition and back, {} calls, 0 differ", met.moves));
+    say(format!("each asked for every address that was heard or not, {} calls, 0 differ", met.asked));
     say(format!("seed {}, {} traces, {} entries, 0 differ", seed, met.traces, met.entries));
     let reached = missed.is_empty() || count < ENOUGH;
     (said, reached && points.unnamed().is_empty())

@@ -1,10 +1,13 @@
 //! The calls in another process: a program that reads calls from its standard input and writes what each left to its
 //! standard output. So the proved library is compared where this machine cannot link it but can run it.
 //!
-//! A call is a byte that says which, 0 for `replay_trace` and 1 for `other_edition`, the lengths of the bytes that are lent
-//! and of the buffer, 8 bytes each, most significant first, then these bytes and the buffer. What it left is the number, 8 bytes, a byte that is 1 if nothing but the buffer was changed, and the buffer.
+//! A call is a byte that says which, 0 for `replay_trace`, 1 for `other_edition` and 2 for `trace_heard`, a byte that is the
+//! address asked for and 0 in the others, the lengths of the bytes that are lent and of the buffer, 8 bytes each, most
+//! significant first, then these bytes and the buffer. What it left is the number, 8 bytes, a byte that is 1 if nothing but the
+//! buffer was changed, and the buffer.
 
 use crate::editions::other_edition;
+use crate::heard::trace_heard;
 use crate::trace::replay_trace;
 use std::cell::RefCell;
 use std::io::{Error, ErrorKind, Read, Result, Write};
@@ -14,6 +17,7 @@ use std::process::{Child, Command, Stdio};
 /// Which call is made.
 const REPLAY_TRACE: u8 = 0;
 const OTHER_EDITION: u8 = 1;
+const TRACE_HEARD: u8 = 2;
 
 /// A program with its arguments, and the process that runs it. After a failure it is started anew, so that a trace that
 /// ends it can be made short.
@@ -31,16 +35,21 @@ impl Program {
 
     /// Has the program replay a trace.
     pub fn replay_trace(&self, trace: &[u8], answers: &mut [u8]) -> u64 {
-        self.make(REPLAY_TRACE, trace, answers)
+        self.make([REPLAY_TRACE, 0], trace, answers)
     }
 
     /// Has the program move a header.
     pub fn other_edition(&self, header: &[u8], out: &mut [u8]) -> u64 {
-        self.make(OTHER_EDITION, header, out)
+        self.make([OTHER_EDITION, 0], header, out)
+    }
+
+    /// Asks the program who was heard.
+    pub fn trace_heard(&self, trace: &[u8], address: u8, entry: &mut [u8]) -> u64 {
+        self.make([TRACE_HEARD, address], trace, entry)
     }
 
     /// Has the program make the call. That it does not answer is a panic, which the comparison counts as a difference.
-    fn make(&self, which: u8, lent: &[u8], buffer: &mut [u8]) -> u64 {
+    fn make(&self, which: [u8; 2], lent: &[u8], buffer: &mut [u8]) -> u64 {
         let mut running = self.running.borrow_mut();
         let mut child = running.take().unwrap_or_else(|| start(&self.words).expect("it started before"));
         match call(&mut child, which, lent, buffer) {
@@ -77,9 +86,9 @@ pub(crate) fn end(mut child: Child) {
     let _ = child.wait();
 }
 
-fn call(child: &mut Child, which: u8, lent: &[u8], buffer: &mut [u8]) -> Result<u64> {
+fn call(child: &mut Child, which: [u8; 2], lent: &[u8], buffer: &mut [u8]) -> Result<u64> {
     let lengths = [lent.len(), buffer.len()].map(|length| (length as u64).to_be_bytes());
-    let said = [&[which], &lengths.concat()[..], lent, buffer].concat();
+    let said = [&which, &lengths.concat()[..], lent, buffer].concat();
     child.stdin.as_mut().expect("its input").write_all(&said)?;
     let output = child.stdout.as_mut().expect("its output");
     let (mut number, mut kept) = ([0; 8], [0]);
@@ -95,9 +104,9 @@ fn call(child: &mut Child, which: u8, lent: &[u8], buffer: &mut [u8]) -> Result<
 /// Answers calls from standard input by the oracle until it ends: what such a program does.
 pub fn serve() -> Result<()> {
     let (mut input, mut output) = (std::io::stdin().lock(), std::io::stdout().lock());
-    let mut head = [0; 17];
+    let mut head = [0; 18];
     while input.read_exact(&mut head).is_ok() {
-        let (which, lengths) = (head[0], &head[1..]);
+        let (which, address, lengths) = (head[0], head[1], &head[2..]);
         let length = |half: &[u8]| u64::from_be_bytes(half.try_into().expect("8 bytes")) as usize;
         let (mut lent, mut buffer) = (vec![0; length(&lengths[..8])], vec![0; length(&lengths[8..])]);
         input.read_exact(&mut lent)?;
@@ -105,6 +114,7 @@ pub fn serve() -> Result<()> {
         let number = match which {
             REPLAY_TRACE => replay_trace(&lent, &mut buffer),
             OTHER_EDITION => other_edition(&lent, &mut buffer),
+            TRACE_HEARD => trace_heard(&lent, address, &mut buffer),
             _ => return Err(Error::new(ErrorKind::Other, "there is no such call")),
         };
         output.write_all(&[&number.to_be_bytes()[..], &[1], &buffer].concat())?;

@@ -1,22 +1,29 @@
 //! Makes a call on a trace or a header, and finds where what it left parts from what the oracle's call left.
 
+use crate::coverage::heard::questions;
 use crate::coverage::moves::{lent, ROOMS};
 use crate::editions::other_edition;
+use crate::heard::{asked, summarize, trace_heard};
 use crate::trace::{replay_trace, Trace, ANSWER};
 use std::panic::{catch_unwind, AssertUnwindSafe};
 
 /// A call that is lent bytes to read and a buffer to write.
 pub type Call<'a> = &'a dyn Fn(&[u8], &mut [u8]) -> u64;
 
+/// A call that is lent a trace to read, an address, and a buffer to write.
+pub type Ask<'a> = &'a dyn Fn(&[u8], u8, &mut [u8]) -> u64;
+
 /// The calls that are compared.
 #[derive(Clone, Copy)]
 pub struct Calls<'a> {
     pub replay_trace: Call<'a>,
     pub other_edition: Call<'a>,
+    pub trace_heard: Ask<'a>,
 }
 
 /// The oracle's own.
-pub const ORACLE: Calls = Calls { replay_trace: &replay_trace, other_edition: &other_edition };
+pub const ORACLE: Calls =
+    Calls { replay_trace: &replay_trace, other_edition: &other_edition, trace_heard: &trace_heard };
 
 /// What a call left: the number it returned, `None` if it panicked, and the whole buffer.
 #[derive(Debug, Clone, PartialEq, Eq)]
@@ -87,4 +94,35 @@ pub fn moves_otherwise(call: Call, trace: &Trace) -> Option<Move> {
         }
     }
     None
+}
+
+/// A question who was heard on which a call parts from the oracle.
+pub struct Question {
+    pub address: u8,
+    pub expected: Left,
+    pub got: Left,
+}
+
+impl Question {
+    /// Whether the call parts from the oracle on another trace, asked the same.
+    pub fn differs_on(&self, ask: Ask, trace: &Trace) -> bool {
+        let asked = (self.address, self.expected.buffer.len());
+        first_question(ask, trace, &[asked]).is_some()
+    }
+}
+
+/// The first question on this trace on which a call parts from the oracle, if it does.
+pub fn hears_otherwise(ask: Ask, trace: &Trace) -> Option<Question> {
+    first_question(ask, trace, &questions())
+}
+
+/// The same of these addresses, each with its room. The oracle runs the trace once.
+fn first_question(ask: Ask, trace: &Trace, questions: &[(u8, usize)]) -> Option<Question> {
+    let bytes = trace.bytes();
+    let run = summarize(&bytes);
+    questions.iter().find_map(|&(address, room)| {
+        let expected = run_on(&|_, entry| asked(&run, address, entry), &bytes, room, trace.fill);
+        let got = run_on(&|trace, entry| ask(trace, address, entry), &bytes, room, trace.fill);
+        (expected != got).then_some(Question { address, expected, got })
+    })
 }

@@ -1,6 +1,5 @@
 //! Makes a trace that differs as short as it can be.
 
-use super::run::{parts_from_oracle, Call};
 use crate::records::{Decision, PollRecord};
 use crate::trace::{Header, Trace, ANSWER};
 use std::time::{Duration, Instant};
@@ -9,9 +8,9 @@ use std::time::{Duration, Instant};
 const SHORTENING: Duration = Duration::from_secs(20);
 
 /// A trace that still differs, with as few entries, telegrams and decisions as were found.
-pub fn shorten(replay: Call, found: &Trace) -> Trace {
+pub fn shorten(still: &dyn Fn(&Trace) -> bool, found: &Trace) -> Trace {
     let started = Instant::now();
-    let differs = |trace: &Trace| started.elapsed() < SHORTENING && parts_from_oracle(replay, trace).is_some();
+    let differs = |trace: &Trace| started.elapsed() < SHORTENING && still(trace);
     // a buffer with room for all, if the room is not what matters
     let roomy = |trace: &Trace| Trace { room: ANSWER * trace.entries.len(), ..trace.clone() };
     let keep_room = !differs(&roomy(found));

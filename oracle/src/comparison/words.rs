@@ -51,6 +51,11 @@ pub fn moved(left: &Left) -> String {
     format!("{}: {}", hex(&left.buffer), returned(left, "bytes written, number"))
 }
 
+/// What a call that was asked for an address left.
+pub fn heard(left: &Left) -> String {
+    format!("{}: {}", hex(&left.buffer), returned(left, "entries, ending"))
+}
+
 /// The number that the call returned, in its two parts with these words between them.
 fn returned(left: &Left, between: &str) -> String {
     let number = match left.number {

@@ -2,6 +2,7 @@
 //! did. What traces have to reach is named here; a pair of states that is said to be out of reach and is met is an error.
 
 use super::events::{events, EVENTS};
+use super::heard::{self, Hearing};
 use super::moves;
 use super::points::Points;
 use super::poll::{Poll, WALKS_ALONE, WITNESSED};
@@ -164,10 +165,11 @@ fn pairs<A: ToString, B: ToString>(first: &[A], link: &str, second: &[B]) -> Vec
 /// What was met.
 pub struct Met {
     points: Points,
-    /// Traces and entries walked, and calls that move a header.
+    /// Traces and entries walked, calls that move a header, and calls that ask who was heard.
     pub traces: u64,
     pub entries: u64,
     pub moves: u64,
+    pub asked: u64,
 }
 
 impl Default for Met {
@@ -189,6 +191,7 @@ impl Default for Met {
         points.group("command or transmitting", pairs(&["online", "offline", "transmitting"], " in ", &STATES));
         refusals::name_points(&mut points);
         moves::name_points(&mut points);
+        heard::name_points(&mut points);
         points.group("entries behind", ["16 bytes", "14 bytes"]);
         points.group("ending", ENDINGS);
         points.group("answer buffer", ["all used", "bytes left over", "eight or more left over"]);
@@ -212,7 +215,7 @@ impl Default for Met {
         points.group("gap walk alone", WALKS_ALONE);
         points.group("reply to a gap question alone", pairs(&STATION_TYPES, ", ", &OK));
         points.group("event", CLOCKS.iter().chain(&EVENTS));
-        Met { points, traces: 0, entries: 0, moves: 0 }
+        Met { points, traces: 0, entries: 0, moves: 0, asked: 0 }
     }
 }
 
@@ -222,6 +225,7 @@ impl Met {
         self.traces += 1;
         let bytes = trace.bytes();
         self.moves += moves::see(&mut self.points, trace);
+        self.asked += heard::see(&mut self.points, trace);
         refusals::see_start(&mut self.points, &bytes);
         let header = match Header::read(&bytes) {
             Some(header) if header.refusal().is_some() => return,
@@ -236,6 +240,7 @@ impl Met {
         self.points.hit("applications", header.applications);
         let mut runner = Runner::new(&header);
         let (mut room, mut clock, mut company) = (trace.room, None, Company::default());
+        let mut hearing = Hearing::default();
         if rest.is_empty() {
             return self.points.hit("ending", "0: no entry");
         }
@@ -261,7 +266,7 @@ impl Met {
                 ends(trace.room == 0, "18: a buffer of no bytes");
                 return ends(room > 0, "18: 1 to 7 bytes left");
             }
-            self.see_entry(&header, &mut runner, entry, &mut clock);
+            self.see_entry(&header, &mut runner, entry, &mut clock, &mut hearing);
             for case in company.after(&runner) {
                 self.points.hit("company", COMPANY[case]);
             }
@@ -277,7 +282,14 @@ impl Met {
         self.points.hit("answer buffer", left);
     }
 
-    fn see_entry(&mut self, header: &Header, runner: &mut Runner, entry: Entry, clock: &mut Option<u64>) {
+    fn see_entry(
+        &mut self,
+        header: &Header,
+        runner: &mut Runner,
+        entry: Entry,
+        clock: &mut Option<u64>,
+        hearing: &mut Hearing,
+    ) {
         self.entries += 1;
         let was = runner.station.watch();
         let state = STATES[usize::from(was.state)];
@@ -294,11 +306,13 @@ impl Met {
             }
             Entry::Online => return self.points.hit("command or transmitting", format_args!("online in {}", state)),
             Entry::Offline | Entry::Passive => {
-                return self.points.hit("command or transmitting", format_args!("offline in {}", state))
+                hearing.offline();
+                return self.points.hit("command or transmitting", format_args!("offline in {}", state));
             }
             Entry::Poll(bytes) => bytes,
         };
         let record = PollRecord::decode(runner.applications, bytes).expect("an accepted record");
+        hearing.see(&mut self.points, header.address, was.state, &record, &answer);
         let earlier = clock.replace(record.clock);
         let places = [
             earlier.map_or(false, |earlier| record.clock < earlier),

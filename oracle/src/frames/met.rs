@@ -3,6 +3,7 @@
 
 use super::frame::{check_byte, END, LENGTHS, SC, SD1, SD2, SD3, SD4, STATUS_REQUEST};
 use super::tries::Try;
+use crate::comparison::calls::{Made, Meets};
 use crate::coverage::{stray_points, Points};
 use crate::records::{split, Telegram, TELEGRAM};
 use std::collections::HashMap;
@@ -83,14 +84,6 @@ fn faults(frame: &[u8], body: std::ops::Range<usize>, checked: bool) -> Vec<u8> 
 impl Met {
     fn hit(&mut self, group: &'static str, point: Point) {
         *self.counts.entry((group, point)).or_insert(0) += 1;
-    }
-
-    /// Takes note of a call and of what the oracle returned.
-    pub fn see(&mut self, one: &Try, returned: u64) {
-        match one {
-            Try::Read(frame) => self.see_frame(frame, returned),
-            Try::Write(word, buffer) => self.see_word(*word, buffer.len(), returned),
-        }
     }
 
     fn see_frame(&mut self, frame: &[u8], returned: u64) {
@@ -239,9 +232,17 @@ impl Met {
             self.hit(RESPONSE_WRITTEN, Numbered("code", (16 * station_type + status) as usize));
         }
     }
+}
 
-    /// All points by name, and how often each was met.
-    pub fn points(&self) -> Points {
+impl Meets<Try> for Met {
+    fn see(&mut self, one: &Try, made: &Made) {
+        match one {
+            Try::Read(frame) => self.see_frame(frame, made.returned),
+            Try::Write(word, buffer) => self.see_word(*word, buffer.len(), made.returned),
+        }
+    }
+
+    fn points(&self) -> Points {
         let mut points = Points::default();
         let starts = [SD1, SD2, SD3, SD4, SC].map(usize::from);
         let names = ["SD1", "SD2", "SD3", "SD4", "SC"].map(Said);

@@ -1,6 +1,7 @@
 //! What is tried: every short frame over an alphabet, longer frames whole and damaged, and words with room to write them.
 
 use super::frame::{check_byte, framed, END, LENGTHS, SC, SD1, SD2, SD3, SD3_DATA, SD4, STATUS_REQUEST};
+use crate::comparison::calls::Parts;
 use crate::generator::Seed;
 use crate::records::{join, TELEGRAM};
 
@@ -28,7 +29,7 @@ const CODES: [u8; 14] = [0x00, 0x0f, 0x10, 0x30, 0x3f, 0x40, 0x48, STATUS_REQUES
 const FILL: u8 = 0xa5;
 
 /// All that is tried, in parts with their names; so many frames, and a tenth as many words, are made at random.
-pub fn parts(seed: u64, count: u64) -> Vec<(&'static str, Box<dyn Iterator<Item = Try>>)> {
+pub fn parts(seed: u64, count: u64) -> Parts<Try> {
     vec![
         ("words to write", Box::new(words().chain((0..count / 10).map(move |i| word_at_random(seed, i))))),
         ("frames of each length and damage", Box::new(in_ranges().chain(each_damage()).map(Try::Read))),

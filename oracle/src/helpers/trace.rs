@@ -222,20 +222,25 @@ pub fn replay_trace(trace: &[u8], answers: &mut [u8]) -> u64 {
     entries * 256 + u64::from(ending)
 }
 
+/// The header of a trace that is accepted, and what follows it; or the number that the trace ends with before any entry.
+pub fn start(trace: &[u8]) -> Result<(Header, &[u8]), u8> {
+    if trace.len() as u64 > LONGEST {
+        return Err(17);
+    }
+    let header = Header::read(trace).ok_or(17)?;
+    match header.refusal() {
+        Some(number) => Err(number),
+        None => Ok((header, &trace[Edition::of(trace).length()..])),
+    }
+}
+
 /// The entries answered, and the ending number.
 fn replay(trace: &[u8], answers: &mut [u8]) -> (u64, u8) {
-    if trace.len() as u64 > LONGEST {
-        return (0, 17);
-    }
-    let header = match Header::read(trace) {
-        Some(header) => header,
-        None => return (0, 17),
+    let (header, mut rest) = match start(trace) {
+        Ok(begun) => begun,
+        Err(number) => return (0, number),
     };
-    if let Some(number) = header.refusal() {
-        return (0, number);
-    }
     let mut runner = Runner::new(&header);
-    let mut rest = &trace[Edition::of(trace).length()..];
     let mut room = answers;
     let mut answered = 0;
     while !rest.is_empty() {

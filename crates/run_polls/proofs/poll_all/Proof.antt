@@ -5,11 +5,11 @@ use Rattle.run_polls.proofs.poll_all.Statement.{statement}
 use Rattle.run_polls.proofs.poll_all.Tie as tie
 
 abbrev Inv-loop : tie.InvT-loop
-Inv-loop s polled₀ at₀ polled at = 2 ≤ at
+Inv-loop links₀ s polled₀ at₀ links polled at = 2 ≤ at
 
 -- what is left of the input
 abbrev μ-loop : tie.MeasureT-loop
-μ-loop s polled₀ at₀ polled at = length s - at
+μ-loop links₀ s polled₀ at₀ links polled at = length s - at
 
 pub poll-all-spec : {M : Type 1} → statement M
 poll-all-spec =

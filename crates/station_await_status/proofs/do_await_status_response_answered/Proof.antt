@@ -8,4 +8,4 @@ unfolding statusAnswered
 do-await-status-response-answered-spec =
     tie.close
     (tie.spec
-    (λ c. refl))
+    (λ c. λ l. refl))

@@ -23,6 +23,6 @@ do-await-status-response-received-spec =
     (λ c. simp (c .before .enum-told .given .1, ← c .do-await-status-response-unexpected .ensures))
     (λ c. simp (c .before .enum-told2 .given .1, ← c .do-await-status-response-unexpected2 .ensures))
     (λ c. simp (c .before .enum-told3 .given .1, ← c .do-await-status-response-unexpected3 .ensures))
-    (λ c. simp (c .before .before .before .before .before .telegram .given .1, eq-eqb _ _ (c .before .before .before .if1 .taken), eq-eqb _ _ (c .before .before .if2 .taken), ← c .before .do-await-status-response-ring .ensures, ← c .do-await-status-response-answered .ensures))
+    (λ c. simp (c .before .before .before .before .before .before .telegram .given .1, eq-eqb _ _ (c .before .before .before .before .if1 .taken), eq-eqb _ _ (c .before .before .before .if2 .taken), ← c .before .do-await-status-response-ring .ensures, ← c .do-await-status-response-answered .ensures))
     (λ c. simp (c .before .before .before .before .telegram .given .1, eq-eqb _ _ (c .before .before .if1 .taken), ne-eqb _ _ (c .before .if2 .left), ← c .do-await-status-response-unexpected4 .ensures))
     (λ c. simp (c .before .before .before .telegram .given .1, ne-eqb _ _ (c .before .if1 .left), ← c .do-await-status-response-unexpected5 .ensures)))

@@ -18,5 +18,5 @@ do-await-status-response-ring-spec =
     (λ c κs. search needs)
     (λ c. simp (eq-eqb _ _ (c .before .before .if1 .left), c .enum-told .given .1))
     (λ c. simp (eq-eqb _ _ (c .before .before .if1 .left), c .enum-told2 .given .1))
-    (λ c. simp (eq-eqb _ _ (c .before .before .before .if1 .left), c .before .enum-told3 .given .1, ← c .set-next-station .ensures))
-    (λ c. simp (eq-eqb _ _ (c .before .before .before .if1 .left), c .before .enum-told4 .given .1, ← c .set-next-station2 .ensures)))
+    (λ c. simp (eq-eqb _ _ (c .before .before .before .before .if1 .left), c .before .before .enum-told3 .given .1, ← c .set-next-station .ensures))
+    (λ c. simp (eq-eqb _ _ (c .before .before .before .before .if1 .left), c .before .before .enum-told4 .given .1, ← c .set-next-station2 .ensures)))

@@ -9,4 +9,4 @@ do-await-status-response-unexpected-spec =
     tie.close
     (tie.spec
     (λ c κs. search needs)
-    (λ c. simp (← c .transition-active-idle .ensures)))
+    (λ c. λ l. simp (← c .transition-active-idle .ensures)))

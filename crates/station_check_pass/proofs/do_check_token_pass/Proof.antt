@@ -10,6 +10,6 @@ do-check-token-pass-spec =
     (tie.spec
     (λ c κs. search needs)
     (λ c κs. search needs)
-    (λ c. simp (← c .before .before .before .check-slot-expired .ensures, c .before .if1 .taken, ← c .do-check-token-pass-resend .ensures))
+    (λ c. simp (← c .before .before .before .before .check-slot-expired .ensures, c .before .before .if1 .taken, ← c .do-check-token-pass-resend .ensures))
     (λ c κs. search needs)
-    (λ c. simp (← c .before .before .before .check-slot-expired .ensures, c .before .if1 .left, ← c .do-check-token-pass-received .ensures)))
+    (λ c. simp (← c .before .before .before .before .check-slot-expired .ensures, c .before .before .if1 .left, ← c .do-check-token-pass-received .ensures)))

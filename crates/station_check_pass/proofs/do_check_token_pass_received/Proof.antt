@@ -12,6 +12,6 @@ do-check-token-pass-received-spec =
     (λ c κs. search needs)
     (λ c κs. search needs)
     (λ c κs. search needs)
-    (λ c. simp (lt-ltb _ _ (c .before .before .before .if1 .taken), ← c .before .before .transition-active-idle .ensures, ← c .before .receive-all-telegrams .ensures, ← c .consumed-all .ensures))
+    (λ c. simp (lt-ltb _ _ (c .before .before .before .before .if1 .taken), ← c .before .before .before .transition-active-idle .ensures, ← c .before .receive-all-telegrams .ensures, ← c .consumed-all .ensures))
     (λ c κs. search needs)
     (λ c. simp (le-ltb _ _ (c .before .if1 .left), ← c .done .ensures)))

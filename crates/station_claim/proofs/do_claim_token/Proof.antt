@@ -12,6 +12,6 @@ do-claim-token-spec =
     (λ c κs. search needs)
     (λ c κs. search needs)
     (λ c κs. search needs)
-    (λ c. simp (← c .before .before .before .before .before .wait-synchronization-pause .ensures, c .before .before .before .if1 .taken, ← c .before .before .claim-next .ensures, ← c .before .transmit .ensures, ← c .claim-token .ensures))
+    (λ c. λ l. simp (← c .before .before .before .before .before .wait-synchronization-pause .ensures, c .before .before .before .if1 .taken, ← c .before .before .claim-next .ensures, ← c .before .transmit .ensures, ← c .claim-token .ensures))
     (λ c κs. search needs)
-    (λ c. simp (← c .before .before .before .wait-synchronization-pause .ensures, c .before .if1 .left, ← c .done .ensures)))
+    (λ c. λ l. simp (← c .before .before .before .wait-synchronization-pause .ensures, c .before .if1 .left, ← c .done .ensures)))

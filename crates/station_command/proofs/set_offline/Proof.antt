@@ -12,4 +12,4 @@ set-offline-spec =
     (λ c κs. search needs)
     (λ c κs. search needs)
     (λ c κs. search needs)
-    (λ c. simp (← c .before .before .before .fresh-core .ensures, ← c .before .before .done .ensures, ← c .before .fresh .ensures, ← c .poll-done .ensures)))
+    (λ c. simp (← c .before .before .before .before .before .fresh-core .ensures, ← c .before .before .before .before .done .ensures, ← c .before .before .fresh .ensures, ← c .poll-done .ensures)))

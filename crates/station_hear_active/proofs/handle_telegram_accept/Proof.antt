@@ -10,4 +10,4 @@ handle-telegram-accept-spec =
     (tie.spec
     (λ c κs. search needs)
     (λ c κs. search needs)
-    (λ c. simp (← c .before .transition-use-token .ensures, ← c .hearing .ensures)))
+    (λ c. λ l. simp (← c .before .transition-use-token .ensures, ← c .hearing .ensures)))

@@ -17,7 +17,7 @@ handle-telegram-active-spec =
     (λ c κs. search needs)
     (λ c. search needs)
     (λ c κs. search needs)
-    (λ c. simp (c .before .before .telegram .given .1, ← c .handle-telegram-token .ensures))
+    (λ c. simp (c .before .before .before .telegram .given .1, ← c .handle-telegram-token .ensures))
     (λ c. simp (c .before .enum-told .given .1, ← c .hearing .ensures))
     (λ c. simp (c .before .before .before .telegram2 .given .1, ← c .before .is-last-request-to-us .ensures, ← c .handle-telegram-request .ensures))
     (λ c. simp (c .before .enum-told2 .given .1, ← c .hearing2 .ensures)))

@@ -15,6 +15,6 @@ handle-telegram-to-us-spec =
     (λ c κs. search needs)
     (λ c κs. search needs)
     (λ c κs. search needs)
-    (λ c. simp (← c .before .before .before .before .before .previous-station .ensures, ne-eqb _ _ (c .before .before .before .before .if1 .left), ← c .before .before .before .is-remembered .ensures, c .before .before .if2 .taken, ← c .before .witness-token-pass .ensures, ← c .handle-telegram-accept2 .ensures))
+    (λ c. simp (← c .before .before .before .before .before .before .previous-station .ensures, ne-eqb _ _ (c .before .before .before .before .before .if1 .left), ← c .before .before .before .before .is-remembered .ensures, c .before .before .before .if2 .taken, ← c .before .witness-token-pass .ensures, ← c .handle-telegram-accept2 .ensures))
     (λ c κs. search needs)
     (λ c. simp (← c .before .before .before .before .previous-station .ensures, ne-eqb _ _ (c .before .before .before .if1 .left), ← c .before .before .is-remembered .ensures, c .before .if2 .left, ← c .hearing .ensures)))

@@ -14,4 +14,4 @@ do-listen-token-collision-spec =
     (λ c κs. search needs)
     (λ c κs. search needs)
     (λ c κs. search needs)
-    (λ c. simp (ne-eqb _ _ (c .before .before .before .if1 .left), ← c .before .before .fresh-core .ensures, ← c .before .fresh .ensures, ← c .hearing2 .ensures)))
+    (λ c. simp (ne-eqb _ _ (c .before .before .before .before .if1 .left), ← c .before .before .before .fresh-core .ensures, ← c .before .fresh .ensures, ← c .hearing2 .ensures)))

@@ -9,6 +9,6 @@ do-listen-token-request-spec =
     tie.close
     (tie.spec
     (λ c κs. search needs)
-    (λ c. simp (c .before .if1 .taken, ← c .hearing .ensures))
+    (λ c. λ l. simp (c .before .if1 .taken, ← c .hearing .ensures))
     (λ c κs. search needs)
-    (λ c. simp (c .before .if1 .left, ← c .hearing2 .ensures)))
+    (λ c. λ l. simp (c .before .if1 .left, ← c .hearing2 .ensures)))

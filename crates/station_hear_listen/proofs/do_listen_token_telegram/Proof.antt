@@ -26,7 +26,7 @@ do-listen-token-telegram-spec =
     (λ c κs. search needs)
     (λ c. search needs)
     (λ c κs. search needs)
-    (λ c. simp (c .before .before .state .given .1, ← c .do-listen-token-heard .ensures))
+    (λ c. simp (c .before .before .before .state .given .1, ← c .do-listen-token-heard .ensures))
     (λ c. simp (c .hearing .ensures, c .before .enum-told .given .1))
     (λ c. simp (c .hearing2 .ensures, c .before .enum-told2 .given .1))
     (λ c. simp (c .hearing3 .ensures, c .before .enum-told3 .given .1))

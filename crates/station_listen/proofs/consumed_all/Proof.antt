@@ -8,4 +8,4 @@ unfolding consumedAll
 consumed-all-spec =
     tie.close
     (tie.spec
-    (λ c. refl))
+    (λ c. λ l. refl))

@@ -15,5 +15,5 @@ do-active-idle-spec =
     (λ c κs. search needs)
     (λ c. search needs)
     (λ c κs. search needs)
-    (λ c. simp (← c .before .before .before .before .before .token-lost .ensures, c .before .before .before .if1 .left, c .before .enum-told .given .1, ← c .received .ensures))
+    (λ c. simp (← c .before .before .before .before .before .before .token-lost .ensures, c .before .before .before .before .if1 .left, c .before .before .enum-told .given .1, ← c .received .ensures))
     (λ c. simp (← c .before .before .before .before .before .before .token-lost .ensures, c .before .before .before .before .if1 .left, c .before .before .status-request .given .1, ← c .do-active-idle-respond .ensures)))

@@ -10,5 +10,5 @@ do-listen-token-answered-spec =
     (tie.spec
     (λ c κs. search needs)
     (λ c κs. search needs)
-    (λ c. simp (← c .before .before .ready-for-ring .ensures, c .before .if1 .taken, ← c .transition-active-idle .ensures))
-    (λ c. simp (← c .before .ready-for-ring .ensures, c .if1 .left)))
+    (λ c. λ l. simp (← c .before .before .ready-for-ring .ensures, c .before .if1 .taken, ← c .transition-active-idle .ensures))
+    (λ c. λ l. simp (← c .before .ready-for-ring .ensures, c .if1 .left)))

@@ -11,6 +11,6 @@ do-listen-token-state-spec =
     (tie.spec
     (λ c κs. search needs)
     (λ c κs. search needs)
-    (λ c. simp (← c .before .before .before .ready-for-ring .ensures, c .before .before .if1 .taken, ← c .before .previous-station .ensures, eq-eqb _ _ (c .if2 .taken)))
-    (λ c. simp (← c .before .before .before .ready-for-ring .ensures, c .before .before .if1 .taken, ← c .before .previous-station .ensures, ne-eqb _ _ (c .if2 .left)))
+    (λ c. simp (← c .before .previous-station .ensures, eq-eqb _ _ (c .if2 .taken)) (simp (← c .before .before .before .ready-for-ring .ensures, c .before .before .if1 .taken)))
+    (λ c. simp (← c .before .previous-station .ensures, ne-eqb _ _ (c .if2 .left)) (simp (← c .before .before .before .ready-for-ring .ensures, c .before .before .if1 .taken)))
     (λ c. simp (← c .before .ready-for-ring .ensures, c .if1 .left)))

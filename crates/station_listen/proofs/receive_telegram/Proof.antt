@@ -10,6 +10,6 @@ receive-telegram-spec =
     (tie.spec
     (λ c κs. search needs)
     (λ c κs. search needs)
-    (λ c. simp (← c .before .before .mark-rx .ensures, c .before .if1 .taken, ← c .do-listen-token-telegram .ensures))
+    (λ c. simp (← c .before .before .before .mark-rx .ensures, c .before .before .if1 .taken, ← c .do-listen-token-telegram .ensures))
     (λ c κs. search needs)
-    (λ c. simp (← c .before .before .mark-rx .ensures, c .before .if1 .left, ← c .handle-telegram .ensures)))
+    (λ c. simp (← c .before .before .before .mark-rx .ensures, c .before .before .if1 .left, ← c .handle-telegram .ensures)))

@@ -12,5 +12,5 @@ do-pass-token-poll-spec =
     (λ c κs. search needs)
     (λ c. search needs)
     (λ c κs. search needs)
-    (λ c. simp (c .before .enum-told .given .1, ← c .do-pass-token-send .ensures))
+    (λ c. simp (c .before .before .enum-told .given .1, ← c .do-pass-token-send .ensures))
     (λ c. simp (c .before .before .gap .given .1, ← c .transmit .ensures)))

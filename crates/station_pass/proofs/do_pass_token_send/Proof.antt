@@ -17,5 +17,5 @@ do-pass-token-send-spec =
     (λ c κs. search needs)
     (λ c. search needs)
     (λ c κs. search needs)
-    (λ c. simp (← c .before .before .before .before .before .before .before .next-station .ensures, ← c .before .before .before .before .before .before .token-destination .ensures, ← c .before .before .before .before .before .witness-token-pass .ensures, ← c .before .before .before .before .next-station2 .ensures, c .before .before .enum-told .given .1, ← c .before .transition-use-token .ensures, ← c .transmit .ensures))
-    (λ c. simp (← c .before .before .before .before .before .before .next-station .ensures, ← c .before .before .before .before .before .token-destination .ensures, ← c .before .before .before .before .witness-token-pass .ensures, ← c .before .before .before .next-station2 .ensures, c .before .enum-told2 .given .1, ← c .transmit2 .ensures)))
+    (λ c. simp (← c .before .before .before .before .before .before .before .before .before .next-station .ensures, ← c .before .before .before .before .before .before .before .before .token-destination .ensures, ← c .before .before .before .before .before .before .witness-token-pass .ensures, ← c .before .before .before .before .next-station2 .ensures, c .before .before .enum-told .given .1, ← c .before .transition-use-token .ensures, ← c .transmit .ensures))
+    (λ c. simp (← c .before .before .before .before .before .before .before .before .next-station .ensures, ← c .before .before .before .before .before .before .before .token-destination .ensures, ← c .before .before .before .before .before .witness-token-pass .ensures, ← c .before .before .before .next-station2 .ensures, c .before .enum-told2 .given .1, ← c .transmit2 .ensures)))

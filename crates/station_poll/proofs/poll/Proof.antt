@@ -11,6 +11,6 @@ poll-spec =
     (tie.spec
     (λ c κs. search needs)
     (λ c κs. search needs)
-    (λ c. simp (← c .before .before .record-refusal .ensures, eq-eqb _ _ (c .before .if1 .taken), ← c .poll-accepted .ensures))
+    (λ c. simp (← c .before .before .before .record-refusal .ensures, eq-eqb _ _ (c .before .before .if1 .taken), ← c .poll-accepted .ensures))
     (λ c κs. search needs)
-    (λ c. simp (← c .before .before .record-refusal .ensures, ne-eqb _ _ (c .before .if1 .left), ← c .refused .ensures)))
+    (λ c. simp (← c .before .before .before .record-refusal .ensures, ne-eqb _ _ (c .before .before .if1 .left), ← c .refused .ensures)))

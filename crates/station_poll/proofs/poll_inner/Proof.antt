@@ -10,6 +10,6 @@ poll-inner-spec =
     (tie.spec
     (λ c κs. search needs)
     (λ c κs. search needs)
-    (λ c. simp (c .before .before .if1 .taken, ← c .before .poll-inner-connected .ensures, ← c .poll-inner-online .ensures))
+    (λ c. simp (c .before .before .before .if1 .taken, ← c .before .before .poll-inner-connected .ensures, ← c .poll-inner-online .ensures))
     (λ c κs. search needs)
     (λ c. simp (c .before .if1 .left, ← c .done .ensures)))

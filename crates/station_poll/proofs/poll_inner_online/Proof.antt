@@ -15,4 +15,4 @@ poll-inner-online-spec =
     (λ c. simp (← c .before .before .before .before .check-for-ongoing-transmission .ensures, c .before .before .before .if1 .taken, ← c .before .before .mark-bus-activity .ensures, ← c .before .with-activity .ensures, ← c .done .ensures))
     (λ c κs. search needs)
     (λ c κs. search needs)
-    (λ c. simp (← c .before .before .before .check-for-ongoing-transmission .ensures, c .before .before .if1 .left, ← c .before .check-for-bus-activity .ensures, ← c .poll-inner-dispatch .ensures)))
+    (λ c. simp (← c .before .before .before .before .check-for-ongoing-transmission .ensures, c .before .before .before .if1 .left, ← c .before .before .check-for-bus-activity .ensures, ← c .poll-inner-dispatch .ensures)))

@@ -7,4 +7,4 @@ poll-inner-use-token-spec =
     tie.close
     (tie.spec
     (λ c κs. search needs)
-    (λ c. simp (← c .do-use-token .ensures)))
+    (λ c. λ l. simp (← c .do-use-token .ensures)))

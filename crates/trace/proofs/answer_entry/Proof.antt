@@ -10,10 +10,10 @@ answer-entry-spec =
     tie.close
     (tie.spec
     (λ c κs. search needs)
-    (λ c. simp (eq-eqb _ _ (c .before .if1 .taken), ← c .set-online .ensures))
+    (λ c. simp (eq-eqb _ _ (c .before .before .if1 .taken), ← c .set-online .ensures))
     (λ c κs. search needs)
-    (λ c. simp (ne-eqb _ _ (c .before .before .if1 .left), eq-eqb _ _ (c .before .if2 .taken), ← c .set-offline .ensures))
+    (λ c. simp (ne-eqb _ _ (c .before .before .before .if1 .left), eq-eqb _ _ (c .before .before .if2 .taken), ← c .set-offline .ensures))
     (λ c κs. search needs)
-    (λ c. simp (ne-eqb _ _ (c .before .before .before .if1 .left), ne-eqb _ _ (c .before .before .if2 .left), eq-eqb _ _ (c .before .if3 .taken), ← c .set-passive .ensures))
+    (λ c. simp (ne-eqb _ _ (c .before .before .before .before .if1 .left), ne-eqb _ _ (c .before .before .before .if2 .left), eq-eqb _ _ (c .before .before .if3 .taken), ← c .set-passive .ensures))
     (λ c κs. search needs)
-    (λ c. simp (ne-eqb _ _ (c .before .before .before .if1 .left), ne-eqb _ _ (c .before .before .if2 .left), ne-eqb _ _ (c .before .if3 .left), ← c .poll .ensures)))
+    (λ c. simp (ne-eqb _ _ (c .before .before .before .before .if1 .left), ne-eqb _ _ (c .before .before .before .if2 .left), ne-eqb _ _ (c .before .before .if3 .left), ← c .poll .ensures)))

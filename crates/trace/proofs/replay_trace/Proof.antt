@@ -24,7 +24,7 @@ new-requires c κs = search needs
 -- src/lib.rt:113:13
 run-requires : tie.Need-run-requires
 run-requires c κs =
-    let made = c .before .before .before .before in
+    let made = c .before .before .before .before .before .before in
     settings-long _ _ (sym (made .before .before .trace-settings .ensures) ∙ made .created .given .1)
 
 -- src/lib.rt:115:26
@@ -43,9 +43,9 @@ same-length c = search needs
 returns : tie.Need-returns
 returns c =
     let ran = c .before .before in
-    let new = ran .before .before in
-    let made = new .before .before .before in
-    rw (replay-settings _ _ _ _ _ (sym (made .before .before .trace-settings .ensures) ∙ made .created .given .1) (new .before .read-header .ensures) (new .new .ensures)) (ran .run .ensures)
+    let new = ran .before .before .before in
+    let made = new .before .before .before .before in
+    rw (replay-settings _ _ _ _ _ (sym (made .before .before .trace-settings .ensures) ∙ made .created .given .1) (new .before .before .read-header .ensures) (new .new .ensures)) (ran .run .ensures)
 
 -- src/lib.rt:105:1
 returns-2 : tie.Need-returns-2

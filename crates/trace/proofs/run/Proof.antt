@@ -3,6 +3,7 @@ use borrow.Author.Needs.{needs}
 use native.Mathlib.Omega.{arith}
 use Prim.Native.Nat.{_-_}
 use lib.ListN.{length}
+use Rattle.station.specs.Whole.{stationAt}
 use Rattle.trace.specs.Laws.{Going, begins, cut, full, next, done}
 use Rattle.trace.proofs.run.Statement.{statement}
 use Rattle.trace.proofs.run.Tie as tie
@@ -14,10 +15,11 @@ use Rattle.trace.proofs.answer_entry.Reads as answer-entry-reads
 use Rattle.trace.proofs.record_length.Reads as record-length-reads
 
 abbrev Inv-loop : tie.InvT-loop
-Inv-loop trace answers₀ station₀ at₀ out₀ entries₀ answers station at out entries = Going station₀ trace answers₀ answers station at out entries
+Inv-loop links₀ trace answers₀ station₀ at₀ out₀ entries₀ links answers station at out entries =
+    Going (stationAt station₀ links₀) trace answers₀ answers (stationAt station links) at out entries
 
 abbrev μ-loop : tie.MeasureT-loop
-μ-loop trace answers₀ station₀ at₀ out₀ entries₀ answers station at out entries = length trace - at
+μ-loop links₀ trace answers₀ station₀ at₀ out₀ entries₀ links answers station at out entries = length trace - at
 
 header-length-requires : tie.Need-header-length-requires Inv-loop μ-loop
 header-length-requires c κs = search needs
@@ -143,9 +145,9 @@ loop-again c =
     let stored = c .before .before .before in
     let packed = stored .before in
     let told = c .before .before .before .before .before .before in
-    let sized = told .before .before .before .before in
+    let sized = told .before .before .before .before .before in
     let test = sized .before .before in
-    next (test .before .loop .inv) (test .loop-test .taken) _ _ _ _ (sized .record-length .ensures .0) (told .before .before .before .if1 .left) (told .before .before .if2 .left) (told .answer-entry .ensures) (packed .pack .ensures) (stored .store .ensures)
+    next (test .before .loop .inv) (test .loop-test .taken) _ _ _ _ (sized .record-length .ensures .0) (told .before .before .before .before .if1 .left) (told .before .before .before .if2 .left) (told .answer-entry .ensures) (packed .pack .ensures) (stored .store .ensures)
 
 -- src/lib.rt:219:5
 mul-result-3 : tie.Need-mul-result-3 Inv-loop μ-loop

@@ -291,7 +291,7 @@ impl TryFrom<u64> for Answer {
             refusal: match refusal {
                 0 => None,
                 number => match Refusal::try_from(number).map_err(unnumbered)? {
-                    refusal if refusal.is_of_frames() => return Err(not_an_answer),
+                    refusal if !refusal.is_of_replays() => return Err(not_an_answer),
                     refusal => Some(refusal),
                 },
             },

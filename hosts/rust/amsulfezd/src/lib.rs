@@ -1,5 +1,4 @@
-//! The proved calls `amsulfezd_replay_trace`, `amsulfezd_read_frame` and `amsulfezd_write_frame` for Rust hosts, and the
-//! records and answers that go with them.
+//! The proved calls of `hosts/c/amsulfezd.h` for Rust hosts, and the records and answers that go with them.
 //!
 //! | Module | What it holds |
 //! |---|---|
@@ -8,8 +7,10 @@
 //! | [`answer`] | the 64-bit answer, and an iterator over a buffer of them |
 //! | [`refusal`] | the refusal numbers of documents 01 and 02 and their words |
 //! | [`run`] | what the call returns, and the text that the program `replay` prints |
+//! | [`heard`] | when an address was heard: the entry's bytes, and the text of all of them |
 //! | `replay` | the calls on traces, safe; only where the static library is linked |
 //! | [`frame`] | the bytes of frames; reading and writing them, safe, only where the static library is linked |
+//! | [`capture`] | a bus monitor's text; importing and exporting it, safe, only where the static library is linked |
 //! | [`number`] | the error of a number that the documents do not have |
 //! | [`words`] | numbers and settings in words |
 //!
@@ -46,7 +47,9 @@
 
 pub mod answer;
 mod bits;
+pub mod capture;
 pub mod frame;
+pub mod heard;
 pub mod number;
 pub mod record;
 pub mod refusal;

@@ -3,7 +3,7 @@
 use crate::number::{with_number, UnknownNumber};
 use std::fmt;
 
-/// Why a call, a header, an entry, a trace or a frame was refused.
+/// Why a call, a header, an entry, a trace, a frame or a capture's line was refused.
 #[derive(Debug, Clone, Copy, PartialEq, Eq, Hash)]
 #[repr(u8)]
 #[non_exhaustive]
@@ -33,6 +33,10 @@ pub enum Refusal {
     EndByte = 23,
     AddressExtension = 24,
     GapRoom = 25,
+    AskedAddress = 26,
+    CaptureLine = 31,
+    CaptureTime = 32,
+    CaptureCount = 33,
     FunctionCode = 34,
 }
 
@@ -63,6 +67,10 @@ pub const ALL: &[Refusal] = &[
     Refusal::EndByte,
     Refusal::AddressExtension,
     Refusal::GapRoom,
+    Refusal::AskedAddress,
+    Refusal::CaptureLine,
+    Refusal::CaptureTime,
+    Refusal::CaptureCount,
     Refusal::FunctionCode,
 ];
 
@@ -106,15 +114,26 @@ impl Refusal {
             Refusal::EndByte => "end byte",
             Refusal::AddressExtension => "address extension bit",
             Refusal::GapRoom => "rotation with no room for a gap poll",
+            Refusal::AskedAddress => "who was heard: an address above 125",
+            Refusal::CaptureLine => {
+                "a line that is not a time, one space, a frame in pairs of hex digits and a line feed, or has bytes after its frame"
+            }
+            Refusal::CaptureTime => "a time below the one before",
+            Refusal::CaptureCount => "more than 8 of one time",
             Refusal::FunctionCode => {
                 "top bit of the function code set; to be written, any other request"
             }
         }
     }
 
-    /// Whether frames alone are refused so: no trace ends and no entry is answered with it.
+    /// Whether frames and captures alone are refused so: no trace ends and no entry is answered with it.
     pub fn is_of_frames(self) -> bool {
-        matches!(self.number(), 19..=24 | 34)
+        matches!(self.number(), 19..=24 | 31..=34)
+    }
+
+    /// Whether a trace that is replayed, or one of its entries, can be refused so.
+    pub fn is_of_replays(self) -> bool {
+        !self.is_of_frames() && self != Refusal::AskedAddress
     }
 
     /// What the documents ask for instead, where the words alone do not say it.
@@ -133,6 +152,7 @@ impl Refusal {
             }
             Refusal::Passive => Some("this station has no passive state"),
             Refusal::GapRoom => Some("must be at least slot bits + 100"),
+            Refusal::CaptureLine => Some("the time must have no leading zero and be below 2^48"),
             _ => None,
         }
     }

@@ -1,6 +1,7 @@
 //! The proved calls, safe. Only where the static library is linked (see `build.rs`).
 
 use crate::answer::{Answer, ANSWER_LENGTH};
+use crate::heard::{Heard, HEARD_LENGTH};
 use crate::refusal::Refusal;
 use crate::run::{from_buffer, Run};
 use crate::trace::entries;
@@ -20,6 +21,15 @@ extern "C" {
         header_len: usize,
         out: *mut u8,
         out_len: usize,
+    ) -> u64;
+
+    /// The proved call as `hosts/c/amsulfezd.h` documents it.
+    fn amsulfezd_trace_heard(
+        trace: *const u8,
+        trace_len: usize,
+        address: u8,
+        entry: *mut u8,
+        entry_len: usize,
     ) -> u64;
 }
 
@@ -82,6 +92,56 @@ pub fn replay_whole(trace: &[u8]) -> (Run, Vec<Answer>) {
     let run = replay(trace, &mut buffer);
     let answers = from_buffer(&buffer, &run).expect("the call is proved to write answers");
     (run, answers)
+}
+
+/// Runs a trace and writes when an address was heard to the first 17 bytes of `entry`, zeros if never; the bytes after them keep
+/// their value. It needs no room for answers. The run ends with [`Refusal::Cut`] where the trace ends inside an entry, and the
+/// entry then has what the whole ones make. Refused, in this order, with nothing written: [`Refusal::AskedAddress`] for an
+/// address above 125, the header's number, [`Refusal::NoRoom`]. A trace that ends inside its header is a run of no entries that
+/// ends with [`Refusal::Cut`], and writes nothing either.
+pub fn trace_heard(trace: &[u8], address: u8, entry: &mut [u8]) -> Result<Run, Refusal> {
+    // SAFETY: as for `replay`.
+    let returned = unsafe {
+        amsulfezd_trace_heard(
+            trace.as_ptr(),
+            trace.len(),
+            address,
+            entry.as_mut_ptr(),
+            entry.len(),
+        )
+    };
+    match returned % 256 {
+        0 | 17 => Ok(Run::try_from(returned).expect("0 and 17 are ending numbers")),
+        number => Err(Refusal::try_from(number as u8)
+            .expect("the call is proved to return one of its refusal numbers")),
+    }
+}
+
+/// Runs a trace and says when an address was heard; none if never.
+///
+/// ```
+/// use amsulfezd::record::{Poll, Telegram};
+/// use amsulfezd::refusal::Refusal;
+/// use amsulfezd::replay::heard;
+/// use amsulfezd::trace::{Header, TraceBuilder};
+///
+/// let mut trace = TraceBuilder::new(Header::new(5, 6, 1));
+/// trace.online();
+/// trace.poll(&Poll::at(1_000).telegram(Telegram::token(9, 12)))?;
+/// trace.poll(&Poll::at(1_500).telegram(Telegram::token(9, 12)))?;
+/// let trace = trace.into_bytes();
+/// let (run, nine) = heard(&trace, 9).expect("an accepted header");
+/// let nine = nine.expect("9 was heard");
+/// assert_eq!((run.entries, nine.times, nine.first, nine.last), (3, 2, 1_000, 1_500));
+/// assert_eq!(heard(&trace, 12).map(|(_, twelve)| twelve), Ok(None));
+/// assert_eq!(heard(&trace, 126), Err(Refusal::AskedAddress));
+/// # Ok::<(), amsulfezd::record::Unfit>(())
+/// ```
+pub fn heard(trace: &[u8], address: u8) -> Result<(Run, Option<Heard>), Refusal> {
+    let mut entry = [0; HEARD_LENGTH];
+    let run = trace_heard(trace, address, &mut entry)?;
+    let heard = Heard::from_bytes(&entry).expect("the call is proved to write an entry");
+    Ok((run, heard))
 }
 
 /// Moves the header at the start of `header`, which may be a whole trace, to the other edition: 14 bytes for 16, 16 for 14.

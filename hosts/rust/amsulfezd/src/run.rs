@@ -18,7 +18,7 @@ impl Run {
     fn from_numbers(entries: u64, ending: u64) -> Result<Run, NotARun> {
         let refusal = |number| {
             let refusal = Refusal::try_from(u8::try_from(number).ok()?).ok();
-            refusal.filter(|refusal| !refusal.is_of_frames())
+            refusal.filter(|refusal| refusal.is_of_replays())
         };
         let ending = match ending {
             0 => None,
@@ -28,6 +28,20 @@ impl Run {
             ),
         };
         Ok(Run { entries, ending })
+    }
+
+    /// The run that a last line tells: entries and ending number.
+    pub(crate) fn from_last_line(line: &str) -> Result<Run, NotARun> {
+        let numbers = line
+            .split_once(' ')
+            .and_then(|(entries, ending)| Some((entries.parse().ok()?, ending.parse().ok()?)));
+        let (entries, ending) = numbers.ok_or_else(|| {
+            NotARun(format!(
+                "the last line is not entries and ending number: {}",
+                line
+            ))
+        })?;
+        Run::from_numbers(entries, ending)
     }
 
     /// 0, or the number of the refusal.
@@ -61,16 +75,7 @@ pub fn from_text(text: &str) -> Result<(Vec<Answer>, Run), NotARun> {
     let last = lines
         .pop()
         .ok_or_else(|| NotARun("there is no line with entries and ending number".to_string()))?;
-    let numbers = last
-        .split_once(' ')
-        .and_then(|(entries, ending)| Some((entries.parse().ok()?, ending.parse().ok()?)));
-    let (entries, ending) = numbers.ok_or_else(|| {
-        NotARun(format!(
-            "the last line is not entries and ending number: {}",
-            last
-        ))
-    })?;
-    let run = Run::from_numbers(entries, ending)?;
+    let run = Run::from_last_line(last)?;
     if run.entries != lines.len() as u64 {
         return Err(NotARun(format!(
             "{} entries answered, but {} answers",
@@ -104,6 +109,12 @@ pub fn from_buffer(buffer: &[u8], run: &Run) -> Result<Vec<Answer>, NotAnAnswer>
 /// Something that no run returns or prints, in words.
 #[derive(Debug, Clone, PartialEq, Eq, Hash)]
 pub struct NotARun(String);
+
+impl NotARun {
+    pub(crate) fn of(words: String) -> NotARun {
+        NotARun(words)
+    }
+}
 
 impl fmt::Display for NotARun {
     fn fmt(&self, f: &mut fmt::Formatter) -> fmt::Result {

@@ -177,7 +177,7 @@ fn states_outcomes_and_types_have_document_01s_numbers() {
 #[test]
 fn refusals_have_the_documents_numbers() {
     let numbers: Vec<u8> = ALL.iter().map(|refusal| refusal.number()).collect();
-    assert_eq!(numbers, (1..=25).chain([34]).collect::<Vec<u8>>());
+    assert_eq!(numbers, (1..=26).chain(31..=34).collect::<Vec<u8>>());
     for &refusal in ALL {
         assert_eq!(Refusal::try_from(refusal.number()), Ok(refusal));
         assert_eq!(u8::from(refusal), refusal.number());
@@ -209,8 +209,41 @@ fn refusals_have_the_documents_numbers() {
         .filter(|r| r.is_of_frames())
         .map(|r| r.number())
         .collect();
-    assert_eq!(of_frames, [19, 20, 21, 22, 23, 24, 34]);
+    assert_eq!(of_frames, [19, 20, 21, 22, 23, 24, 31, 32, 33, 34]);
+    let elsewhere: Vec<u8> = ALL
+        .iter()
+        .filter(|r| !r.is_of_replays())
+        .map(|r| r.number())
+        .collect();
+    assert_eq!(elsewhere, [19, 20, 21, 22, 23, 24, 26, 31, 32, 33, 34]);
+    assert_eq!(
+        Refusal::AskedAddress.to_string(),
+        "26 (who was heard: an address above 125)"
+    );
+    assert!(Answer::try_from(26 << 59).is_err());
     assert!(Answer::try_from(19 << 59).is_err());
+}
+
+/// hosts/c/amsulfezd.h has the same words for each number.
+#[test]
+fn the_c_header_says_the_same_words() {
+    let header = include_str!("../../../c/amsulfezd.h");
+    let (_, function) = header
+        .split_once("amsulfezd_refusal_words(unsigned number)\n{")
+        .expect("the function");
+    let (function, _) = function.split_once("\n}").expect("its end");
+    let quoted: Vec<&str> = function.split('"').skip(1).step_by(2).collect();
+    let words: Vec<&str> = ALL.iter().map(|refusal| refusal.words()).collect();
+    assert_eq!(quoted[1..quoted.len() - 1], words);
+    let cases: Vec<&str> = function
+        .split("case AMSULFEZD_REFUSAL_")
+        .skip(1)
+        .map(|case| case.split(':').next().expect("a name"))
+        .collect();
+    for (name, refusal) in cases.iter().zip(ALL) {
+        let stated = format!("    AMSULFEZD_REFUSAL_{} = {}", name, refusal.number());
+        assert!(header.contains(&stated), "{}", stated);
+    }
 }
 
 #[test]
@@ -222,6 +255,7 @@ fn what_the_call_returns() {
     assert_eq!(Run::try_from(3), run(0, Some(Refusal::Hsa)));
     assert_eq!(Run::try_from(25), run(0, Some(Refusal::GapRoom)));
     assert!(Run::try_from(256 + 19).is_err());
+    assert!(Run::try_from(26).is_err());
 }
 
 #[test]

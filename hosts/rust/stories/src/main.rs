@@ -1,15 +1,17 @@
-//! Writes the traces of `traces/`, each with its story and its expected answers, or checks that the files there are
-//! what it would write. It also writes the arguments of the program that replays them all, with the output expected of
+//! Writes the traces and captures of `traces/`, each with its story and what is expected of it, or checks that the files there
+//! are what it would write. It also writes the arguments of the program that replays them all, with the output expected of
 //! it.
 
 mod alone;
 mod any_start;
 mod applications;
 mod bus;
+mod captures;
 mod collisions;
 mod editions;
 mod fine_points;
 mod gap_room;
+mod heard;
 mod night;
 mod refusals;
 mod ring;
@@ -54,10 +56,33 @@ fn stories() -> Vec<Story> {
     all.extend(refusals::stories());
     all.extend(gap_room::headers());
     all.extend(editions::stories());
+    all.push(captures::site());
+    all.extend(heard::stories());
     all
 }
 
-/// The files of a story: path and content. Few stories have notes.
+/// Every file of every story: path and content.
+fn all_files(folder: &Path) -> Vec<(PathBuf, Vec<u8>)> {
+    let mut all: Vec<_> = stories()
+        .iter()
+        .flat_map(|story| files(folder, story))
+        .collect();
+    for story in captures::stories() {
+        for (ending, content) in story.files() {
+            all.push((folder.join(format!("{}.{}", story.name, ending)), content));
+        }
+    }
+    all.push((folder.join("captures/site.capture"), captures::site_text()));
+    all
+}
+
+/// How many stories there are, in words.
+fn counted() -> String {
+    let captures = captures::stories().len();
+    format!("{} traces and {} captures", stories().len(), captures)
+}
+
+/// The files of a story: path and content. Few stories have notes, and few say who was heard.
 fn files(folder: &Path, story: &Story) -> Vec<(PathBuf, Vec<u8>)> {
     let path = |ending: &str| folder.join(format!("{}.{}", story.name, ending));
     let mut files = vec![
@@ -69,16 +94,19 @@ fn files(folder: &Path, story: &Story) -> Vec<(PathBuf, Vec<u8>)> {
     if !notes.is_empty() {
         files.push((path("notes"), notes.into_bytes()));
     }
+    let heard = story.heard_text();
+    if !heard.is_empty() {
+        files.push((path("heard"), heard.into_bytes()));
+    }
     files
 }
 
 /// Writes every file of every story.
 fn write(folder: &Path) -> Result<String, String> {
-    let stories = stories();
-    for (path, content) in stories.iter().flat_map(|story| files(folder, story)) {
+    for (path, content) in all_files(folder) {
         put(&path, &content)?;
     }
-    Ok(format!("{} traces written", stories.len()))
+    Ok(format!("{} written", counted()))
 }
 
 /// Writes a file, and the folder that it lies in.
@@ -107,8 +135,7 @@ fn program(folder: &Path) -> Result<String, String> {
 
 /// Compares every file of every story with the one that is there.
 fn check(folder: &Path) -> Result<String, String> {
-    let stories = stories();
-    for (path, content) in stories.iter().flat_map(|story| files(folder, story)) {
+    for (path, content) in all_files(folder) {
         let there =
             std::fs::read(&path).map_err(|error| format!("{}: {}", path.display(), error))?;
         if there != content {
@@ -118,8 +145,5 @@ fn check(folder: &Path) -> Result<String, String> {
             ));
         }
     }
-    Ok(format!(
-        "{} traces are what their stories say",
-        stories.len()
-    ))
+    Ok(format!("{} are what their stories say", counted()))
 }

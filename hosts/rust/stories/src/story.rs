@@ -3,6 +3,7 @@
 //! The answers are statements of their own, written down field by field. Nothing here works out what a station does.
 
 use amsulfezd::answer::{Answer, NextStation, Notice, Outcome, Sent, State};
+use amsulfezd::heard::{self, Heard};
 use amsulfezd::record::{Poll, StationType, Telegram};
 use amsulfezd::refusal::Refusal;
 use amsulfezd::run::{to_text, Run};
@@ -156,6 +157,8 @@ pub struct Story {
     lines: Vec<String>,
     /// What happened beside the bus: the clock, and words.
     notes: Vec<(u64, &'static str)>,
+    /// Every address that was heard, in their order, with its entry and why it is so; empty where the story does not say.
+    heard: Vec<(u8, Heard, &'static str)>,
     /// Bytes left out at the end, and the refusal that ends the run.
     cut: usize,
     ending: Option<Refusal>,
@@ -182,6 +185,7 @@ impl Story {
             answers: Vec::new(),
             lines: Vec::new(),
             notes: Vec::new(),
+            heard: Vec::new(),
             cut: 0,
             ending: None,
             state: State::Offline,
@@ -211,6 +215,7 @@ impl Story {
         self.title = title;
         self.tale = tale;
         self.notes.clear();
+        self.heard.clear();
         self
     }
 
@@ -232,6 +237,24 @@ impl Story {
     /// Something that happened beside the bus, which no entry tells.
     pub fn note(&mut self, clock: u64, words: &'static str) {
         self.notes.push((clock, words));
+    }
+
+    /// When an address was heard. A story that states one states all: no other address was heard.
+    pub fn heard(
+        &mut self,
+        address: u8,
+        times: u32,
+        (first, last): (u64, u64),
+        station_type: Option<StationType>,
+        why: &'static str,
+    ) {
+        let entry = Heard {
+            times,
+            first,
+            last,
+            station_type,
+        };
+        self.heard.push((address, entry, why));
     }
 
     /// The station is put online: the state stays as it is until the next poll.
@@ -371,6 +394,20 @@ impl Story {
             .collect()
     }
 
+    /// The text that `heard_file` is to print; empty where the story does not say who was heard.
+    pub fn heard_text(&self) -> String {
+        if self.heard.is_empty() {
+            return String::new();
+        }
+        let entries: Vec<(u8, Heard)> =
+            self.heard.iter().map(|&(a, entry, _)| (a, entry)).collect();
+        let run = Run {
+            entries: self.answers.len() as u64,
+            ending: self.ending,
+        };
+        heard::to_text(&entries, &run)
+    }
+
     /// The story in words.
     pub fn text(&self) -> String {
         let mut text = format!("{}\n\n{}\n\n", self.title, self.tale.trim());
@@ -403,6 +440,24 @@ impl Story {
                 None => "0 (the trace was read to its end)".to_string(),
             }
         ));
+        if !self.heard.is_empty() {
+            text.push_str("\nWho was heard, and when; no other address was.\n\n");
+        }
+        for (address, entry, why) in &self.heard {
+            let kind = match entry.station_type {
+                Some(kind) => format!("last response \"{}\"", kind),
+                None => "no response seen".to_string(),
+            };
+            text.push_str(&format!(
+                "{:3}  times {}, first {} us, last {} us, {}\n     {}\n",
+                address,
+                entry.times,
+                thousands(entry.first),
+                thousands(entry.last),
+                kind,
+                why
+            ));
+        }
         text
     }
 }

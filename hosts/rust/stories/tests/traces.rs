@@ -21,10 +21,15 @@ fn the_files_are_what_their_stories_say() {
         String::from_utf8_lossy(&output.stderr)
     );
     let there = files(&traces(), "trace").len();
+    // the site's capture is its trace's
+    let captures = files(&traces(), "capture").len() + files(&traces(), "entries").len() - 1;
     assert_eq!(
         said,
-        format!("{} traces are what their stories say\n", there),
-        "no trace lies there without a story"
+        format!(
+            "{} traces and {} captures are what their stories say\n",
+            there, captures
+        ),
+        "no trace and no capture lies there without a story"
     );
     let notes = [traces().join("night.notes")];
     assert_eq!(files(&traces(), "notes"), notes, "only the night has notes");

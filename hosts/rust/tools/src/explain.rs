@@ -623,20 +623,29 @@ fn whole_entries(trace: &[u8]) -> (usize, bool) {
 
 /// That the number of answers and the ending belong to the trace.
 fn check_ending(trace: &[u8], answers: &[Answer], run: &Run) -> Result<(), NotThisTrace> {
+    check_entries(trace, answers.len(), run)
+}
+
+/// That a run's entries and its ending belong to the trace.
+pub(crate) fn check_run(trace: &[u8], run: &Run) -> Result<(), NotThisTrace> {
+    check_entries(trace, run.entries as usize, run)
+}
+
+fn check_entries(trace: &[u8], answered: usize, run: &Run) -> Result<(), NotThisTrace> {
     let (whole, cut) = whole_entries(trace);
-    let all = answers.len() == whole;
+    let all = answered == whole;
     let fits = match run.ending {
         None => all && !cut && Header::from_bytes(trace).is_some(),
         Some(Refusal::Cut) => all && (cut || Header::from_bytes(trace).is_none()),
-        Some(Refusal::NoRoom) => answers.len() < whole,
-        Some(_) => answers.is_empty(),
+        Some(Refusal::NoRoom) => answered < whole,
+        Some(_) => answered == 0,
     };
     if fits {
         Ok(())
     } else {
         Err(NotThisTrace(format!(
             "entries answered: {}, ending number {}; whole entries in the trace: {}, one cut short: {}",
-            answers.len(),
+            answered,
             run.ending_number(),
             whole,
             if cut { "yes" } else { "no" }
@@ -645,7 +654,7 @@ fn check_ending(trace: &[u8], answers: &[Answer], run: &Run) -> Result<(), NotTh
 }
 
 /// How the run ended, in words.
-fn ending(run: &Run, trace: &[u8]) -> String {
+pub(crate) fn ending(run: &Run, trace: &[u8]) -> String {
     let number = run.ending_number();
     match run.ending {
         None => format!(

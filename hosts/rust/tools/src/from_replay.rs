@@ -1,9 +1,10 @@
 //! The programs that make a text from a replay: a trace in a file, notes in a file beside it if there are any, the answers
 //! on standard input.
 
-use crate::explain::NotThisTrace;
+use crate::explain::{check_run, NotThisTrace};
 use crate::view::{notes, Note, Range, View};
 use amsulfezd::answer::Answer;
+use amsulfezd::heard::{self, Heard};
 use amsulfezd::run::{from_text, Run};
 use std::io::{ErrorKind, Read, Write};
 use std::path::Path;
@@ -17,9 +18,11 @@ pub struct Replay {
     pub answers: Vec<Answer>,
     pub run: Run,
     pub view: View,
+    /// The entries that the proved call gave of who was heard; none if they are not shown.
+    pub heard: Option<Vec<(u8, Heard)>>,
 }
 
-/// The whole of a program `NAME TRACE [FROM=n] [TO=m] < ANSWERS`: prints the text that `make` makes, or one line that says why there is
+/// The whole of a program `NAME TRACE [FROM=n] [TO=m] [HEARD=file] < ANSWERS`: prints the text that `make` makes, or one line that says why there is
 /// none, and gives the status that tells which.
 pub fn print(program: &str, make: fn(&Replay) -> Result<String, NotThisTrace>) -> ExitCode {
     let printed = read(program).and_then(|replay| {
@@ -41,13 +44,19 @@ pub fn print(program: &str, make: fn(&Replay) -> Result<String, NotThisTrace>) -
 /// the other arguments name.
 fn read(program: &str) -> Result<Replay, String> {
     let words: Vec<_> = std::env::args_os().skip(1).collect();
-    let usage = || format!("usage: {} TRACE [FROM=n] [TO=m] < ANSWERS", program);
+    let usage = || {
+        format!(
+            "usage: {} TRACE [FROM=n] [TO=m] [HEARD=file] < ANSWERS",
+            program
+        )
+    };
     let (file, options) = words.split_first().ok_or_else(usage)?;
-    let (mut from, mut to) = (None, None);
+    let (mut from, mut to, mut entries) = (None, None, None);
     for option in options {
         match option.to_string_lossy().split_once('=') {
             Some(("FROM", word)) => from = given(word),
             Some(("TO", word)) => to = given(word),
+            Some(("HEARD", word)) => entries = given(word),
             _ => return Err(usage()),
         }
     }
@@ -66,6 +75,10 @@ fn read(program: &str) -> Result<Replay, String> {
             Some(range.map_err(|error| error.to_string())?)
         }
     };
+    let heard = match entries {
+        Some(entries) => Some(heard_in(&entries, &trace)?),
+        None => None,
+    };
     let name = file.file_name().unwrap_or_default();
     Ok(Replay {
         name: name.to_string_lossy().to_string(),
@@ -73,10 +86,19 @@ fn read(program: &str) -> Result<Replay, String> {
         answers,
         run,
         view: View { range, notes },
+        heard,
     })
 }
 
-/// What stands after `FROM=` or `TO=`; nothing there is as good as neither.
+/// The entries of who was heard, from a file that the program `heard_file` printed of this trace.
+fn heard_in(file: &str, trace: &[u8]) -> Result<Vec<(u8, Heard)>, String> {
+    let text = std::fs::read_to_string(file).map_err(|error| format!("{}: {}", file, error))?;
+    let (entries, run) = heard::from_text(&text).map_err(|error| error.to_string())?;
+    check_run(trace, &run).map_err(|error| error.to_string())?;
+    Ok(entries)
+}
+
+/// What stands after `FROM=`, `TO=` or `HEARD=`; nothing there is as good as neither.
 fn given(word: &str) -> Option<String> {
     Some(word.to_string()).filter(|word| !word.is_empty())
 }

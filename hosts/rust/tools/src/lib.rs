@@ -3,6 +3,7 @@
 //! | Module | What it holds |
 //! |---|---|
 //! | [`explain`] | one line in words for each entry |
+//! | [`heard`] | who was heard, and when, as a table |
 //! | [`view`] | what is shown of a trace: a range of its entries, the notes beside it |
 //! | [`picture`] | a trace and its answers as a picture |
 //! | [`from_replay`] | the programs that read a trace and its answers and print a text |
@@ -11,5 +12,6 @@
 
 pub mod explain;
 pub mod from_replay;
+pub mod heard;
 pub mod picture;
 pub mod view;

@@ -62,6 +62,7 @@ fn replay_of(name: &str, trace: Vec<u8>, answers: &str) -> Replay {
         answers,
         run,
         view: View::default(),
+        heard: None,
     }
 }
 

@@ -17,6 +17,7 @@ use super::shapes::{
 use super::svg::{shortened, text_width, wrapped, Anchor, Px, Svg};
 use crate::explain::{thousands, Explanation, Line};
 use crate::from_replay::Replay;
+use crate::heard::sentences;
 use amsulfezd::answer::{Answer, NextStation, Notice, Outcome, Sent, State};
 use amsulfezd::refusal::Refusal;
 use amsulfezd::trace::Entry;
@@ -35,6 +36,12 @@ pub fn draw(replay: &Replay, explained: &Explanation) -> String {
             .map(|refusal| (refusal, &explained.ending[..]));
         bottom = draw_bus(&mut svg, &scene, bottom, ending);
         bottom = draw_legend(&mut svg, bottom + 8, width);
+    }
+    if let Some(entries) = &replay.heard {
+        bottom += 6;
+        for sentence in sentences(entries) {
+            bottom = draw_text(&mut svg, "heard", bottom, width, &sentence);
+        }
     }
     bottom = draw_text(&mut svg, "footer", bottom + 6, width, &explained.ending);
     let description = description(explained, &scene.events);

@@ -1,0 +1,3 @@
+-- Definitions first, then what the proof of the run's loop uses.
+pub mod TraceHeard
+pub mod Laws
