@@ -17,8 +17,8 @@ use Rattle.codec_telegrams.specs.Words.{telegramWord, TelegramFits}
 use Rattle.codec_telegrams.specs.Laws.{telegram-read}
 use Rattle.codec_frames.specs.Frames.{frameBytes, isOtherRequest, fitted, writeOf}
 use Rattle.codec_records.specs.declared.Head.{Head}
-use Rattle.codec_records.specs.Records.{headOf as recordHead, telegramWordAt, telegramAt, recordRefusal}
-use Rattle.codec_records_written.specs.Whole.{RecordFits, Says}
+use Rattle.codec_records.specs.Records.{headOf as recordHead, telegramWordAt}
+use Rattle.codec_records_written.specs.Whole.{Says}
 use Rattle.codec_records_written.specs.Written.{round-trip}
 use Rattle.codec_records.specs.Laws.{good, good-telegram}
 use Rattle.capture_lines.specs.declared.LineRead.{LineRead}
