@@ -7,16 +7,16 @@ use mathlib.Core.Bool.{false}
 use native.Mathlib.Omega.{arith}
 use native.Mathlib.Nat.{add-zero}
 use borrow.Author.Tests.{le-ltb, lt-leb, ne-eqb, eq-eqb}
-use lib.ListN.{length, length-append}
+use lib.ListN.{length, take, drop, length-append}
 use lib.Dec.{leb}
 use Rattle.codec_telegrams.specs.declared.Telegram.{Telegram}
 use Rattle.codec_telegrams.specs.Words.{TelegramFits}
 use Rattle.codec_frames.specs.Frames.{isOtherRequest}
 use Rattle.capture_lines.specs.Lines.{linesOf}
-use Rattle.capture_import.specs.Import.{Poll, entriesOf, newPoll, heardAfter, lastTime, lastCount, timeRefusal, lineRefusal, importFrom, importOf}
+use Rattle.capture_import.specs.Import.{Poll, entriesOf, newPoll, heardAfter, lastTime, lastCount, timeRefusal, lineRefusal, importFrom, importOf, importedOf, bufferOf}
 use Rattle.capture_import.specs.Laws.{Good, entries-length}
-use Rattle.capture_export.specs.Export.{exportOf}
-use Rattle.theorem_captures.specs.Accepted.{AllFit, Fit, Above, Rise, import-holds}
+use Rattle.capture_export.specs.Export.{exportOf, exportedOf, bufferOf as textOver}
+use Rattle.theorem_captures.specs.Accepted.{AllFit, Fit, Above, Rise, import-holds, stands}
 use Rattle.theorem_captures.specs.Again.{telegramLine, telegramsText, pollsText, polls-again}
 use Rattle.theorem_captures.specs.Written.{and-no, line-reads, line-first}
 
@@ -182,3 +182,22 @@ pub imported-back :
 imported-back text room wide again written long roomy =
     let h = import-holds text room in
     entries-back (importOf text room .polls) wide again (record { good = h .0; fit = h .1; written = written; rise = h .2 }) long roomy
+
+-- The same of the two calls, for any two slices of the caller's with room: the export returns no refusal; the import of what it wrote
+-- returns none, and leaves the entries at the start of the second slice and every byte past them as it was
+pub calls-back :
+    (polls : List Poll) (text before : List ℕ)
+    → Importable polls
+    → length (pollsText polls) ≤ length text
+    → length (entriesOf polls) ≤ length before
+    → let x = exportOf (entriesOf polls) (length text) in
+    let i = importOf (take (exportedOf x .written) (textOver x text)) (length before) in
+    (exportedOf x ≡ record { entry = 0; written = length (pollsText polls); refusal = 0 })
+    × (importedOf i ≡ record { line = 0; written = length (entriesOf polls); refusal = 0 })
+    × (bufferOf i before ≡ entriesOf polls ++ drop (length (entriesOf polls)) before)
+unfolding exportedOf importedOf textOver bufferOf
+calls-back polls text before is long roomy =
+    let x = polls-again polls (length text) (is .good) (is .fit) long in
+    let i = text-imported polls (length before) is roomy in
+    let t = stands (pollsText polls) text .0 in
+    (rw x, rw (x, t, i), rw (x, t, i))
