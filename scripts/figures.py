@@ -34,8 +34,8 @@ def lines(paths):
 CLAIMS = {
     name + ".antt"
     for name in (
-        "AnswersRead Claim EveryTrace Follows FromHeader HostCall Letter Lines Met Moves Question Silence SilentTrace Sizes"
-        " Statement Table Waits"
+        "AnswersRead AnyStart Asked Claim EveryTrace Follows FromHeader HostCall Letter Lines Met Moves Question Silence"
+        " SilentTrace Sizes Statement Table Waits"
     ).split()
 }
 

@@ -2,6 +2,7 @@
 use Prim.Native.Nat.{ℕ, zero, suc, _+_, _<_, _≤_}
 use mathlib.Core.Bool.{Bool, true, false, cond, not}
 use mathlib.Core.Path.{_≡_, refl, sym, ap, subst, _∙_}
+use mathlib.Core.Logic.{_⊎_, inl, inr}
 use mathlib.Core.List.{List, [], _∷_, _++_, append-nil}
 use lib.ListN.{length}
 use native.Mathlib.Omega.{arith}
@@ -19,6 +20,7 @@ use Rattle.codec_records.specs.Records.{headOf, decisionAt}
 use Rattle.codec_answers.specs.declared.Sent.{Sent}
 use Rattle.codec_answers.specs.declared.Sent.the-variants.{Nothing, Application}
 use Rattle.codec_answers.specs.declared.Outcome.the-variants as outcome
+use Rattle.station.specs.declared.PassTokenAttempt.the-variants.{First}
 use Rattle.station.specs.declared.UseTokenData.{UseTokenData}
 use Rattle.station.specs.declared.State.{State}
 use Rattle.station.specs.declared.Core.{Core}
@@ -28,13 +30,13 @@ use Rattle.station.specs.Parts.{withActivity, withTokenTimes, withNextApplicati
 use Rattle.station.specs.Steps.{withTokenTime, toUseToken, markedAt, busyOf, waitedOf, pauseOf, doneOf, transmitOf, ringStepOf}
 use Rattle.station_hold.specs.declared.Asked.{Asked}
 use Rattle.station_hold.specs.Hold.{declinesAt, usePassOf, appTransmitOf, askedFrom, askedOf, holdEndOf, holdsOf, useAppsAfter, useAppsOf, useTokenTimed, useTokenOf}
-use Rattle.station_poll.specs.Poll.{connectedOf, dispatchOf, pollOf}
+use Rattle.station_poll.specs.Poll.{dispatchOf, pollOf}
 use Rattle.station_answer.specs.Answer.{Polled, polledOf, stepAnswer}
 use Rattle.theorem_silence.specs.Silence.{AllQuiet, told, sentUntil, countedIn, slotAfter, tokens}
 use Rattle.theorem_silence.specs.Times.{Slotted, slotted, counted-free, counted-paused}
-use Rattle.theorem_silence.specs.Phases.{Phase, starting, checking, holding, next, todo, Under, todo-next, tokens-length}
-use Rattle.theorem_silence.specs.OnePoll.{At, Turn, sends, stays, quietStep, not-counted, not-counted-busy}
-use Rattle.theorem_silence.specs.Theorem.{stationOf, clockOf, poll-is, poll-at, turn-at, counted-on, one-less, held-place, started, silence}
+use Rattle.theorem_silence.specs.Phases.{Phase, starting, holding, next, told-next, todo, endRing, Under, under-or-held, todo-next, end-next, tokens-length}
+use Rattle.theorem_silence.specs.OnePoll.{At, Turn, sends, stays, quietStep, not-counted, not-counted-busy, turn}
+use Rattle.theorem_silence.specs.Theorem.{stationOf, clockOf, poll-at, counted-on, one-less, started, run-of, silence}
 use Rattle.theorem_silence.specs.Letter.{afterPolls, sentIn, wanted, askedSent, inHoldTime, Asks, fourTokens, LetterTheorem}
 
 -- a step that sends this, leaves this end of hold, and passes the token on if it sends nothing
@@ -117,11 +119,11 @@ unfolding pauseOf waitedOf withActivity
 paused-on p c now = refl
 
 -- one silent poll of a station that holds a new token, with whether it is counted
-data HoldTurn (p : Parameters) (n : ℕ) (c : Core) (now : Micros) (bytes : List ℕ) (counts : Bool) (x : RingStep) : Type 0 where
-  asking : AsksStep now bytes n (c .«next_application») (x .step) → HoldTurn p n c now bytes counts x
-  waiting : counts ≡ false → x .step .sent ≡ Nothing → At holding p (x .step .state) (x .step .core) (x .ring) → HoldTurn p n c now bytes counts x
+data HoldTurn (os : List ℕ) (p : Parameters) (n : ℕ) (c : Core) (now : Micros) (bytes : List ℕ) (counts : Bool) (x : RingStep) : Type 0 where
+  asking : AsksStep now bytes n (c .«next_application») (x .step) → HoldTurn os p n c now bytes counts x
+  waiting : counts ≡ false → x .step .sent ≡ Nothing → At (holding os) p (x .step .state) (x .step .core) (x .ring) → HoldTurn os p n c now bytes counts x
 
-module _ (p : Parameters) (w : Slotted p) (s : State) (c : Core) (r : Ring) (now : Micros) (bytes : List ℕ) (n : ℕ) (a : At holding p s c r) where
+module _ (os : List ℕ) (p : Parameters) (w : Slotted p) (s : State) (c : Core) (r : Ring) (now : Micros) (bytes : List ℕ) (n : ℕ) (a : At (holding os) p s c r) where
   abbrev counts : Bool
   counts = slotAfter (c .«last_bus_activity») (now .0) (slotTimeOf p .0)
 
@@ -134,7 +136,7 @@ module _ (p : Parameters) (w : Slotted p) (s : State) (c : Core) (r : Ring) (now
   dispatch-use = ap (λ (x : State). dispatchOf p x c r now bytes n 0) (a .1 .held)
 
   -- with the token still held and as online as before the station is still at the last place
-  still : (x : State) (d : Core) → d .online ≡ c .online → x ≡ toUseToken (a .1 .since) → At holding p x d r
+  still : (x : State) (d : Core) → d .online ≡ c .online → x ≡ toUseToken (a .1 .since) → At (holding os) p x d r
   still x d on held = (record { on = on ∙ a .0 .on; ring-good = a .0 .ring-good; are = a .0 .are }, record { since = a .1 .since; held = held })
 
   -- the station with the end of hold set
@@ -148,12 +150,12 @@ module _ (p : Parameters) (w : Slotted p) (s : State) (c : Core) (r : Ring) (now
   known-pause : pauseOf p timed now .over ≡ pauseOf p c now .over
   known-pause = pause-by p c timed now (hold-same p c (a .1 .since) .same-activity)
 
-  over-hold : pauseOf p timed now .over ≡ true → HoldTurn p n c now bytes counts (ringStepOf used r)
+  over-hold : pauseOf p timed now .over ≡ true → HoldTurn os p n c now bytes counts (ringStepOf used r)
   over-hold e =
       asking (subst (λ (i : ℕ). AsksStep now bytes n i used) (hold-same p c (a .1 .since) .same-next)
       (subst (λ (x : Step). AsksStep now bytes n (timed .«next_application») x) (sym timed-use) (use-over p timed now (a .1 .since) bytes n e)))
 
-  waits-hold : pauseOf p timed now .over ≡ false → HoldTurn p n c now bytes counts (ringStepOf used r)
+  waits-hold : pauseOf p timed now .over ≡ false → HoldTurn os p n c now bytes counts (ringStepOf used r)
   unfolding doneOf
   waits-hold e =
       let same = hold-same p c (a .1 .since) in
@@ -161,21 +163,21 @@ module _ (p : Parameters) (w : Slotted p) (s : State) (c : Core) (r : Ring) (now
       waiting (not-counted counts (pauseOf p c now .over) (counted-paused p w c now) (sym known-pause ∙ e)) (ap (λ (x : Step). x .sent) is)
       (still (used .state) (used .core) (ap (λ (x : Step). x .core .online) is ∙ paused-on p timed now ∙ same .same-on) (ap (λ (x : Step). x .state) is))
 
-  hold-turn : HoldTurn p n c now bytes counts (quietStep p s c r now bytes n)
+  hold-turn : HoldTurn os p n c now bytes counts (quietStep p s c r now bytes n)
   unfolding quietStep doneOf withActivity
   hold-turn =
       cases (busyOf (c .«last_bus_activity») now)
       (λ b. rw b (waiting (not-counted-busy counts (busyOf (c .«last_bus_activity») now) (counted-free p w c now) b) refl (still s (withActivity c (markedAt (c .«last_bus_activity») now)) refl (a .1 .held))))
       (λ b. rw (b, dispatch-use) (cases (pauseOf p timed now .over) over-hold waits-hold))
 
--- one of these polls asks the applications, and those before it have sent this and nothing else
-record Found (p : Parameters) (out : List Sent) (s : Station) (records : List (List ℕ)) : Type 0 where
+-- One of these polls asks the applications; those before it have sent this and nothing else, and have left these others in the ring.
+pub record Found (p : Parameters) (out : List Sent) (os : List ℕ) (s : Station) (records : List (List ℕ)) : Type 0 where
   pub before : List (List ℕ)
   pub asking : List ℕ
   pub rest : List (List ℕ)
   pub are : records ≡ before ++ (asking ∷ rest)
   pub sent : sentIn s before ≡ out
-  pub place : At holding p (afterPolls s before .state) (afterPolls s before .core) (afterPolls s before .«token_ring»)
+  pub place : At (holding os) p (afterPolls s before .state) (afterPolls s before .core) (afterPolls s before .«token_ring»)
   pub asks : Asks (afterPolls s before) asking
 
 -- it is found in what follows a first poll
@@ -187,8 +189,8 @@ sent-in-on : (p : Parameters) (n : ℕ) (s : State) (c : Core) (r : Ring) (bytes
 unfolding sentIn polledOf stepAnswer
 sent-in-on p n s c r bytes later x is = ap (λ (y : Polled). told (y .answer .sent) ++ sentIn (y .station) later) is
 
-found-later : (p : Parameters) (n : ℕ) (s : State) (c : Core) (r : Ring) (bytes : List ℕ) (later : List (List ℕ)) (x : RingStep) (out : List Sent) → pollOf (stationOf p n s c r) bytes ≡ polledOf p n x → Found p out (stationOf p n (x .step .state) (x .step .core) (x .ring)) later → Found p (told (x .step .sent) ++ out) (stationOf p n s c r) (bytes ∷ later)
-found-later p n s c r bytes later x out is f =
+pub found-later : (p : Parameters) (n : ℕ) (s : State) (c : Core) (r : Ring) (bytes : List ℕ) (later : List (List ℕ)) (x : RingStep) (out : List Sent) (os : List ℕ) → pollOf (stationOf p n s c r) bytes ≡ polledOf p n x → Found p out os (stationOf p n (x .step .state) (x .step .core) (x .ring)) later → Found p (told (x .step .sent) ++ out) os (stationOf p n s c r) (bytes ∷ later)
+found-later p n s c r bytes later x out os is f =
     let on = sym (polls-on p n s c r bytes (f .before) x is) in
     record {
       before = bytes ∷ f .before;
@@ -196,14 +198,14 @@ found-later p n s c r bytes later x out is f =
       rest = f .rest;
       are = ap (λ (l : List (List ℕ)). bytes ∷ l) (f .are);
       sent = sent-in-on p n s c r bytes (f .before) x is ∙ ap (λ (l : List Sent). told (x .step .sent) ++ l) (f .sent);
-      place = subst (λ (y : Station). At holding p (y .state) (y .core) (y .«token_ring»)) on (f .place);
+      place = subst (λ (y : Station). At (holding os) p (y .state) (y .core) (y .«token_ring»)) on (f .place);
       asks = subst (λ (y : Station). Asks y (f .asking)) on (f .asks);
     }
 
 -- a poll that leads to a step that asks is one that asks
-asks-now : (p : Parameters) (n : ℕ) (s : State) (c : Core) (r : Ring) (bytes : List ℕ) (x : RingStep) → At holding p s c r → pollOf (stationOf p n s c r) bytes ≡ polledOf p n x → AsksStep (clockOf bytes) bytes n (c .«next_application») (x .step) → Asks (stationOf p n s c r) bytes
+asks-now : (os : List ℕ) (p : Parameters) (n : ℕ) (s : State) (c : Core) (r : Ring) (bytes : List ℕ) (x : RingStep) → At (holding os) p s c r → pollOf (stationOf p n s c r) bytes ≡ polledOf p n x → AsksStep (clockOf bytes) bytes n (c .«next_application») (x .step) → Asks (stationOf p n s c r) bytes
 unfolding polledOf stepAnswer
-asks-now p n s c r bytes x a is g =
+asks-now os p n s c r bytes x a is g =
     let sent = ap (λ (y : Polled). y .answer .sent) is in
     let in-hold : inHoldTime (stationOf p n s c r) bytes ≡ holdsOf (clockOf bytes) (x .step .core .«end_token_hold_time») = ap (λ (y : Polled). holdsOf (clockOf bytes) (y .station .core .«end_token_hold_time»)) is in
     record {
@@ -216,9 +218,9 @@ asks-now p n s c r bytes x a is g =
     }
 
 -- or it is the first
-found-now : (p : Parameters) (n : ℕ) (s : State) (c : Core) (r : Ring) (bytes : List ℕ) (later : List (List ℕ)) (x : RingStep) → At holding p s c r → pollOf (stationOf p n s c r) bytes ≡ polledOf p n x → AsksStep (clockOf bytes) bytes n (c .«next_application») (x .step) → Found p [] (stationOf p n s c r) (bytes ∷ later)
+found-now : (os : List ℕ) (p : Parameters) (n : ℕ) (s : State) (c : Core) (r : Ring) (bytes : List ℕ) (later : List (List ℕ)) (x : RingStep) → At (holding os) p s c r → pollOf (stationOf p n s c r) bytes ≡ polledOf p n x → AsksStep (clockOf bytes) bytes n (c .«next_application») (x .step) → Found p [] os (stationOf p n s c r) (bytes ∷ later)
 unfolding afterPolls sentIn
-found-now p n s c r bytes later x a is g =
+found-now os p n s c r bytes later x a is g =
     record {
       before = [];
       asking = bytes;
@@ -226,69 +228,68 @@ found-now p n s c r bytes later x a is g =
       are = refl;
       sent = refl;
       place = a;
-      asks = asks-now p n s c r bytes x a is g;
+      asks = asks-now os p n s c r bytes x a is g;
     }
 
 -- a poll that is not counted leaves as many to come
-uncounted : (counts : Bool) (k polls : ℕ) → counts ≡ false → k ≤ cond counts 1 0 + polls → k ≤ polls
+pub uncounted : (counts : Bool) (k polls : ℕ) → counts ≡ false → k ≤ cond counts 1 0 + polls → k ≤ polls
 uncounted true k polls e l = absurd (true≢false e)
 uncounted false k polls e l = omega arith
-
--- from a held token: asked by the next counted poll
-connected-use : (s : State) (since : Micros) → s ≡ toUseToken since → connectedOf s ≡ s
-unfolding connectedOf
-connected-use s since e = ap connectedOf e ∙ sym e
 
 -- whether a poll is counted
 abbrev countsAt : Parameters → Core → List ℕ → Bool
 countsAt p c bytes = slotAfter (c .«last_bus_activity») (headOf bytes .clock) (slotTimeOf p .0)
 
 -- one poll of a station that holds a new token, and what is found from where it leads
-held-poll : (p : Parameters) (n : ℕ) (s : State) (c : Core) (r : Ring) (bytes : List ℕ) (later : List (List ℕ)) (x : RingStep) → At holding p s c r → pollOf (stationOf p n s c r) bytes ≡ polledOf p n x → HoldTurn p n c (clockOf bytes) bytes (countsAt p c bytes) x → 1 ≤ countedIn (stationOf p n s c r) (bytes ∷ later) → ((y : State) (d : Core) (t : Ring) → At holding p y d t → 1 ≤ countedIn (stationOf p n y d t) later → Found p [] (stationOf p n y d t) later) → Found p [] (stationOf p n s c r) (bytes ∷ later)
-held-poll p n s c r bytes later x a is (asking g) l then = found-now p n s c r bytes later x a is g
-held-poll p n s c r bytes later x a is (waiting f e to) l then =
+held-poll : (os : List ℕ) (p : Parameters) (n : ℕ) (s : State) (c : Core) (r : Ring) (bytes : List ℕ) (later : List (List ℕ)) (x : RingStep) → At (holding os) p s c r → pollOf (stationOf p n s c r) bytes ≡ polledOf p n x → HoldTurn os p n c (clockOf bytes) bytes (countsAt p c bytes) x → 1 ≤ countedIn (stationOf p n s c r) (bytes ∷ later) → ((y : State) (d : Core) (t : Ring) → At (holding os) p y d t → 1 ≤ countedIn (stationOf p n y d t) later → Found p [] os (stationOf p n y d t) later) → Found p [] os (stationOf p n s c r) (bytes ∷ later)
+held-poll os p n s c r bytes later x a is (asking g) l then = found-now os p n s c r bytes later x a is g
+held-poll os p n s c r bytes later x a is (waiting f e to) l then =
     let left = uncounted (countsAt p c bytes) 1 _ f (rw (counted-on p n s c r bytes later x is) at l) in
-    subst (λ (y : Sent). Found p (told y ++ []) (stationOf p n s c r) (bytes ∷ later)) e
-    (found-later p n s c r bytes later x [] is (then (x .step .state) (x .step .core) (x .ring) to left))
+    subst (λ (y : Sent). Found p (told y ++ []) os (stationOf p n s c r) (bytes ∷ later)) e
+    (found-later p n s c r bytes later x [] os is (then (x .step .state) (x .step .core) (x .ring) to left))
 
-found-holding : (records : List (List ℕ)) (p : Parameters) → Slotted p → (n : ℕ) → AllQuiet n records → (s : State) (c : Core) (r : Ring) → At holding p s c r → 1 ≤ countedIn (stationOf p n s c r) records → Found p [] (stationOf p n s c r) records
+-- from a held token: asked by the next counted poll
+found-holding : (records : List (List ℕ)) (os : List ℕ) (p : Parameters) → Slotted p → (n : ℕ) → AllQuiet n records → (s : State) (c : Core) (r : Ring) → At (holding os) p s c r → 1 ≤ countedIn (stationOf p n s c r) records → Found p [] os (stationOf p n s c r) records
 unfolding countedIn
-found-holding [] p w n q s c r a l = absurd (omega arith)
-found-holding (bytes ∷ later) p w n q s c r a l =
-    held-poll p n s c r bytes later (quietStep p s c r (clockOf bytes) bytes n) a (poll-is p n s c r bytes (q .0) (a .0 .on) (connected-use s _ (a .1 .held)))
-    (hold-turn p w s c r (clockOf bytes) bytes n a) l (λ y d t b k. found-holding later p w n (q .1) y d t b k)
+found-holding [] os p w n q s c r a l = absurd (omega arith)
+found-holding (bytes ∷ later) os p w n q s c r a l =
+    held-poll os p n s c r bytes later (quietStep p s c r (clockOf bytes) bytes n) a (poll-at (holding os) p n s c r bytes (q .0) a)
+    (hold-turn os p w s c r (clockOf bytes) bytes n a) l (λ y d t b k. found-holding later os p w n (q .1) y d t b k)
+
+-- from a place, with what is found: all that was to be sent is sent before
+abbrev FoundAt : Parameters → ℕ → Phase → State → Core → Ring → List (List ℕ) → Type 0
+FoundAt p n ph s c r records = suc (length (todo (p .address) ph)) ≤ countedIn (stationOf p n s c r) records → Found p (todo (p .address) ph) (endRing ph) (stationOf p n s c r) records
 
 -- from any place: what is still to be sent is sent first
-turned : (ph : Phase) (p : Parameters) (n : ℕ) (s : State) (c : Core) (r : Ring) (bytes : List ℕ) (later : List (List ℕ)) (x : RingStep) → Under ph → pollOf (stationOf p n s c r) bytes ≡ polledOf p n x → Turn p (clockOf bytes) ph (countsAt p c bytes) x → suc (length (todo (p .address) ph)) ≤ countedIn (stationOf p n s c r) (bytes ∷ later) → ((to : Phase) (y : State) (d : Core) (t : Ring) → At to p y d t → suc (length (todo (p .address) to)) ≤ countedIn (stationOf p n y d t) later → Found p (todo (p .address) to) (stationOf p n y d t) later) → Found p (todo (p .address) ph) (stationOf p n s c r) (bytes ∷ later)
-turned ph p n s c r bytes later x u is (sends g) l then =
-    let head = todo-next (p .address) ph u in
-    let left = one-less (countsAt p c bytes) (suc (length (todo (p .address) (next ph)))) _ (rw (head, counted-on p n s c r bytes later x is) at l) in
-    subst (λ (y : List Sent). Found p y (stationOf p n s c r) (bytes ∷ later)) (sym head)
-    (subst (λ (y : Sent). Found p (told y ++ todo (p .address) (next ph)) (stationOf p n s c r) (bytes ∷ later)) (g .token)
-    (found-later p n s c r bytes later x _ is (then (next ph) (x .step .state) (x .step .core) (x .ring) (g .place) left)))
-turned ph p n s c r bytes later x u is (stays f g) l then =
+turned : (ph : Phase) (p : Parameters) (n : ℕ) (s : State) (c : Core) (r : Ring) (bytes : List ℕ) (later : List (List ℕ)) (x : RingStep) → Under ph → pollOf (stationOf p n s c r) bytes ≡ polledOf p n x → Turn p (clockOf bytes) ph (countsAt p c bytes) x → ((to : Phase) (y : State) (d : Core) (t : Ring) → At to p y d t → FoundAt p n to y d t later) → FoundAt p n ph s c r (bytes ∷ later)
+turned ph p n s c r bytes later x u is (sends g) then l =
+    let own = p .address in
+    let head = todo-next own ph u in
+    let s₀ = stationOf p n s c r in
+    let left = one-less (countsAt p c bytes) (suc (length (todo own (next ph)))) _ (rw (head, counted-on p n s c r bytes later x is) at l) in
+    let one : told (x .step .sent) ++ todo own (next ph) ≡ todo own ph = ap (λ (y : Sent). told y ++ todo own (next ph)) (g .telegram) ∙ ap (λ (y : List Sent). y ++ todo own (next ph)) (told-next own ph) ∙ sym head in
+    subst (λ (y : List Sent). Found p y (endRing ph) s₀ (bytes ∷ later)) one
+    (subst (λ (os : List ℕ). Found p (told (x .step .sent) ++ todo own (next ph)) os s₀ (bytes ∷ later)) (end-next ph)
+    (found-later p n s c r bytes later x _ _ is (then (next ph) (x .step .state) (x .step .core) (x .ring) (g .place) left)))
+turned ph p n s c r bytes later x u is (stays f g) then l =
     let left = uncounted (countsAt p c bytes) _ _ f (rw (counted-on p n s c r bytes later x is) at l) in
-    subst (λ (y : Sent). Found p (told y ++ todo (p .address) ph) (stationOf p n s c r) (bytes ∷ later)) (g .nothing)
-    (found-later p n s c r bytes later x _ is (then ph (x .step .state) (x .step .core) (x .ring) (g .place) left))
+    subst (λ (y : Sent). Found p (told y ++ todo (p .address) ph) (endRing ph) (stationOf p n s c r) (bytes ∷ later)) (g .nothing)
+    (found-later p n s c r bytes later x _ _ is (then ph (x .step .state) (x .step .core) (x .ring) (g .place) left))
 
--- with a run found from wherever a first poll leads
-abbrev FoundFrom : Parameters → ℕ → List (List ℕ) → Type 0
-FoundFrom p n records = (ph : Phase) (s : State) (c : Core) (r : Ring) → At ph p s c r → suc (length (todo (p .address) ph)) ≤ countedIn (stationOf p n s c r) records → Found p (todo (p .address) ph) (stationOf p n s c r) records
+found-on : (ph : Phase) (p : Parameters) → Slotted p → (n : ℕ) (bytes : List ℕ) (later : List (List ℕ)) → AllQuiet n (bytes ∷ later) → ((to : Phase) (y : State) (d : Core) (t : Ring) → At to p y d t → FoundAt p n to y d t later) → (s : State) (c : Core) (r : Ring) → At ph p s c r → FoundAt p n ph s c r (bytes ∷ later)
+found-on ph p w n bytes later q then s c r a = go (under-or-held ph) a
+  where
+    go : Under ph ⊎ (ph ≡ holding (endRing ph)) → At ph p s c r → FoundAt p n ph s c r (bytes ∷ later)
+    go (inl u) = λ a. turned ph p n s c r bytes later _ u (poll-at ph p n s c r bytes (q .0) a) (turn p w s c r (clockOf bytes) bytes n ph u a) then
+    go (inr e) = subst (λ (x : Phase). At x p s c r → FoundAt p n x s c r (bytes ∷ later)) (sym e) (λ a l. found-holding (bytes ∷ later) (endRing ph) p w n q s c r a l)
 
-found-on : (p : Parameters) → Slotted p → (n : ℕ) (bytes : List ℕ) (later : List (List ℕ)) → AllQuiet n (bytes ∷ later) → FoundFrom p n later → FoundFrom p n (bytes ∷ later)
-found-on p w n bytes later q then (starting os) s c r a l =
-    turned (starting os) p n s c r bytes later _ tt (poll-at (starting os) p n s c r bytes (q .0) tt a) (turn-at (starting os) p w n s c r bytes tt a) l then
-found-on p w n bytes later q then (checking k x more) s c r a l =
-    turned (checking k x more) p n s c r bytes later _ tt (poll-at (checking k x more) p n s c r bytes (q .0) tt a) (turn-at (checking k x more) p w n s c r bytes tt a) l then
-found-on p w n bytes later q then holding s c r a l = found-holding (bytes ∷ later) p w n q s c r a l
-
-found : (records : List (List ℕ)) (p : Parameters) → Slotted p → (n : ℕ) → AllQuiet n records → FoundFrom p n records
+pub found : (records : List (List ℕ)) (p : Parameters) → Slotted p → (n : ℕ) → AllQuiet n records → (ph : Phase) (s : State) (c : Core) (r : Ring) → At ph p s c r → FoundAt p n ph s c r records
 unfolding countedIn
 found [] p w n q ph s c r a l = absurd (omega arith)
-found (bytes ∷ later) p w n q ph s c r a l = found-on p w n bytes later q (λ to y d t b k. found later p w n (q .1) to y d t b k) ph s c r a l
+found (bytes ∷ later) p w n q ph s c r a l = found-on ph p w n bytes later q (λ to y d t b. found later p w n (q .1) to y d t b) s c r a l
 
 -- who was the only other is no member once the station is alone
-gone-from : (p : Parameters) (s : State) (c : Core) (r : Ring) (x : ℕ) → At holding p s c r → x < 126 → (x ≡ p .address → ⊥) → has r x ≡ false
+gone-from : (p : Parameters) (s : State) (c : Core) (r : Ring) (x : ℕ) → At (holding []) p s c r → x < 126 → (x ≡ p .address → ⊥) → has r x ≡ false
 gone-from p s c r x a low other =
     let g = a .0 .ring-good in
     cases (has r x) (λ e. absurd (other (alone-has r x (g .sound) low (a .0 .are) e ∙ g .own))) (λ e. e)
@@ -309,10 +310,10 @@ the-letter s x records h one q =
           record {
             holds = held;
             sent = sym (append-nil _) ∙ ap (λ (rest : List Sent). sentUntil s records ++ rest) (sym (g .all-sent held)) ∙ g .sends ∙ four;
-            gone = gone-from p _ _ _ x (held-place s records h q held) (other .low) not-own;
+            gone = gone-from p _ _ _ x (run-of s records h q .held-at held) (other .low) not-own;
           };
       by-five = λ l.
-          let f = found records p (slotted p (h .settings)) (s .applications) q (starting (others r)) (s .state) (s .core) r (started s h) (omega (arith, tokens-length (others r) (p .address))) in
+          let f = found records p (slotted p (h .settings)) (s .applications) q (starting First (others r)) (s .state) (s .core) r (started s h) (omega (arith, tokens-length (others r) (p .address))) in
           record {
             before = f .before;
             asking = f .asking;

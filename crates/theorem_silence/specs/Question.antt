@@ -1,16 +1,13 @@
 -- Why Silence asks that no gap question is due: with one due, the token pass asks it in place of the first token.
 use Prim.Native.Nat.{ℕ}
-use mathlib.Core.Bool.{Bool, true, false}
-use mathlib.Core.Path.{_≡_, refl, sym, ap, _∙_}
+use mathlib.Core.Bool.{Bool, true}
+use mathlib.Core.Path.{_≡_, ap, _∙_}
 use mathlib.Core.List.{List}
 use Rattle.bit_times.specs.declared.Micros.{Micros}
 use Rattle.settings.specs.declared.Parameters.{Parameters}
 use Rattle.settings_build.specs.Build.{firstRefusal, plainOf}
 use Rattle.settings.specs.Settings.{slotTimeOf}
-use Rattle.ring_addresses.specs.SetLaws.{true≢false}
 use Rattle.ring.specs.Ring.{Ring}
-use Rattle.ring.specs.declared.GapState.{GapState}
-use Rattle.ring.specs.declared.GapState.the-variants.{Waiting, DoPoll}
 use Rattle.codec_answers.specs.declared.Sent.the-variants.{StatusRequest}
 use Rattle.station.specs.declared.PassTokenAttempt.{PassTokenAttempt}
 use Rattle.station.specs.declared.PassTokenAttempt.the-variants.{First}
@@ -18,34 +15,26 @@ use Rattle.station.specs.declared.State.{State}
 use Rattle.station.specs.declared.State.the-variants.{PassToken}
 use Rattle.station.specs.declared.Core.{Core}
 use Rattle.station.specs.Whole.{Station, RingStep}
-use Rattle.station.specs.Parts.{withGap}
 use Rattle.station.specs.Steps.{pauseOf, transmitOf}
-use Rattle.station_pass.specs.Pass.{gapAdvanced, passPollOn, passPoll, passTokenOf}
+use Rattle.station_pass.specs.Pass.{passPollOn, passTokenOf}
 use Rattle.station_answer.specs.Answer.{Polled, polledOf, stepAnswer}
 use Rattle.station_poll.specs.Poll.{pollOf}
-use Rattle.theorem_silence.specs.Silence.{asksOn, gapDue, online, Quiet, slotAfter, counted}
+use Rattle.theorem_silence.specs.Silence.{gapDue, online, Quiet, slotAfter, counted}
 use Rattle.theorem_silence.specs.Times.{Slotted, slotted, counted-free, counted-paused}
-use Rattle.theorem_silence.specs.OnePoll.{quietStep, dispatch-pass}
+use Rattle.theorem_silence.specs.OnePoll.{quietStep, dispatch-pass, asked-step, due-whom}
 use Rattle.theorem_silence.specs.Theorem.{clockOf, poll-is, connected-pass}
-
--- a gap state that asks
-asked-on : (g : GapState) (p : Parameters) (c : Core) (r : Ring) (now : Micros) (k : PassTokenAttempt) → asksOn g ≡ true → (a : ℕ) × (passPollOn g p c r now k .step .sent ≡ StatusRequest a)
-unfolding passPollOn transmitOf
-asked-on (Waiting count) p c r now k e = absurd (true≢false (sym e))
-asked-on (DoPoll current) p c r now k e = (current, refl)
 
 -- a pass whose pause is over and that has a question due
 asked-over : (p : Parameters) (c : Core) (r : Ring) (now : Micros) (gap : Bool) (k : PassTokenAttempt) → gapDue p c r gap ≡ true → pauseOf p c now .over ≡ true → (a : ℕ) × (passTokenOf p c r now gap k .step .sent ≡ StatusRequest a)
-unfolding passTokenOf passPoll gapDue withGap
-asked-over p c r now true k due e =
-    let advanced = gapAdvanced p r (c .«gap_state») in
-    rw e (asked-on advanced p (withGap (pauseOf p c now .core) advanced) r now k due)
-asked-over p c r now false k due e = absurd (true≢false (sym due))
+unfolding passPollOn transmitOf
+asked-over p c r now gap k due e =
+    let d = due-whom p c r gap due in
+    (d .whom, ap (λ (b : Bool). passTokenOf p c r now b k .step .sent) (d .looks) ∙ ap (λ (x : RingStep). x .step .sent) (asked-step p c r now k (d .whom) (d .is-due) e))
 
 -- the step of a counted poll in PassToken is the pass
 pass-step : (p : Parameters) (w : Slotted p) (s : State) (c : Core) (r : Ring) (now : Micros) (bytes : List ℕ) (n : ℕ) (gap : Bool) → s ≡ PassToken gap First → slotAfter (c .«last_bus_activity») (now .0) (slotTimeOf p .0) ≡ true → quietStep p s c r now bytes n ≡ passTokenOf p c r now gap First
 unfolding quietStep
-pass-step p w s c r now bytes n gap state e = rw (counted-free p w c now e) (dispatch-pass p w s c r now bytes n gap First state)
+pass-step p w s c r now bytes n gap state e = rw (counted-free p w c now e) (dispatch-pass p s c r now bytes n gap First state)
 
 -- with a question due, a counted poll sends a status request
 pub question-first : (s : Station) (bytes : List ℕ) (gap : Bool) → firstRefusal (plainOf (s .p)) ≡ 0 → online s ≡ true → s .state ≡ PassToken gap First → gapDue (s .p) (s .core) (s .«token_ring») gap ≡ true → Quiet (s .applications) bytes → counted s bytes ≡ true → (a : ℕ) × (pollOf s bytes .answer .sent ≡ StatusRequest a)

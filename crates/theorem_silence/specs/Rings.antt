@@ -38,6 +38,18 @@ others-up-to r k own l h =
     let same = walk-ext (has r) (λ (x : ℕ). leb x k) (up 0) 125 1 (λ e a b. h (up 0 e) (omega arith)) in
     ap (λ (o : ℕ). length (walk (has r) (up o) 125 1)) own ∙ ap length same ∙ omega (arith, walk-up 125 1 k (omega arith) (omega arith) l)
 
+-- a ring that has these but not 1 has one other less
+walk-skip : (f : ℕ → Bool) (n d : ℕ) → f (up 0 d) ≡ false → walk f (up 0) (suc n) d ≡ walk f (up 0) n (suc d)
+unfolding walk
+walk-skip f n d e = rw e
+
+pub others-but-one : (r : Ring) (k : ℕ) → r .own ≡ 0 → 1 ≤ k → k ≤ 125 → has r 1 ≡ false → ((x : ℕ) → x < 126 → (eqb x 1 || has r x) ≡ leb x k) → length (others r) + 1 ≡ k
+unfolding others
+others-but-one r k own l m out h =
+    let same = walk-ext (has r) (λ (x : ℕ). leb x k) (up 0) 124 2 (λ e a b. ap (λ (c : Bool). c || has r (up 0 e)) (sym (ne-eqb (up 0 e) 1 (λ z. omega arith))) ∙ h (up 0 e) (omega arith)) in
+    let rest : length (walk (has r) (up 0) 125 1) ≡ length (walk (λ (x : ℕ). leb x k) (up 0) 124 2) = ap length (walk-skip (has r) 124 1 out ∙ same) in
+    ap (λ (o : ℕ). length (walk (has r) (up o) 125 1) + 1) own ∙ omega (arith, walk-up 124 2 k (omega arith) (omega arith) m)
+
 -- the members that station 0 has after passes between addresses, told by a test
 pub members-of : (passes : List (ℕ × ℕ)) (r : Ring) (f g : ℕ → Bool) → SoundRing r → r .own ≡ 0 → ((x : ℕ) → x < 126 → has r x ≡ f x) → addressesOnly passes ≡ true → sameSet (λ (x : ℕ). keptAfter 0 (f x) passes x) g 126 ≡ true → (x : ℕ) → x < 126 → has (witnessAll r passes) x ≡ g x
 members-of passes r f g sound own held low left x l =

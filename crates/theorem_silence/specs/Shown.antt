@@ -19,7 +19,7 @@ use Rattle.ring_addresses.specs.Set.{walk, nearest, betweenOf}
 use Rattle.ring.specs.declared.GapState.{GapState}
 use Rattle.ring.specs.declared.GapState.the-variants.{Waiting, DoPoll}
 use Rattle.ring_links.specs.Links.{listed, afterOf, beforeOf, linkAt, tab, linksOf, linkOf, unlinkOf, behindOf, insertOf, sweepOf, relinkOf, followsOf, confirmsOf}
-use Rattle.ring.specs.Ring.{Ring, has, make, others, removeOf, freshOf, roundOf, lapsOf, witnessOf, claimOf, addOf, nextOf, prevOf}
+use Rattle.ring.specs.Ring.{Ring, polls, has, make, others, removeOf, freshOf, roundOf, lapsOf, witnessOf, claimOf, addOf, nextOf, prevOf}
 use Rattle.ring.specs.Ring as rings
 use Rattle.ring.specs.Laws.{SoundRing, claim-has, claim-own, add-has, add-own, fresh-has, fresh-made, witness-own, sound-claim, sound-witness}
 use Rattle.ring.specs.Worked.{among}
@@ -52,17 +52,18 @@ use Rattle.theorem_silence.specs.Sharp.{turnTime, sharp}
 use Rattle.theorem_silence.specs.Scripts.{token, declines, sends-nine, recordOf, pollHearing, pollSilent, claims, lowest, hears-all, hears-cut, begins-look, others-look, responseOf1, answer-type, begins-question, others-question, asks-one, callsFor}
 use Rattle.theorem_silence.specs.Met.{Met, PremisesMet}
 use Rattle.theorem_silence.specs.Rings.{UpTo, others-up-to, cut-all, cut-added, one-out, one-asked}
-use Rattle.theorem_silence.specs.Made.{lowestWith, coreAt, pass-look, pass-question, awaits-one, pass-answered, calls-none, calls-on, begun-look, ring-all, ring-alone, begun-question, ring-but-one, first-runs, Members, members-if, says-token, cut-heard, claimed, one-gets-asked, one-answers}
+use Rattle.theorem_silence.specs.OnePoll.{no-gap}
+use Rattle.theorem_silence.specs.Made.{listens-look, lowestWith, coreAt, pass-look, pass-question, awaits-one, pass-answered, calls-none, calls-on, begun-look, ring-all, ring-alone, begun-question, ring-but-one, first-runs, Members, members-if, says-token, cut-heard, claimed, one-gets-asked, one-answers}
 
 -- with accepted settings and one application there is a new station, and calls make others of it
 one-accepted : applicationsRefusal 1 ≡ 0
 unfolding applicationsRefusal refuseOutside
 one-accepted = refl
 
-made-by : (p : Parameters) (cs : List Call) (s : Station) → firstRefusal (plainOf p) ≡ 0 → run (freshStation p 1) cs ≡ s → ByCalls s
+pub made-by : (p : Parameters) (cs : List Call) (s : Station) → firstRefusal (plainOf p) ≡ 0 → run (freshStation p 1) cs ≡ s → ByCalls s
 made-by p cs s e m = record { settings = p; applications = 1; accepted = e; number-accepted = one-accepted; calls = cs; makes = m }
 
-lowest-accepted : firstRefusal (plainOf lowest) ≡ 0
+pub lowest-accepted : firstRefusal (plainOf lowest) ≡ 0
 unfolding firstRefusal earlyRefusal plainOf refuseBelow refuseOutside addressRefusal baudRefusal slotBitsRefusal hsaRefusal rotationRefusal roomRefusal gapWaitRefusal retryRefusal minTsdrRefusal factorsRefusal baudOf
 lowest-accepted = refl
 
@@ -96,7 +97,7 @@ members = members-if (sound-by begins-question .ring-sound)
 -- With the look at the gap.
 
 -- the ring, once the others are heard
-abbrev ring-of : ℕ → Ring
+abbrev pub ring-of : ℕ → Ring
 ring-of zero = freshOf 0
 ring-of (suc k) = witnessOf ring-all (suc k) 0
 
@@ -104,38 +105,51 @@ ring-of (suc k) = witnessOf ring-all (suc k) 0
 only-zero : (x : ℕ) → eqb x 0 ≡ leb x 0
 only-zero x = cases (leb x 0) (λ t. eq-eqb x 0 (omega (arith, leb-true x 0 t)) ∙ sym t) (λ f. ne-eqb x 0 (λ e. omega (arith, leb-false x 0 f)) ∙ sym f)
 
-members-look : (k : ℕ) → k ≤ 125 → UpTo (ring-of k) k
+pub members-look : (k : ℕ) → k ≤ 125 → UpTo (ring-of k) k
 members-look zero l x m = fresh-has 0 x m ∙ only-zero x
 members-look (suc k) l x m = cut-all ring-all (suc k) sound-all (members .own-all) (omega arith) l (members .all) x m
 
-own-of : (k : ℕ) → ring-of k .own ≡ 0
+pub own-of : (k : ℕ) → ring-of k .own ≡ 0
 own-of zero = fresh-made 0 .own-is
 own-of (suc k) = witness-own ring-all (suc k) 0 ∙ members .own-all
 
 -- claiming twice changes no member, and not own
-claimed-has : (r : Ring) (x : ℕ) → has (claimOf (claimOf r)) x ≡ has r x
+pub claimed-has : (r : Ring) (x : ℕ) → has (claimOf (claimOf r)) x ≡ has r x
 claimed-has r x = claim-has (claimOf r) x ∙ claim-has r x
 
-claimed-own : (r : Ring) → claimOf (claimOf r) .own ≡ r .own
+pub claimed-own : (r : Ring) → claimOf (claimOf r) .own ≡ r .own
 claimed-own r = claim-own (claimOf r) ∙ claim-own r
 
--- the calls make this station
-made-look : (k : ℕ) → k ≤ 125 → run (freshStation lowest 1) (callsFor k true) ≡ pass-look (claimOf (claimOf (ring-of k)))
-made-look k l = calls-on begins-look (others-look k ++ claims 3300) (freshStation lowest 1) ∙ ap (λ (s : Station). run s (others-look k ++ claims 3300)) (first-runs .look) ∙ go k l
+-- the calls make a station that listens, when it has heard them
+abbrev pub heard-at : ℕ → ℕ
+heard-at zero = 0
+heard-at (suc k) = 900
+
+pub made-listens : (k : ℕ) → k ≤ 125 → run (freshStation lowest 1) (begins-look ++ others-look k) ≡ listens-look (heard-at k) (ring-of k)
+made-listens k l = calls-on begins-look (others-look k) (freshStation lowest 1) ∙ ap (λ (s : Station). run s (others-look k)) (first-runs .look) ∙ go k l
   where
-    go : (k : ℕ) → k ≤ 125 → run begun-look (others-look k ++ claims 3300) ≡ pass-look (claimOf (claimOf (ring-of k)))
-    go zero l = claimed (freshOf 0) .look-none
+    go : (k : ℕ) → k ≤ 125 → run begun-look (others-look k) ≡ listens-look (heard-at k) (ring-of k)
+    go zero l = calls-none begun-look
     go (suc k) l =
         let cut = hears-cut 900 (suc k) ∷ [] in
-        calls-on (others-look (suc k)) (claims 3300) begun-look
-        ∙ ap (λ (s : Station). run s (claims 3300))
-        (calls-on (hears-all 100 1 7) cut begun-look
+        calls-on (hears-all 100 1 7) cut begun-look
         ∙ ap (λ (s : Station). run s cut) (first-runs .heard-all)
-        ∙ cut-heard _ 900 (suc k) (says-token (suc k) (omega arith) .0) (omega arith) 0 0 800 (Waiting 0) ring-all (omega arith) (omega arith))
-        ∙ claimed (witnessOf ring-all (suc k) 0) .look-heard
+        ∙ cut-heard _ 900 (suc k) (says-token (suc k) (omega arith) .0) (omega arith) 0 0 800 (Waiting 0) ring-all (omega arith) (omega arith)
+
+-- and more calls go on from there
+pub made-on : (k : ℕ) → k ≤ 125 → (cs : List Call) → run (freshStation lowest 1) ((begins-look ++ others-look k) ++ cs) ≡ run (listens-look (heard-at k) (ring-of k)) cs
+made-on k l cs = calls-on (begins-look ++ others-look k) cs (freshStation lowest 1) ∙ ap (λ (s : Station). run s cs) (made-listens k l)
+
+-- so the token pass
+pub made-look : (k : ℕ) → k ≤ 125 → run (freshStation lowest 1) (callsFor k true) ≡ pass-look (claimOf (claimOf (ring-of k)))
+made-look k l = made-on k l (claims 3300) ∙ go k
+  where
+    go : (k : ℕ) → run (listens-look (heard-at k) (ring-of k)) (claims 3300) ≡ pass-look (claimOf (claimOf (ring-of k)))
+    go zero = claimed (freshOf 0) .look-none
+    go (suc k) = claimed (witnessOf ring-all (suc k) 0) .look-heard
 
 -- no question is due: the count is 0
-no-question : (r : Ring) → gapDue lowest (pass-look r .core) r true ≡ false
+pub no-question : (r : Ring) → gapDue lowest (pass-look r .core) r true ≡ false
 unfolding gapDue passing.gapAdvanced
 no-question r = refl
 
@@ -148,18 +162,18 @@ met-look k l =
 -- Without it: after a gap question.
 
 -- the ring, once the others but 1 are heard
-abbrev before-one : ℕ → Ring
+abbrev pub before-one : ℕ → Ring
 before-one zero = ring-alone
 before-one (suc zero) = ring-alone
 before-one (suc (suc k)) = witnessOf ring-but-one (suc (suc k)) 0
 
 -- its own, and that 1 is no member
-own-before : (k : ℕ) → before-one k .own ≡ 0
+pub own-before : (k : ℕ) → before-one k .own ≡ 0
 own-before zero = members .own-alone
 own-before (suc zero) = members .own-alone
 own-before (suc (suc k)) = witness-own ring-but-one (suc (suc k)) 0 ∙ members .own-but-one
 
-one-absent : (k : ℕ) → k ≤ 125 → has (before-one k) 1 ≡ false
+pub one-absent : (k : ℕ) → k ≤ 125 → has (before-one k) 1 ≡ false
 one-absent zero l = members .alone 1 (omega arith)
 one-absent (suc zero) l = members .alone 1 (omega arith)
 one-absent (suc (suc k)) l = one-out ring-but-one (suc (suc k)) sound-heard (omega arith) l (members .but-one 1 (omega arith))
@@ -185,51 +199,54 @@ zero-and-one zero = refl
 zero-and-one (suc zero) = refl
 zero-and-one (suc (suc x)) = rw (ne-eqb (suc (suc x)) 1 (λ e. omega arith), ne-eqb (suc (suc x)) 0 (λ e. omega arith), lt-leb (suc (suc x)) 1 (omega arith))
 
+-- with 1 the ring that was heard has the members 0, 1, .. k
+pub with-one : (k : ℕ) → suc k ≤ 125 → (x : ℕ) → x < 126 → (eqb x 1 || has (before-one (suc k)) x) ≡ leb x (suc k)
+with-one zero l x m = ap (λ (b : Bool). eqb x 1 || b) (members .alone x m) ∙ zero-and-one x
+with-one (suc k) l x m = cut-added ring-but-one (suc (suc k)) sound-heard (members .own-but-one) (omega arith) l (members .but-one) x m
+
 members-question : (k : ℕ) → k ≤ 125 → UpTo (after-one k) k
 members-question zero l x m = claimed-has ring-alone x ∙ members .alone x m ∙ only-zero x
-members-question (suc k) l x m = add-has (claimOf (claimOf (before-one (suc k)))) 1 x (sound-claim (claimOf (before-one (suc k))) (sound-claim (before-one (suc k)) (sound-before (suc k)))) (omega arith) m ∙ ap (λ (b : Bool). eqb x 1 || b) (claimed-has (before-one (suc k)) x) ∙ go k l
-  where
-    go : (k : ℕ) → suc k ≤ 125 → (eqb x 1 || has (before-one (suc k)) x) ≡ leb x (suc k)
-    go zero l = ap (λ (b : Bool). eqb x 1 || b) (members .alone x m) ∙ zero-and-one x
-    go (suc k) l = cut-added ring-but-one (suc (suc k)) sound-heard (members .own-but-one) (omega arith) l (members .but-one) x m
+members-question (suc k) l x m = add-has (claimOf (claimOf (before-one (suc k)))) 1 x (sound-claim (claimOf (before-one (suc k))) (sound-claim (before-one (suc k)) (sound-before (suc k)))) (omega arith) m ∙ ap (λ (b : Bool). eqb x 1 || b) (claimed-has (before-one (suc k)) x) ∙ with-one k l x m
 
--- the calls make this station
+-- the calls lead to a token pass with 1 to be asked
+claims-due : (k : ℕ) → k ≤ 125 → run (run begun-question (others-question k)) (claims 7400) ≡ pass-question (claimOf (claimOf (before-one k)))
+claims-due zero l = ap (λ (s : Station). run s (claims 7400)) (calls-none begun-question) ∙ claimed ring-alone .question-none
+claims-due (suc zero) l = ap (λ (s : Station). run s (claims 7400)) (calls-none begun-question) ∙ claimed ring-alone .question-none
+claims-due (suc (suc k)) l =
+    let cut = hears-cut 5000 (suc (suc k)) ∷ [] in
+    ap (λ (s : Station). run s (claims 7400))
+    (calls-on (hears-all 4200 2 6) cut begun-question
+    ∙ ap (λ (s : Station). run s cut) (first-runs .heard-but-one)
+    ∙ cut-heard _ 5000 (suc (suc k)) (says-token (suc (suc k)) (omega arith) .1) (omega arith) 3400 67872 4900 (Waiting 2) ring-but-one (omega arith) (omega arith))
+    ∙ claimed (witnessOf ring-but-one (suc (suc k)) 0) .question-heard
+
+pub made-due : (k : ℕ) → k ≤ 125 → (cs : List Call) → run (freshStation lowest 1) (begins-question ++ (others-question k ++ (claims 7400 ++ cs))) ≡ run (pass-question (claimOf (claimOf (before-one k)))) cs
+made-due k l cs =
+    calls-on begins-question (others-question k ++ (claims 7400 ++ cs)) (freshStation lowest 1)
+    ∙ ap (λ (s : Station). run s (others-question k ++ (claims 7400 ++ cs))) (first-runs .question)
+    ∙ calls-on (others-question k) (claims 7400 ++ cs) begun-question
+    ∙ calls-on (claims 7400) cs (run begun-question (others-question k))
+    ∙ ap (λ (s : Station). run s cs) (claims-due k l)
+
+-- it is: 1 is no member
+pub one-due : (k : ℕ) → k ≤ 125 → polls (claimOf (claimOf (before-one k))) 1 ≡ true
+one-due k l = one-asked (claimOf (claimOf (before-one k))) (sound-claim (claimOf (before-one k)) (sound-claim (before-one k) (sound-before k))) (claimed-own (before-one k) ∙ own-before k) (claimed-has (before-one k) 1 ∙ one-absent k l)
+
+-- the calls make the station that was answered
 made-question : (k : ℕ) → k ≤ 125 → run (freshStation lowest 1) (callsFor k false) ≡ pass-answered (after-one k)
 made-question k l =
     let r = claimOf (claimOf (before-one k)) in
-    let pass = pass-question r in
-    let question = one-asked r (sound-claim (claimOf (before-one k)) (sound-claim (before-one k) (sound-before k))) (claimed-own (before-one k) ∙ own-before k) (claimed-has (before-one k) 1 ∙ one-absent k l) in
-    calls-on begins-question (others-question k ++ (claims 7400 ++ asks-one k)) (freshStation lowest 1)
-    ∙ ap (λ (s : Station). run s (others-question k ++ (claims 7400 ++ asks-one k))) (first-runs .question)
-    ∙ calls-on (others-question k) (claims 7400 ++ asks-one k) begun-question
-    ∙ calls-on (claims 7400) (asks-one k) (run begun-question (others-question k))
-    ∙ ap (λ (s : Station). run s (asks-one k)) (claimed-for k l)
-    ∙ calls-on (pollSilent 8000 ∷ []) (pollHearing 8300 (responseOf1 (answer-type k) ∷ []) ∷ []) pass
-    ∙ ap (λ (s : Station). run s (pollHearing 8300 (responseOf1 (answer-type k) ∷ []) ∷ [])) (one-gets-asked r question)
+    made-due k l (asks-one k)
+    ∙ calls-on (pollSilent 8000 ∷ []) (pollHearing 8300 (responseOf1 (answer-type k) ∷ []) ∷ []) (pass-question r)
+    ∙ ap (λ (s : Station). run s (pollHearing 8300 (responseOf1 (answer-type k) ∷ []) ∷ [])) (one-gets-asked r (one-due k l))
     ∙ answered-for k
   where
-    claimed-for : (k : ℕ) → k ≤ 125 → run (run begun-question (others-question k)) (claims 7400) ≡ pass-question (claimOf (claimOf (before-one k)))
-    claimed-for zero l = ap (λ (s : Station). run s (claims 7400)) (calls-none begun-question) ∙ claimed ring-alone .question-none
-    claimed-for (suc zero) l = ap (λ (s : Station). run s (claims 7400)) (calls-none begun-question) ∙ claimed ring-alone .question-none
-    claimed-for (suc (suc k)) l =
-        let cut = hears-cut 5000 (suc (suc k)) ∷ [] in
-        ap (λ (s : Station). run s (claims 7400))
-        (calls-on (hears-all 4200 2 6) cut begun-question
-        ∙ ap (λ (s : Station). run s cut) (first-runs .heard-but-one)
-        ∙ cut-heard _ 5000 (suc (suc k)) (says-token (suc (suc k)) (omega arith) .1) (omega arith) 3400 67872 4900 (Waiting 2) ring-but-one (omega arith) (omega arith))
-        ∙ claimed (witnessOf ring-but-one (suc (suc k)) 0) .question-heard
-
     answered-for : (k : ℕ) → run (awaits-one (claimOf (claimOf (before-one k)))) (pollHearing 8300 (responseOf1 (answer-type k) ∷ []) ∷ []) ≡ pass-answered (after-one k)
     answered-for zero = one-answers (claimOf (claimOf ring-alone)) .not-ready
     answered-for (suc k) = one-answers (claimOf (claimOf (before-one (suc k)))) .in-ring
 
--- no question is due where the gap is not looked at
-no-look : (r : Ring) → gapDue lowest (pass-answered r .core) r false ≡ false
-unfolding gapDue
-no-look r = refl
-
 met-question : (k : ℕ) → k ≤ 125 → Met k false
-met-question k l = met-by k false 7600 68272 8300 (DoPoll 1) (after-one k) (callsFor k false) l (omega arith) (made-question k l) (no-look (after-one k)) (own-after k) (members-question k l)
+met-question k l = met-by k false 7600 68272 8300 (DoPoll 1) (after-one k) (callsFor k false) l (omega arith) (made-question k l) (no-gap lowest (pass-answered (after-one k) .core) (after-one k)) (own-after k) (members-question k l)
 
 -- for both flags
 pub premises-met : PremisesMet

@@ -2,6 +2,7 @@
 use Prim.Native.Nat.{ℕ, suc, _+_, _≤_}
 use mathlib.Core.Bool.{Bool, true, false, cond}
 use mathlib.Core.Path.{_≡_, refl, sym, ap, subst, _∙_}
+use mathlib.Core.Logic.{_⊎_, inl, inr}
 use mathlib.Core.List.{List, [], _∷_, _++_}
 use lib.ListN.{length}
 use native.Mathlib.Omega.{arith}
@@ -18,18 +19,19 @@ use Rattle.codec_answers.specs.declared.Outcome.the-variants as outcome
 use Rattle.codec_answers.specs.declared.Sent.{Sent}
 use Rattle.codec_answers.specs.declared.Sent.the-variants as sent
 use Rattle.station.specs.declared.PassTokenAttempt.{PassTokenAttempt}
+use Rattle.station.specs.declared.PassTokenAttempt.the-variants.{First}
 use Rattle.station.specs.declared.State.{State}
-use Rattle.station.specs.declared.State.the-variants.{PassToken, CheckTokenPass}
+use Rattle.station.specs.declared.State.the-variants.{PassToken}
 use Rattle.station.specs.declared.Core.{Core}
 use Rattle.station.specs.Whole.{Station, RingStep}
 use Rattle.station.specs.Parts.{stateNumber}
 use Rattle.station.specs.Steps.{ongoingOf, busActivityOf, doneOf, ringStepOf}
 use Rattle.station_poll.specs.Poll.{connectedOf, pollOnline, pollInner, acceptedAfter, acceptedPoll, pollOf}
-use Rattle.station_answer.specs.Answer.{polledOf, stepAnswer}
+use Rattle.station_answer.specs.Answer.{Polled, polledOf, stepAnswer}
 use Rattle.theorem_silence.specs.Silence.{Start, Quiet, AllQuiet, holdsToken, until, told, sentUntil, counted, countedIn, slotAfter, Theorem}
 use Rattle.theorem_silence.specs.Times.{Slotted, slotted}
-use Rattle.theorem_silence.specs.Phases.{Phase, starting, checking, holding, next, receiver, todo, inRing, Under, todo-next, todo-some, tokens-length, advance, ring-after}
-use Rattle.theorem_silence.specs.OnePoll.{At, Turn, sends, stays, quietStep, turn-starting, turn-checking}
+use Rattle.theorem_silence.specs.Phases.{Phase, asking, awaiting, starting, checking, claiming, holding, next, nextSent, told-next, todo, inRing, endRing, Under, under-or-held, todo-next, todo-some, tokens-length, advance, end-advance, ring-after}
+use Rattle.theorem_silence.specs.OnePoll.{At, ready-at, Sends, Turn, sends, stays, quietStep, turn}
 
 -- the station of these parts
 abbrev pub stationOf : Parameters → ℕ → State → Core → Ring → Station
@@ -39,55 +41,75 @@ stationOf p n s c r = record { state = s; core = c; «token_ring» = r; p = p; a
 abbrev pub clockOf : List ℕ → Micros
 clockOf bytes = record { 0 = headOf bytes .clock }
 
--- a silent poll of an online station that has left Offline is the silent step
+-- an online station leaves Offline first
+pub inner-online : (p : Parameters) (s : State) (c : Core) (r : Ring) (now : Micros) (transmitting : Bool) (pending : ℕ) (bytes : List ℕ) (n count : ℕ) → c .online ≡ true → pollInner p s c r now transmitting pending bytes n count ≡ pollOnline p (connectedOf s) c r now transmitting pending bytes n count
+unfolding pollInner
+inner-online p s c r now transmitting pending bytes n count on =
+    ap (λ (b : Bool). cond b (pollOnline p (connectedOf s) c r now transmitting pending bytes n count) (ringStepOf (doneOf s c outcome.Offline) r)) on
+
+-- a silent poll of an online station is the silent step
 online-quiet : (p : Parameters) (s : State) (c : Core) (r : Ring) (now : Micros) (bytes : List ℕ) (n : ℕ) → pollOnline p s c r now false 0 bytes n 0 ≡ quietStep p s c r now bytes n
 unfolding pollOnline busActivityOf ongoingOf quietStep
 online-quiet p s c r now bytes n = rw (le-ltb (c .«pending_bytes») 0 (omega arith))
 
-inner-quiet : (p : Parameters) (s : State) (c : Core) (r : Ring) (now : Micros) (bytes : List ℕ) (n : ℕ) → c .online ≡ true → connectedOf s ≡ s → pollInner p s c r now false 0 bytes n 0 ≡ quietStep p s c r now bytes n
-unfolding pollInner
-inner-quiet p s c r now bytes n on out =
-    ap (λ (b : Bool). cond b (pollOnline p (connectedOf s) c r now false 0 bytes n 0) (ringStepOf (doneOf s c outcome.Offline) r)) on
-    ∙ ap (λ (x : State). pollOnline p x c r now false 0 bytes n 0) out
-    ∙ online-quiet p s c r now bytes n
+inner-quiet : (p : Parameters) (s : State) (c : Core) (r : Ring) (now : Micros) (bytes : List ℕ) (n : ℕ) → c .online ≡ true → pollInner p s c r now false 0 bytes n 0 ≡ quietStep p (connectedOf s) c r now bytes n
+inner-quiet p s c r now bytes n on = inner-online p s c r now false 0 bytes n 0 on ∙ online-quiet p (connectedOf s) c r now bytes n
+
+pub poll-quiet : (p : Parameters) (n : ℕ) (s : State) (c : Core) (r : Ring) (bytes : List ℕ) → Quiet n bytes → c .online ≡ true → pollOf (stationOf p n s c r) bytes ≡ polledOf p n (quietStep p (connectedOf s) c r (clockOf bytes) bytes n)
+unfolding pollOf acceptedPoll acceptedAfter
+poll-quiet p n s c r bytes q on =
+    rw (eq-eqb _ _ (q .accepted), q .no-telegram, q .no-pending, q .no-transmission) (ap (polledOf p n) (inner-quiet p s c r (clockOf bytes) bytes n on))
 
 pub poll-is : (p : Parameters) (n : ℕ) (s : State) (c : Core) (r : Ring) (bytes : List ℕ) → Quiet n bytes → c .online ≡ true → connectedOf s ≡ s → pollOf (stationOf p n s c r) bytes ≡ polledOf p n (quietStep p s c r (clockOf bytes) bytes n)
-unfolding pollOf acceptedPoll acceptedAfter
-poll-is p n s c r bytes q on out =
-    rw (eq-eqb _ _ (q .accepted), q .no-telegram, q .no-pending, q .no-transmission)
-    (ap (polledOf p n) (inner-quiet p s c r (clockOf bytes) bytes n on out))
+poll-is p n s c r bytes q on out = poll-quiet p n s c r bytes q on ∙ ap (λ (x : State). polledOf p n (quietStep p x c r (clockOf bytes) bytes n)) out
 
--- the states of a token pass have left Offline
+-- the states of all places have left Offline
 pub connected-pass : (s : State) (gap : Bool) (k : PassTokenAttempt) → s ≡ PassToken gap k → connectedOf s ≡ s
 unfolding connectedOf
 connected-pass s gap k e = ap connectedOf e ∙ sym e
 
-connected-check : (s : State) (k : PassTokenAttempt) → s ≡ CheckTokenPass k → connectedOf s ≡ s
+pub connected-at : (ph : Phase) (p : Parameters) (s : State) (c : Core) (r : Ring) → At ph p s c r → connectedOf s ≡ s
 unfolding connectedOf
-connected-check s k e = ap connectedOf e ∙ sym e
+connected-at (asking a os) p s c r g = connected-pass s true _ (g .1 .passing)
+connected-at (awaiting os) p s c r g = ap connectedOf (g .1 .awaiting-it) ∙ sym (g .1 .awaiting-it)
+connected-at (starting k os) p s c r g = connected-pass s (g .1 .gap) k (g .1 .passing)
+connected-at (checking k os) p s c r g = ap connectedOf (g .1) ∙ sym (g .1)
+connected-at (claiming first os) p s c r g = ap connectedOf (g .1) ∙ sym (g .1)
+connected-at (holding os) p s c r g = ap connectedOf (g .1 .held) ∙ sym (g .1 .held)
 
 -- a silent poll of a station at a place, told by the silent step
-pub poll-at : (ph : Phase) (p : Parameters) (n : ℕ) (s : State) (c : Core) (r : Ring) (bytes : List ℕ) → Quiet n bytes → Under ph → At ph p s c r → pollOf (stationOf p n s c r) bytes ≡ polledOf p n (quietStep p s c r (clockOf bytes) bytes n)
-poll-at (starting os) p n s c r bytes q u a = poll-is p n s c r bytes q (a .0 .on) (connected-pass s (a .1 .gap) _ (a .1 .passing))
-poll-at (checking k x more) p n s c r bytes q u a = poll-is p n s c r bytes q (a .0 .on) (connected-check s k (a .1))
-poll-at holding p n s c r bytes q u a = absurd u
+pub poll-at : (ph : Phase) (p : Parameters) (n : ℕ) (s : State) (c : Core) (r : Ring) (bytes : List ℕ) → Quiet n bytes → At ph p s c r → pollOf (stationOf p n s c r) bytes ≡ polledOf p n (quietStep p s c r (clockOf bytes) bytes n)
+poll-at ph p n s c r bytes q g = poll-is p n s c r bytes q (ready-at ph p s c r g .on) (connected-at ph p s c r g)
 
--- and what it comes to
-pub turn-at : (ph : Phase) (p : Parameters) → Slotted p → (n : ℕ) (s : State) (c : Core) (r : Ring) (bytes : List ℕ) → Under ph → At ph p s c r → Turn p (clockOf bytes) ph (slotAfter (c .«last_bus_activity») (headOf bytes .clock) (slotTimeOf p .0)) (quietStep p s c r (clockOf bytes) bytes n)
-turn-at (starting os) p w n s c r bytes u a = turn-starting p w s c r (clockOf bytes) bytes n os a
-turn-at (checking k x more) p w n s c r bytes u a = turn-checking p w s c r (clockOf bytes) bytes n k x more a
-turn-at holding p w n s c r bytes u a = absurd u
+-- a turn that is counted sends
+pub counted-sends : (p : Parameters) (bytes : List ℕ) (ph : Phase) (counts : Bool) (x : RingStep) → counts ≡ true → Turn p (clockOf bytes) ph counts x → Sends p (clockOf bytes) (nextSent (p .address) ph) (next ph) x
+counted-sends p bytes ph counts x e (sends g) = g
+counted-sends p bytes ph counts x e (stays f g) = absurd (true≢false (sym e ∙ f))
+
+-- and leads to the next place
+pub counted-moves : (ph : Phase) (s : Station) (bytes : List ℕ) → Slotted (s .p) → Quiet (s .applications) bytes → Under ph → At ph (s .p) (s .state) (s .core) (s .«token_ring») → counted s bytes ≡ true → At (next ph) (s .p) (pollOf s bytes .station .state) (pollOf s bytes .station .core) (pollOf s bytes .station .«token_ring»)
+unfolding counted polledOf
+counted-moves ph s bytes w q u g e =
+    let p = s .p in
+    let moved = counted-sends p bytes ph _ _ e (turn p w (s .state) (s .core) (s .«token_ring») (clockOf bytes) bytes (s .applications) ph u g) in
+    subst (λ (y : Polled). At (next ph) p (y .station .state) (y .station .core) (y .station .«token_ring»)) (sym (poll-at ph p (s .applications) (s .state) (s .core) (s .«token_ring») bytes q g)) (moved .place)
 
 -- a station holds the token exactly at the last place
+number-not-three : (ph : Phase) (p : Parameters) (s : State) (c : Core) (r : Ring) → Under ph → At ph p s c r → eqb (stateNumber s) 3 ≡ false
+number-not-three (asking a os) p s c r u g = ap (λ (x : State). eqb (stateNumber x) 3) (g .1 .passing)
+number-not-three (awaiting os) p s c r u g = ap (λ (x : State). eqb (stateNumber x) 3) (g .1 .awaiting-it)
+number-not-three (starting k os) p s c r u g = ap (λ (x : State). eqb (stateNumber x) 3) (g .1 .passing)
+number-not-three (checking k os) p s c r u g = ap (λ (x : State). eqb (stateNumber x) 3) (g .1)
+number-not-three (claiming first os) p s c r u g = ap (λ (x : State). eqb (stateNumber x) 3) (g .1)
+number-not-three (holding os) p s c r u g = absurd u
+
 not-holding : (ph : Phase) (p : Parameters) (n : ℕ) (s : State) (c : Core) (r : Ring) → Under ph → At ph p s c r → holdsToken (stationOf p n s c r) ≡ false
 unfolding holdsToken
-not-holding (starting os) p n s c r u a = ap (λ (x : State). eqb (stateNumber x) 3) (a .1 .passing)
-not-holding (checking k x more) p n s c r u a = ap (λ (x : State). eqb (stateNumber x) 3) (a .1)
-not-holding holding p n s c r u a = absurd u
+not-holding ph p n s c r u g = number-not-three ph p s c r u g
 
-pub is-holding : (p : Parameters) (n : ℕ) (s : State) (c : Core) (r : Ring) → At holding p s c r → holdsToken (stationOf p n s c r) ≡ true
+pub is-holding : (os : List ℕ) (p : Parameters) (n : ℕ) (s : State) (c : Core) (r : Ring) → At (holding os) p s c r → holdsToken (stationOf p n s c r) ≡ true
 unfolding holdsToken
-is-holding p n s c r a = ap (λ (x : State). eqb (stateNumber x) 3) (a .1 .held)
+is-holding os p n s c r a = ap (λ (x : State). eqb (stateNumber x) 3) (a .1 .held)
 
 -- a poll of a run counts or not
 pub counted-on : (p : Parameters) (n : ℕ) (s : State) (c : Core) (r : Ring) (bytes : List ℕ) (later : List (List ℕ)) (x : RingStep) → pollOf (stationOf p n s c r) bytes ≡ polledOf p n x → countedIn (stationOf p n s c r) (bytes ∷ later) ≡ cond (slotAfter (c .«last_bus_activity») (headOf bytes .clock) (slotTimeOf p .0)) 1 0 + countedIn (stationOf p n (x .step .state) (x .step .core) (x .ring)) later
@@ -96,11 +118,11 @@ counted-on p n s c r bytes later x is = rw is
 
 -- a run that does not start with the token held goes on with its first poll
 module _ (p : Parameters) (n : ℕ) (s : State) (c : Core) (r : Ring) (bytes : List ℕ) (later : List (List ℕ)) (x : RingStep) (out : holdsToken (stationOf p n s c r) ≡ false) (is : pollOf (stationOf p n s c r) bytes ≡ polledOf p n x) where
-  until-on : until (stationOf p n s c r) (bytes ∷ later) ≡ until (stationOf p n (x .step .state) (x .step .core) (x .ring)) later
+  pub until-on : until (stationOf p n s c r) (bytes ∷ later) ≡ until (stationOf p n (x .step .state) (x .step .core) (x .ring)) later
   unfolding until polledOf
   until-on = rw (out, is)
 
-  sent-on : sentUntil (stationOf p n s c r) (bytes ∷ later) ≡ told (x .step .sent) ++ sentUntil (stationOf p n (x .step .state) (x .step .core) (x .ring)) later
+  pub sent-on : sentUntil (stationOf p n s c r) (bytes ∷ later) ≡ told (x .step .sent) ++ sentUntil (stationOf p n (x .step .state) (x .step .core) (x .ring)) later
   unfolding sentUntil polledOf stepAnswer
   sent-on = rw (out, is)
 
@@ -138,10 +160,10 @@ record Ran (p : Parameters) (ph : Phase) (out : List Sent) (end : Station) (poll
 abbrev RanOn : Parameters → Phase → Station → List (List ℕ) → Type 0
 RanOn p ph s records = Ran p ph (sentUntil s records) (until s records) (countedIn s records)
 
-ran-holding : (p : Parameters) (n : ℕ) (s : State) (c : Core) (r : Ring) (records : List (List ℕ)) → At holding p s c r → RanOn p holding (stationOf p n s c r) records
+ran-holding : (os : List ℕ) (p : Parameters) (n : ℕ) (s : State) (c : Core) (r : Ring) (records : List (List ℕ)) → At (holding os) p s c r → RanOn p (holding os) (stationOf p n s c r) records
 unfolding advance
-ran-holding p n s c r records a =
-    let held = is-holding p n s c r a in
+ran-holding os p n s c r records a =
+    let held = is-holding os p n s c r a in
     let s₀ = stationOf p n s c r in
     rw (until-held s₀ records held, sent-held s₀ records held)
     (record { reached = a; so-far = refl; in-time = λ l. held; same-parts = refl })
@@ -162,13 +184,13 @@ ran-stays : (p : Parameters) (ph : Phase) (x : Sent) (out : List Sent) (end : St
 ran-stays p ph x out end counts polls e f g = rw (e, f, zero-add polls) g
 
 -- a poll that sends the next token
-ran-sends : (p : Parameters) (ph : Phase) (x : Sent) (out : List Sent) (end : Station) (counts : Bool) (polls : ℕ) → Under ph → x ≡ sent.Token (receiver (p .address) ph) → Ran p (next ph) out end polls → Ran p ph (told x ++ out) end (cond counts 1 0 + polls)
+ran-sends : (p : Parameters) (ph : Phase) (x : Sent) (out : List Sent) (end : Station) (counts : Bool) (polls : ℕ) → Under ph → x ≡ nextSent (p .address) ph → Ran p (next ph) out end polls → Ran p ph (told x ++ out) end (cond counts 1 0 + polls)
 unfolding advance
 ran-sends p ph x out end counts polls u e g =
-    rw e
+    rw (e, told-next (p .address) ph)
     (record {
       reached = g .reached;
-      so-far = ap (λ (l : List Sent). sent.Token (receiver (p .address) ph) ∷ l) (g .so-far) ∙ sym (todo-next (p .address) ph u);
+      so-far = ap (λ (l : List Sent). nextSent (p .address) ph ∷ l) (g .so-far) ∙ sym (todo-next (p .address) ph u);
       in-time = λ l. g .in-time (one-less counts (length (todo (p .address) (next ph))) polls (rw (todo-next (p .address) ph u) at l));
       same-parts = g .same-parts;
     })
@@ -186,89 +208,115 @@ module _ (ph : Phase) (p : Parameters) (w : Slotted p) (n : ℕ) (s : State) (c 
   after-it = stationOf p n (the-step .step .state) (the-step .step .core) (the-step .ring)
 
   by-turn : Turn p (clockOf bytes) ph is-counted the-step → Ran p ph (told (the-step .step .sent) ++ sentUntil after-it later) (until after-it later) (cond is-counted 1 0 + countedIn after-it later)
-  by-turn (sends g) = ran-sends p ph _ _ _ is-counted _ u (g .token) (then (next ph) _ _ _ (g .place))
+  by-turn (sends g) = ran-sends p ph _ _ _ is-counted _ u (g .telegram) (then (next ph) _ _ _ (g .place))
   by-turn (stays f g) = ran-stays p ph _ _ _ is-counted _ (g .nothing) f (then ph _ _ _ (g .place))
 
   ran-poll : RanOn p ph (stationOf p n s c r) (bytes ∷ later)
   ran-poll =
       let out = not-holding ph p n s c r u a in
-      let is = poll-at ph p n s c r bytes q u a in
+      let is = poll-at ph p n s c r bytes q a in
       rw (sent-on p n s c r bytes later the-step out is, until-on p n s c r bytes later the-step out is, counted-on p n s c r bytes later the-step is)
-      (by-turn (turn-at ph p w n s c r bytes u a))
+      (by-turn (turn p w s c r (clockOf bytes) bytes n ph u a))
+
+-- once the token is held the run stays there
+ran-held : (ph : Phase) (os : List ℕ) → ph ≡ holding os → (p : Parameters) (n : ℕ) (s : State) (c : Core) (r : Ring) (records : List (List ℕ)) → At ph p s c r → RanOn p ph (stationOf p n s c r) records
+ran-held ph os e p n s c r records = subst (λ (x : Phase). At x p s c r → RanOn p x (stationOf p n s c r) records) (sym e) (ran-holding os p n s c r records)
 
 -- from any place: no poll, and one poll with a run from wherever it leads
 ran-end : (ph : Phase) (p : Parameters) (n : ℕ) (s : State) (c : Core) (r : Ring) → At ph p s c r → RanOn p ph (stationOf p n s c r) []
-ran-end (starting os) p n s c r a = ran-none (starting os) p n s c r tt a
-ran-end (checking k x more) p n s c r a = ran-none (checking k x more) p n s c r tt a
-ran-end holding p n s c r a = ran-holding p n s c r [] a
+ran-end ph p n s c r a = go (under-or-held ph)
+  where
+    go : Under ph ⊎ (ph ≡ holding (endRing ph)) → RanOn p ph (stationOf p n s c r) []
+    go (inl u) = ran-none ph p n s c r u a
+    go (inr e) = ran-held ph _ e p n s c r [] a
 
 ran-on : (ph : Phase) (p : Parameters) → Slotted p → (n : ℕ) (s : State) (c : Core) (r : Ring) (bytes : List ℕ) (later : List (List ℕ)) → At ph p s c r → Quiet n bytes → ((to : Phase) (y : State) (d : Core) (t : Ring) → At to p y d t → RanOn p to (stationOf p n y d t) later) → RanOn p ph (stationOf p n s c r) (bytes ∷ later)
-ran-on (starting os) p w n s c r bytes later a q then = ran-poll (starting os) p w n s c r bytes later tt a q then
-ran-on (checking k x more) p w n s c r bytes later a q then = ran-poll (checking k x more) p w n s c r bytes later tt a q then
-ran-on holding p w n s c r bytes later a q then = ran-holding p n s c r (bytes ∷ later) a
+ran-on ph p w n s c r bytes later a q then = go (under-or-held ph)
+  where
+    go : Under ph ⊎ (ph ≡ holding (endRing ph)) → RanOn p ph (stationOf p n s c r) (bytes ∷ later)
+    go (inl u) = ran-poll ph p w n s c r bytes later u a q then
+    go (inr e) = ran-held ph _ e p n s c r (bytes ∷ later) a
 
 -- any list of silent polls, from any place
 ran : (records : List (List ℕ)) (p : Parameters) → Slotted p → (n : ℕ) → AllQuiet n records → (ph : Phase) (s : State) (c : Core) (r : Ring) → At ph p s c r → RanOn p ph (stationOf p n s c r) records
 ran [] p w n q ph s c r a = ran-end ph p n s c r a
 ran (bytes ∷ later) p w n q ph s c r a = ran-on ph p w n s c r bytes later a (q .0) (λ to y d t b. ran later p w n (q .1) to y d t b)
 
--- the others at a place
-at-others : (ph : Phase) (p : Parameters) (s : State) (c : Core) (r : Ring) → At ph p s c r → others r ≡ inRing ph
-at-others (starting os) p s c r a = a .0 .are
-at-others (checking k x more) p s c r a = a .0 .are
-at-others holding p s c r a = a .0 .are
+-- the token is held exactly where nothing is still to be sent, and then the station is at the last place
+module _ (ph : Phase) (p : Parameters) (n : ℕ) (s : State) (c : Core) (r : Ring) (a : At ph p s c r) where
+  held-there : holdsToken (stationOf p n s c r) ≡ true → ph ≡ holding (endRing ph)
+  held-there e = go (under-or-held ph)
+    where
+      go : Under ph ⊎ (ph ≡ holding (endRing ph)) → ph ≡ holding (endRing ph)
+      go (inl u) = absurd (true≢false (sym e ∙ not-holding ph p n s c r u a))
+      go (inr i) = i
 
--- the token is held exactly where nothing is still to be sent
-none-left : (ph : Phase) (p : Parameters) (n : ℕ) (s : State) (c : Core) (r : Ring) → At ph p s c r → holdsToken (stationOf p n s c r) ≡ true → todo (p .address) ph ≡ []
-none-left (starting os) p n s c r a e = absurd (true≢false (sym e ∙ not-holding (starting os) p n s c r tt a))
-none-left (checking k x more) p n s c r a e = absurd (true≢false (sym e ∙ not-holding (checking k x more) p n s c r tt a))
-none-left holding p n s c r a e = refl
+  none-left : holdsToken (stationOf p n s c r) ≡ true → todo (p .address) ph ≡ []
+  none-left e = ap (todo (p .address)) (held-there e)
 
-some-left-there : (ph : Phase) (p : Parameters) (n : ℕ) (s : State) (c : Core) (r : Ring) → At ph p s c r → holdsToken (stationOf p n s c r) ≡ false → todo (p .address) ph ≡ [] → ⊥
-some-left-there (starting os) p n s c r a e = todo-some (p .address) (starting os) tt
-some-left-there (checking k x more) p n s c r a e = todo-some (p .address) (checking k x more) tt
-some-left-there holding p n s c r a e = absurd (true≢false (sym (is-holding p n s c r a) ∙ e))
+  at-holding : holdsToken (stationOf p n s c r) ≡ true → At (holding (endRing ph)) p s c r
+  at-holding e = subst (λ (x : Phase). At x p s c r) (held-there e) a
 
--- a station at a place that holds the token is at the last
-at-holding : (ph : Phase) (p : Parameters) (n : ℕ) (s : State) (c : Core) (r : Ring) → At ph p s c r → holdsToken (stationOf p n s c r) ≡ true → At holding p s c r
-at-holding (starting os) p n s c r a e = absurd (true≢false (sym e ∙ not-holding (starting os) p n s c r tt a))
-at-holding (checking k x more) p n s c r a e = absurd (true≢false (sym e ∙ not-holding (checking k x more) p n s c r tt a))
-at-holding holding p n s c r a e = a
+  some-left-there : holdsToken (stationOf p n s c r) ≡ false → todo (p .address) ph ≡ [] → ⊥
+  some-left-there e = go (under-or-held ph)
+    where
+      go : Under ph ⊎ (ph ≡ holding (endRing ph)) → todo (p .address) ph ≡ [] → ⊥
+      go (inl u) z = todo-some (p .address) ph u z
+      go (inr i) z = true≢false (sym (is-holding (endRing ph) p n s c r (subst (λ (x : Phase). At x p s c r) i a)) ∙ e)
 
--- a station that starts a token pass is at the first place
-pub started : (s : Station) → Start s → At (starting (others (s .«token_ring»))) (s .p) (s .state) (s .core) (s .«token_ring»)
+-- What a run from any place comes to, by what it sends, the station at its end and the slots that are counted.
+pub record RunFrom (p : Parameters) (ph : Phase) (s : Station) (records : List (List ℕ)) : Type 0 where
+  -- what is not sent yet, and that what is sent and the rest are what was to be sent
+  pub rest : List Sent
+  pub sends-of : sentUntil s records ++ rest ≡ todo (p .address) ph
+  -- the token is held exactly when all is sent
+  pub all-of : holdsToken (until s records) ≡ true → rest ≡ []
+  pub some-of : holdsToken (until s records) ≡ false → rest ≡ [] → ⊥
+  -- as many counted polls as there are telegrams to be sent lead to the token
+  pub bound-of : length (todo (p .address) ph) ≤ countedIn s records → holdsToken (until s records) ≡ true
+  -- who is then left in the ring, and the place once the token is held
+  pub left-of : others (until s records .«token_ring») ≡ inRing (advance (length (sentUntil s records)) ph)
+  pub held-at : holdsToken (until s records) ≡ true → At (holding (endRing ph)) p (until s records .state) (until s records .core) (until s records .«token_ring»)
+
+pub run-from : (ph : Phase) (s : Station) (records : List (List ℕ)) → Slotted (s .p) → AllQuiet (s .applications) records → At ph (s .p) (s .state) (s .core) (s .«token_ring») → RunFrom (s .p) ph s records
+run-from ph s records w q a =
+    let p = s .p in
+    let g = ran records p w (s .applications) q ph (s .state) (s .core) (s .«token_ring») a in
+    let end = until s records in
+    let to = advance (length (sentUntil s records)) ph in
+    let here : (b : Bool) → holdsToken end ≡ b → holdsToken (stationOf p (end .applications) (end .state) (end .core) (end .«token_ring»)) ≡ b = λ b. subst (λ (x : Station). holdsToken x ≡ b) (g .same-parts) in
+    record {
+      rest = todo (p .address) to;
+      sends-of = g .so-far;
+      all-of = λ e. none-left to p (end .applications) (end .state) (end .core) (end .«token_ring») (g .reached) (here true e);
+      some-of = λ e. some-left-there to p (end .applications) (end .state) (end .core) (end .«token_ring») (g .reached) (here false e);
+      bound-of = g .in-time;
+      left-of = ready-at to p (end .state) (end .core) (end .«token_ring») (g .reached) .are;
+      held-at = λ e. subst (λ (os : List ℕ). At (holding os) p (end .state) (end .core) (end .«token_ring»)) (end-advance (length (sentUntil s records)) ph)
+          (at-holding to p (end .applications) (end .state) (end .core) (end .«token_ring») (g .reached) (here true e));
+    }
+
+-- a station that starts a token pass is at the first place of one
+pub started : (s : Station) → Start s → At (starting First (others (s .«token_ring»))) (s .p) (s .state) (s .core) (s .«token_ring»)
 started s h = (
   record { on = h .not-offline; ring-good = record { sound = h .sound .ring-sound; own = h .sound .own-is }; are = refl },
   record { gap = h .gap; passing = h .passing; no-question = h .no-question },
 )
 
--- its run, and where it ends
-ran-of : (s : Station) (records : List (List ℕ)) → Start s → AllQuiet (s .applications) records → RanOn (s .p) (starting (others (s .«token_ring»))) s records
-ran-of s records h q = ran records (s .p) (slotted (s .p) (h .settings)) (s .applications) q _ (s .state) (s .core) (s .«token_ring») (started s h)
-
-abbrev phaseOf : Station → List (List ℕ) → Phase
-phaseOf s records = advance (length (sentUntil s records)) (starting (others (s .«token_ring»)))
-
--- once it holds the token it is at the last place
-pub held-place : (s : Station) (records : List (List ℕ)) → Start s → AllQuiet (s .applications) records → holdsToken (until s records) ≡ true → At holding (s .p) (until s records .state) (until s records .core) (until s records .«token_ring»)
-held-place s records h q e =
-    let g = ran-of s records h q in
-    let end = until s records in
-    at-holding (phaseOf s records) (s .p) (end .applications) (end .state) (end .core) (end .«token_ring») (g .reached) (subst (λ (x : Station). holdsToken x ≡ true) (g .same-parts) e)
+-- its run
+pub run-of : (s : Station) (records : List (List ℕ)) → Start s → AllQuiet (s .applications) records → RunFrom (s .p) (starting First (others (s .«token_ring»))) s records
+run-of s records h q = run-from _ s records (slotted (s .p) (h .settings)) q (started s h)
 
 -- the theorem
 pub silence : Theorem
 silence s records h q =
     let os = others (s .«token_ring») in
-    let p = s .p in
-    let g = ran-of s records h q in
-    let ph = phaseOf s records in
-    let end = until s records in
+    let g = run-of s records h q in
     record {
-      rest = todo (p .address) ph;
-      sends = g .so-far;
-      all-sent = λ e. none-left ph p (end .applications) (end .state) (end .core) (end .«token_ring») (g .reached) (subst (λ (x : Station). holdsToken x ≡ true) (g .same-parts) e);
-      some-left = λ e. some-left-there ph p (end .applications) (end .state) (end .core) (end .«token_ring») (g .reached) (subst (λ (x : Station). holdsToken x ≡ false) (g .same-parts) e);
-      removes = at-others ph p (end .state) (end .core) (end .«token_ring») (g .reached) ∙ ring-after os (length (sentUntil s records));
-      bound = λ l. g .in-time (rw (tokens-length os (p .address)) l);
+      rest = g .rest;
+      sends = g .sends-of;
+      all-sent = g .all-of;
+      some-left = g .some-of;
+      removes = g .left-of ∙ ring-after os (length (sentUntil s records));
+      bound = λ l. g .bound-of (rw (tokens-length os (s .p .address)) l);
     }

@@ -42,6 +42,12 @@ slotted p e =
     let hundred : 100 ≤ p .«slot_bits» = omega (arith, listed (p .baudrate) .slot-low) in
     record { some = time-some _ (p .baudrate) (omega arith); pause = time-grows 33 _ (p .baudrate) (omega arith) }
 
+-- what comes after a longer time comes after a shorter one
+pub after-shorter : (a : Activity) (now short long : ℕ) → short ≤ long → slotAfter a now long ≡ true → slotAfter a now short ≡ true
+unfolding slotAfter
+after-shorter activity.Unknown now short long l e = absurd (true≢false (sym e))
+after-shorter (activity.At last) now short long l e = le-leb (last .0 + short) now (omega (arith, leb-true (last .0 + long) now e))
+
 -- What the poll's tests say of a counted poll, and what a counted poll's tests say.
 module _ (p : Parameters) (w : Slotted p) (c : Core) (now : Micros) where
   -- a counted poll finds no transmission going on
@@ -53,27 +59,33 @@ module _ (p : Parameters) (w : Slotted p) (c : Core) (now : Micros) where
       go activity.Unknown e = refl
       go (activity.At last) e = lt-leb (now .0) (last .0) (omega (arith, leb-true (last .0 + slotTimeOf p .0) (now .0) e, w .some))
 
-  -- a counted poll finds the pause over
-  pub counted-paused : slotAfter (c .«last_bus_activity») (now .0) (slotTimeOf p .0) ≡ true → pauseOf p c now .over ≡ true
-  unfolding slotAfter pauseOf waitedOf elapsedOf knownAt
-  counted-paused = go (c .«last_bus_activity»)
+  -- a time that has passed since known last activity is found over
+  pub after-over : (time : Micros) → slotAfter (c .«last_bus_activity») (now .0) (time .0) ≡ true → waitedOf c now time .over ≡ true
+  unfolding slotAfter waitedOf elapsedOf knownAt
+  after-over time = go (c .«last_bus_activity»)
     where
-      go : (a : Activity) → slotAfter a (now .0) (slotTimeOf p .0) ≡ true → elapsedOf now (knownAt a now) (timeOf (record { 0 = pauseBits }) (p .baudrate)) ≡ true
-      go activity.Unknown e = absurd (true≢false (sym e))
-      go (activity.At last) e = le-leb (last .0 + pauseTime p) (now .0) (omega (arith, leb-true (last .0 + slotTimeOf p .0) (now .0) e, w .pause))
-
-  -- a counted poll finds the slot expired
-  pub counted-expired : slotAfter (c .«last_bus_activity») (now .0) (slotTimeOf p .0) ≡ true → slotExpiredOf p c now .over ≡ true
-  unfolding slotAfter slotExpiredOf waitedOf elapsedOf knownAt
-  counted-expired = go (c .«last_bus_activity»)
-    where
-      go : (a : Activity) → slotAfter a (now .0) (slotTimeOf p .0) ≡ true → elapsedOf now (knownAt a now) (slotTimeOf p) ≡ true
+      go : (a : Activity) → slotAfter a (now .0) (time .0) ≡ true → elapsedOf now (knownAt a now) time ≡ true
       go activity.Unknown e = absurd (true≢false (sym e))
       go (activity.At last) e = e
 
-  -- where the slot has expired, the pause since the same activity is over
-  pub expired-paused : slotExpiredOf p c now .over ≡ true → pauseOf p (slotExpiredOf p c now .core) now .over ≡ true
-  unfolding slotExpiredOf pauseOf waitedOf elapsedOf knownAt withActivity
-  expired-paused e =
+  -- a counted poll finds the pause over
+  pub counted-paused : slotAfter (c .«last_bus_activity») (now .0) (slotTimeOf p .0) ≡ true → pauseOf p c now .over ≡ true
+  unfolding pauseOf
+  counted-paused e = after-over _ (after-shorter (c .«last_bus_activity») (now .0) (pauseTime p) (slotTimeOf p .0) (w .pause) e)
+
+  -- a counted poll finds the slot expired
+  pub counted-expired : slotAfter (c .«last_bus_activity») (now .0) (slotTimeOf p .0) ≡ true → slotExpiredOf p c now .over ≡ true
+  unfolding slotExpiredOf
+  counted-expired e = after-over (slotTimeOf p) e
+
+  -- where a time that is not shorter than the pause has passed, the pause since the same activity is over
+  pub waited-paused : (time : Micros) → pauseTime p ≤ time .0 → waitedOf c now time .over ≡ true → pauseOf p (waitedOf c now time .core) now .over ≡ true
+  unfolding pauseOf waitedOf elapsedOf knownAt withActivity
+  waited-paused time l e =
       let last = knownAt (c .«last_bus_activity») now .0 in
-      le-leb (last + pauseTime p) (now .0) (omega (arith, leb-true (last + slotTimeOf p .0) (now .0) e, w .pause))
+      le-leb (last + pauseTime p) (now .0) (omega (arith, leb-true (last + time .0) (now .0) e))
+
+  -- so where the slot has expired
+  pub expired-paused : slotExpiredOf p c now .over ≡ true → pauseOf p (slotExpiredOf p c now .core) now .over ≡ true
+  unfolding slotExpiredOf
+  expired-paused e = waited-paused (slotTimeOf p) (w .pause) e

@@ -3,6 +3,7 @@
 //! it.
 
 mod alone;
+mod any_start;
 mod applications;
 mod bus;
 mod captures;
@@ -43,6 +44,7 @@ fn main() {
 fn stories() -> Vec<Story> {
     let mut all = vec![bus::example_12()];
     all.extend(ring::stories());
+    all.extend(any_start::stories());
     all.push(alone::story());
     all.push(night::story());
     all.extend(collisions::stories());

@@ -974,7 +974,7 @@ fn every_leaving_ends_a_lane() {
     }
     assert_eq!(
         (count, back),
-        (16, 5),
+        (19, 5),
         "leavings, and stations that come back"
     );
 }
