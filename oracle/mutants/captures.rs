@@ -9,7 +9,6 @@ pub const CAPTURES: &[(&str, &str)] = &[
     ("line.strip_suffix(b\"\\n\")?;", "line.strip_suffix(b\"\\n\")?; let line = line.strip_suffix(b\"\\r\").unwrap_or(line);"),
     ("line.strip_suffix(b\"\\n\")?;", "line.strip_suffix(b\"\\n\")?; let line = line.strip_suffix(b\" \").unwrap_or(line);"),
     ("position(|byte| *byte == b' ')?", "position(|byte| *byte == b' ' || *byte == b'\\t')?"),
-    ("position(|byte| *byte == b' ')?", "rposition(|byte| *byte == b' ')?"),
     ("&line[space + 1..]);", "&line[space + 1..]); let pairs = pairs.strip_prefix(b\" \").unwrap_or(pairs);"),
     ("for (line, number) in text.split_inclusive", "for (line, number) in text.strip_suffix(b\"\\n\\n\").map_or(text, |_| &text[..text.len() - 1]).split_inclusive"),
     // The time.
