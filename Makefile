@@ -1,7 +1,18 @@
-# The commands of README.md. Each is a script under scripts/, which says on one line what it lacks. Variables on the command
-# line reach the scripts through the environment. `make help` prints what stands after each ##, variables in brackets first.
+# The commands of README.md. Each is a script under scripts/, or a line over the program amsulfezd, which say on one line what
+# they lack. Variables on the command line reach them through the environment. `make help` prints what stands after each ##,
+# variables in brackets first.
 .DEFAULT_GOAL := help
-.PHONY: help test replay explain heard picture import export watchdog compare speed figures
+.PHONY: help test replay explain heard counts picture view import export install watchdog compare speed figures
+
+# The program, the trace that is named or example 12, a range of its entries, and the settings of an import.
+DESK = bash scripts/amsulfezd.sh
+TRACED = "$${TRACE:-traces/example12.trace}"
+RANGE = $${FROM:+--from "$$FROM"} $${TO:+--to "$$TO"}
+SETTINGS = $${ADDRESS:+--address "$$ADDRESS"} $${BAUD:+--baud "$$BAUD"} $${SLOT:+--slot "$$SLOT"} \
+	$${ROTATION:+--rotation "$$ROTATION"} $${GAP:+--gap "$$GAP"} $${HSA:+--hsa "$$HSA"} $${RETRY:+--retry "$$RETRY"} \
+	$${TSDR:+--tsdr "$$TSDR"} $${EDITION:+--edition "$$EDITION"}
+# into FOLDER,ENDING: the shell's $out is the file that OUT names, else one in target/FOLDER with the trace's name.
+into = out=$${OUT:-target/$(1)/$$(basename $(TRACED) | sed 's/\.[^.]*$$//').$(2)}; [ -n "$$OUT" ] || mkdir -p target/$(1);
 
 help: ## prints this list
 	@awk -F ': ## ' '/^[a-z]+: ## / { \
@@ -12,23 +23,32 @@ help: ## prints this list
 test: ## [RT_JOBS=n] [SEED=n] [TRACES=m] the gate: checks, proofs from nothing, must-fail edits, comparisons with Rust, hosts
 	@bash scripts/test.sh
 
-replay: ## [TRACE=file] replays a trace with the proved program: answers as hexadecimal digits
-	@bash scripts/replay.sh
+replay: ## [TRACE=file] replays a trace with the proved library: answers as hexadecimal digits
+	@$(DESK) replay $(TRACED)
 
 explain: ## [TRACE=file] [FROM=n] [TO=m] the same answers in words, a line for each entry
-	@bash scripts/explain.sh
+	@$(DESK) explain $(TRACED) $(RANGE)
 
 heard: ## [TRACE=file] who was heard, and when, as the proved library gives it
-	@bash scripts/heard.sh
+	@$(DESK) heard $(TRACED)
+
+counts: ## [TRACE=file] how often the station claimed the token, removed a neighbour and met its own address
+	@$(DESK) counts $(TRACED)
 
 picture: ## [TRACE=file] [OUT=file] [FROM=n] [TO=m] [HEARD=1] the same as a picture that any browser opens
-	@bash scripts/picture.sh
+	@$(call into,pictures,svg) $(DESK) picture $(TRACED) $(RANGE) $${HEARD:+--heard} -o "$$out" && echo "$$out"
 
-import: ## [CAPTURE=file] [OUT=file] [ADDRESS=n] [BAUD=n] [SLOT=n] .. makes a trace of a bus monitor's text
-	@bash scripts/import.sh
+view: ## [TRACE=file] [OUT=file] the same as a page for a browser: timeline, table, search
+	@$(call into,pages,html) $(DESK) view $(TRACED) -o "$$out" && echo "$$out"
 
-export: ## [TRACE=file] [OUT=file] the text of a bus monitor that a trace gives
-	@bash scripts/export.sh
+import: ## [CAPTURE=file] [OUT=file] [ADDRESS=n] [BAUD=n] [SLOT=n] .. makes a trace of a capture's text or a pcap file
+	@TRACE=$${CAPTURE:?names no capture}; $(call into,captures,trace) $(DESK) import "$$CAPTURE" $(SETTINGS) -o "$$out" && echo "$$out"
+
+export: ## [TRACE=file] [OUT=file] the text of a bus monitor that a trace gives; a pcap file or a table by the ending of OUT
+	@$(call into,captures,capture) $(DESK) export $(TRACED) -o "$$out" && echo "$$out"
+
+install: ## [PREFIX=folder] the program amsulfezd, which all of these are lines over, its manual page and completion
+	@bash scripts/install.sh
 
 watchdog: ## [MS=n] how the two watchdog factors of n milliseconds come about, as the proved calls give them
 	@bash scripts/watchdog.sh

@@ -1,4 +1,5 @@
-//! Puts document 01's helpers into the published `active.rs` by exact text matches, each found once.
+//! Puts document 01's helpers and document 02's PassiveIdle into the published `active.rs` by exact text matches, each found
+//! once.
 
 #[path = "build/replacements.rs"]
 mod replacements;
@@ -6,7 +7,7 @@ mod replacements;
 use std::path::Path;
 
 fn main() {
-    for file in ["build.rs", "build/replacements.rs", "build/watch.rs", "published/active.rs"] {
+    for file in ["build.rs", "build/replacements.rs", "build/passive.rs", "build/watch.rs", "published/active.rs"] {
         println!("cargo:rerun-if-changed={}", file);
     }
     let published_helpers = std::env::var_os("CARGO_FEATURE_PUBLISHED_HELPERS").is_some();

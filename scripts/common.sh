@@ -68,45 +68,6 @@ find_runner() {
     fi
 }
 
-# readable FILE: it is a file that can be read.
-readable() {
-    [ -e "$1" ] || fail "there is no file $1"
-    { [ -f "$1" ] && [ -r "$1" ]; } || fail "$1 is not a file that can be read"
-}
-
-# Sets `trace` to the file that TRACE names, example 12 if it names none, and `size` to its length.
-find_trace() {
-    trace=${TRACE:-traces/example12.trace}
-    readable "$trace"
-    size=$(($(wc -c <"$trace")))
-}
-
-# find_out DEFAULT SOURCE: sets `out` to the file that OUT names, the default if it names none, whose folder is then made. It is
-# not the file SOURCE that it is made from.
-find_out() {
-    local folder
-    out=${OUT:-$1}
-    folder=$(dirname -- "$out")
-    [ -n "${OUT:-}" ] || mkdir -p "$folder" || fail "the folder $folder could not be made"
-    [ -d "$folder" ] || fail "there is no folder $folder for $out"
-    [ ! -e "$out" ] || [ -f "$out" ] || fail "$out is not a file"
-    [ ! "$out" -ef "$2" ] || fail "$out is the file that it is made from"
-}
-
-# write_out COMMAND..: what the command prints becomes the file $out, which gets its name when it is whole. Prints the name. The
-# file $scratch, where the script has made one, goes with the unfinished one.
-write_out() {
-    part=$out.part-$$
-    trap 'rm -f -- "$part" ${scratch:+"$scratch"}' EXIT
-    (: >"$part") 2>/dev/null || fail "$out could not be written"
-    "$@" >"$part" || exit 1
-    mv -f -- "$part" "$out" || fail "$out could not be written"
-    echo "$out"
-}
-
-# The program replay reads no more bytes of a trace.
-largest=4096
-
 # build_program NAME: proves and builds a program where that is not done yet.
 build_program() {
     need_rt
@@ -120,24 +81,16 @@ build_replay() {
 }
 
 # Proves the library and writes target/staticlib/libamsulfezd.a, if it is not there yet of the sources as they are: rt's stamp of
-# a proved crate is a sum over its files, those of the crates under it and the toolchain.
+# a proved crate is a sum over its files, those of the crates under it and the toolchain. A script that calls other scripts
+# exports LIBRARY_BUILT=yes after it, so that they do not ask again.
 build_staticlib() {
     need_rt
+    [ "${LIBRARY_BUILT:-}" != yes ] || return 0
     quietly "the library amsulfezd was not proved" rt check amsulfezd
     [ -f target/staticlib/libamsulfezd.a ] && cmp -s target/stamp/amsulfezd target/staticlib/stamp && return
     rm -f target/staticlib/stamp
     quietly "the library amsulfezd was not proved" rt staticlib amsulfezd
     cp target/stamp/amsulfezd target/staticlib/stamp 2>/dev/null || rm -f target/staticlib/stamp
-}
-
-# Builds the C program that imports and exports captures with the proved library, and sets `capture_file` to how it is run.
-need_captures() {
-    need_rt
-    find_runner
-    need_c_compiler
-    build_staticlib
-    c_host target/hosts/c/capture_file hosts/c/capture_file.c
-    capture_file=("${emulator[@]}" target/hosts/c/capture_file)
 }
 
 # host_cargo WORD..: cargo on the packages of hosts/rust, without the proved library.
@@ -251,6 +204,56 @@ emulated_object() {
         x86_64-linux-gnu-gcc -x c -c - -o "$1" || fail "the C cross compiler does not compile"
 }
 
+# The service desk's program is built of Debian 12's crates. hosts/rust/desk/Cargo.toml pins those that it names; the versions of
+# the others are the ones that Debian has. The lock file that cargo makes of them is not kept.
+registry=/usr/share/cargo/registry
+
+# Each crate that the service desk names is there. Root can have them from Debian's packages, and with them those that they need.
+need_crates() {
+    local lacks
+    lacks=$(lacking_crates)
+    [ -n "$lacks" ] || return 0
+    if [ "$(id -u)" -eq 0 ] && command -v apt-get >/dev/null 2>&1; then
+        local packages=(librust-clap-dev librust-clap-complete-dev librust-console-dev librust-csv-dev librust-indicatif-dev
+            librust-serde-json-dev)
+        apt_install "${packages[@]}" || { apt-get update >/dev/null 2>&1 && apt_install "${packages[@]}"; } || true
+        lacks=$(lacking_crates)
+    fi
+    [ -z "$lacks" ] || fail "the service desk needs these crates of Debian 12's packages librust-..-dev in $registry:$lacks"
+}
+
+# The crates that hosts/rust/desk/Cargo.toml pins and that are not there.
+lacking_crates() {
+    local pinned name version
+    pinned=$(sed -n 's/^\([a-z_]*\) = .*"=\([0-9.]*\)".*/\1 \2/p' hosts/rust/desk/Cargo.toml)
+    [ -n "$pinned" ] || fail "hosts/rust/desk/Cargo.toml pins no crate"
+    while read -r name version; do
+        [ -d "$registry/$name-$version" ] || printf ' %s-%s' "$name" "$version"
+    done <<<"$pinned"
+}
+
+# desk_cargo WORD..: cargo on the service desk, with the proved library linked and Debian's crates in the place of any from a network.
+desk_cargo() {
+    env "${linked_words[@]}" AMSULFEZD_STATICLIB_DIR="$PWD/target/staticlib" CARGO_TARGET_DIR=target/hosts-linked \
+        "$linked_with" "$@" --release --offline --quiet --manifest-path hosts/rust/desk/Cargo.toml \
+        --config 'source.crates-io.replace-with="debian"' --config "source.debian.directory=\"$registry\""
+}
+
+# All that desk_cargo needs.
+need_desk() {
+    find_runner
+    need_linked_rust
+    need_crates
+    build_staticlib
+}
+
+# Builds the service desk's program, where that is not done yet of the sources as they are, and sets `desk` to how it is run.
+build_desk() {
+    need_desk
+    desk_cargo build || fail "the service desk's program does not build"
+    desk=("${emulator[@]}" "$PWD/$linked/amsulfezd")
+}
+
 # build_oracle WORD..: builds a part of oracle/ into target/oracle; the words are cargo's.
 build_oracle() {
     CARGO_TARGET_DIR=target/oracle cargo build --offline --quiet --manifest-path oracle/Cargo.toml "$@" ||
@@ -291,35 +294,4 @@ compare_proved() {
         compare=("target/oracle/release/$program" "$seed" "$count" -- "${emulator[@]}" "target/oracle/$answers")
     fi
     "${compare[@]}" || fail "$failure, or did not reach all (seed $seed)"
-}
-
-# find_answers PROGRAM: builds the program of hosts/rust/tools that is to read them, and sets `answers` to the answers to
-# the trace: the proved program's, or, for a trace that it does not read whole, the proved library's.
-find_answers() {
-    need cargo cargo
-    host_cargo build --package amsulfezd-tools --bin "$1" || fail "the program $1 of hosts/rust does not build"
-    if [ "$size" -le "$largest" ]; then
-        build_replay
-        answers=$("${runner[@]}" target/bin/run_replay <"$trace") || fail "the program replay did not run"
-    else
-        need_rt
-        find_runner
-        answers=$(answers_of_library) || exit 1
-    fi
-}
-
-# Prints the answers to a trace that the program replay does not read whole.
-answers_of_library() {
-    build_staticlib
-    need_c_compiler
-    c_host target/hosts/c/replay_file hosts/c/replay_file.c
-    "${emulator[@]}" target/hosts/c/replay_file "$trace"
-}
-
-# Prints when each address was heard in a trace, as hosts/c/heard_file.c does.
-heard_by_library() {
-    build_staticlib
-    need_c_compiler
-    c_host target/hosts/c/heard_file hosts/c/heard_file.c
-    "${emulator[@]}" target/hosts/c/heard_file "$trace"
 }

@@ -1,8 +1,9 @@
 #!/usr/bin/env python3
 """Writes docs/EDITS.md: for each public call of each library the must-fail edits that speak for it. An edit speaks for a call
 where it changes the call's own code, code of its crate that the call goes through, or a definition that the contract of either
-cites; and, where a call has fewer than two of its own, where it speaks for a function that calls it. Fails where fewer than two
-edits speak for a call. Constants and `requires` lines are not read: an edit of one speaks for no call here.
+cites; where a call is thin, its body one call of another crate whose contract it has word for word, where it speaks for that one;
+and, where a call has fewer than two of these, where it speaks for a function that calls it. Fails where fewer than two edits speak
+for a call. Constants and `requires` lines are not read: an edit of one speaks for no call here.
 
     python3 scripts/edits.py [--check]"""
 import glob
@@ -123,6 +124,16 @@ def own(f, by_name, edits):
     return sorted(set(spoken))
 
 
+def thin_over(f, by_name):
+    """The call of another crate that a function is thin over: its body is that call, and its contract that one's, word for word."""
+    body = f.text[re.search(r"\n *\{\n|\{\n", f.text).start():].strip(" \n{}")
+    if len(f.calls) != 1 or not re.fullmatch(r"\w+::\w+\([^()]*\)", body):
+        return None
+    other = by_name[next(iter(f.calls))]
+    same = re.findall(r"ensures \{.*\}", f.text) == re.findall(r"ensures \{.*\}", other.text)
+    return other if same and other.crate != f.crate else None
+
+
 def callers_of(f, by_name):
     """The functions that call a function, and where such a one is not public, those that call it."""
     found, todo = set(), [f.name]
@@ -149,7 +160,8 @@ def rows(listed):
             edits[name] = (crate, touched(crate, edit, functions[crate], definitions[crate]))
     for f in by_name.values():
         if f.public:
-            mine = own(f, by_name, edits)
+            mine, below = own(f, by_name, edits), thin_over(f, by_name)
+            mine = sorted(set(mine + own(below, by_name, edits))) if below else mine
             callers = sorted({name for g in callers_of(f, by_name) for name in own(g, by_name, edits)} - set(mine))
             yield f, mine, callers if len(mine) < ENOUGH else []
 
@@ -162,8 +174,9 @@ def main():
         "# Which must-fail edit speaks for which call",
         "",
         "Made by `python3 scripts/edits.py`; do not edit it. An edit of the second column changes the call's own code, code of its crate",
-        "that it goes through, or a definition that a contract of these cites. Where there are fewer than two, the third has those of",
-        "the functions that call it.",
+        "that it goes through, or a definition that a contract of these cites; for a call that is thin over one of another crate, with the",
+        "same contract, the second column has that one's too. Where there are fewer than two, the third has those of the functions that",
+        "call it.",
         "",
         "| Call | Edits of its own | Edits of its callers |",
         "|---|---|---|",

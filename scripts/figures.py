@@ -34,7 +34,7 @@ def lines(paths):
 CLAIMS = {
     name + ".antt"
     for name in (
-        "AnswersRead AnyStart Asked Claim EveryTrace Follows FromHeader HostCall Letter Lines Met Moves Question Silence"
+        "AnswersRead AnyStart Asked Claim EveryTrace Follows FromHeader HostCall Letter Lines Met Moves Question Run Silence"
         " SilentTrace Sizes Statement Table Waits"
     ).split()
 }
@@ -48,6 +48,7 @@ def is_law(path, has_code):
         return name not in CLAIMS
     return name.endswith("Laws.antt") or path.endswith("codec_slices/specs/Parts.antt") or name in (
         "Alike.antt",
+        "Arrives.antt",
         "Built.antt",
         "Cycle.antt",
         "Distances.antt",
@@ -67,6 +68,7 @@ def is_law(path, has_code):
         "Shortcut.antt",
         "Stores.antt",
         "Tables.antt",
+        "Waits.antt",
         "Ways.antt",
         "Widths.antt",
         "Worked.antt",

@@ -22,18 +22,16 @@ FILES = ("active.rs", "parameters.rs")
 
 SHAPE = "`&mut` into an enum's fields: the state comes in and goes back by value (document 01, \"What must change shape\")"
 ASKED = "a question that no part that is taken asks"
-PASSIVE = "PassiveIdle is not taken"
+MATCHED = "the field `connectivity_state` of `Core`, matched where it is needed (`enteredOf`)"
 
 # The functions of the Rust that have no definition, each with the reason.
 NOT_TAKEN = {
     "GapState::increment_wait": "never called: `do_pass_token` counts the rotations itself",
-    "ConnectivityState::is_offline": "a flag: the field `online` of `Core` is read where it is needed",
-    "ConnectivityState::is_passive": PASSIVE,
-    "ConnectivityState::is_online": "a flag: the field `online` of `Core` is read where it is needed",
-    "debug_assert_state!": "a check of debug builds: no transition is called from a state that it forbids",
+    "ConnectivityState::is_passive": MATCHED,
+    "ConnectivityState::is_online": MATCHED,
+    "debug_assert_state!": "a check of debug builds: no transition is called from a state that it forbids, but for document 02's two (DIFFERENCES A11, A12)",
     "State::have_token": ASKED,
     "State::transition_offline": "never called: going offline makes a fresh station",
-    "State::transition_passive_idle": PASSIVE,
     "State::transition_claim_token": "the state itself, `ClaimToken true`: `handleLostToken` enters it by `claimTokenOf .. true`",
     "State::transition_await_data_response": "the state itself, `AwaitDataResponse address held`: `appTransmitOf` enters it",
     "State::transition_pass_token": "the state itself, `PassToken gap attempt`: `usePassOf`, `statusAnswered`; the resends begin in it",
@@ -54,7 +52,7 @@ NOT_TAKEN = {
     "State::get_await_status_response_address": SHAPE,
     "State::get_check_token_pass_attempt": SHAPE,
     "FdlActiveStation::parameters": ASKED,
-    "FdlActiveStation::connectivity_state": "a flag: the field `online` of `Core` is read where it is needed",
+    "FdlActiveStation::connectivity_state": MATCHED,
     "FdlActiveStation::is_in_ring": ASKED,
     "FdlActiveStation::inspect_token_ring": ASKED,
     "PollDone::with_events": "the events of a poll are fields of its answer",

@@ -123,17 +123,18 @@ replay_all() {
     echo "$host host: $count traces replayed from files, each answered as its story says, and one of $long entries"
 }
 
-# Each story of traces/ that states who was heard: the proved call gives those entries, and no other address.
-heard_all() {
-    local count=0 stated
-    c_host "$built/heard_file" hosts/c/heard_file.c
+# asked_all KIND LEAST WORDS: each story of traces/ that states who was heard (KIND heard), or the counts (KIND counts): the proved
+# call gives that and nothing else. So many stories do so at least.
+asked_all() {
+    local kind=$1 least=$2 words=$3 count=0 stated
+    c_host "$built/${kind}_file" "hosts/c/${kind}_file.c"
     while read -r stated; do
-        "${emulator[@]}" "$built/heard_file" "${stated%.heard}.trace" | cmp - "$stated" ||
-            fail "the C host hears otherwise than $stated"
+        "${emulator[@]}" "$built/${kind}_file" "${stated%."$kind"}.trace" | cmp - "$stated" ||
+            fail "the C host asks otherwise than $stated"
         count=$((count + 1))
-    done < <(find traces/ -name '*.heard' | sort)
-    [ "$count" -gt 0 ] || fail "no story states who was heard"
-    echo "C host: $count traces asked for every address, each heard as its story says"
+    done < <(find traces/ -name "*.$kind" | sort)
+    [ "$count" -ge "$least" ] || fail "only $count stories state it: $words"
+    echo "C host: $count traces asked for $words, each as its story says"
 }
 
 # test_rust WORDS COMMAND..: the Rust host's tests hold, run so.
@@ -147,45 +148,7 @@ test_rust() {
     echo "Rust host: $(awk '/^test result: ok/ { n += $4 } END { print n + 0 }' <<<"$said") tests hold, $words"
 }
 
-# picture TRACE OUT [FROM TO]: what make picture prints.
-picture() {
-    TRACE=$1 OUT=$2 FROM=${3:-} TO=${4:-} bash scripts/picture.sh 2>&1
-}
-
-# make picture draws each stored picture anew, byte for byte, from the proved program's answers, README's too, and 500
-# entries from the proved library's; a trace or a range that is not there is said on one line; no other file is left.
-test_pictures() {
-    local folder=target/hosts/pictures tests=hosts/rust/tools/tests/pictures stored name out said count=0
-    { rm -rf "$folder" && mkdir -p "$folder"; } || fail "$folder could not be made"
-    for stored in "$tests"/*.svg; do
-        name=$(basename "$stored" .svg)
-        out=$folder/$name.svg
-        { said=$(picture "traces/$name.trace" "$out") && [ "$said" = "$out" ]; } ||
-            fail "make picture TRACE=traces/$name.trace says: $said"
-        cmp "$stored" "$out" || fail "make picture draws traces/$name.trace otherwise than it is stored"
-        count=$((count + 1))
-    done
-    out=$folder/readme.svg
-    { said=$(picture traces/night.trace "$out" 18 30) && [ "$said" = "$out" ]; } ||
-        fail "make picture TRACE=traces/night.trace FROM=18 TO=30 says: $said"
-    cmp docs/night.svg "$out" || fail "make picture draws entries 18 to 30 of traces/night.trace otherwise than docs/night.svg"
-    out=$folder/long.svg
-    { said=$(picture "$tests/long.trace" "$out") && [ "$said" = "$out" ]; } ||
-        fail "make picture does not draw the long trace: $said"
-    [ "$(grep -c '<g class="entry"' "$out")" -eq 500 ] || fail "the picture of the long trace does not have 500 entries"
-    ! said=$(picture "$folder/nosuch.trace" "$folder/nosuch.svg") || fail "make picture draws a trace that is not there"
-    [ "$said" = "make picture: there is no file $folder/nosuch.trace" ] || fail "make picture of no trace says: $said"
-    ! said=$(picture traces/night.trace "$folder/nosuch/night.svg") || fail "make picture draws into no folder"
-    ! said=$(picture traces/night.trace "$folder/nosuch.svg" 30 18) || fail "make picture draws a range that ends before it begins"
-    [ "$said" = "picture: FROM=30 is after TO=18" ] || fail "make picture of no range says: $said"
-    { said=$(TRACE=traces/night.trace FROM=24 TO=27 bash scripts/explain.sh) && [ "$(grep -c '^ *[0-9*]' <<<"$said")" -eq 5 ]; } ||
-        fail "make explain does not give four entries and a note: $said"
-    [ "$(find "$folder" -type f | wc -l)" -eq $((count + 2)) ] || fail "make picture left other files in $folder"
-    echo "Pictures: $count and README's drawn as they are stored, and one of 500 entries"
-}
-
-# Each capture of traces/captures is imported, and each list of entries exported, as its story says; the site's text gives the
-# entries of its trace, and that trace the text that is stored.
+# Each capture of traces/captures is imported, and each list of entries exported, as its story says.
 test_stored_captures() {
     local folder=traces/captures count=0 given left
     c_host "$built/capture_file" hosts/c/capture_file.c
@@ -196,71 +159,7 @@ test_stored_captures() {
             fail "the C host leaves otherwise than its story: $left"
         count=$((count + 1))
     done
-    "${emulator[@]}" "$built/capture_file" import "$folder/site.capture" | cmp - "$folder/site.trace" ||
-        fail "the C host makes another trace of $folder/site.capture than its story"
-    "${emulator[@]}" "$built/capture_file" export "$folder/site.trace" | cmp - "$folder/site-again.capture" ||
-        fail "the C host makes another text of $folder/site.trace than its story"
-    echo "C host: $count captures from files, each as its story says, and the site's 500 lines there and back"
-}
-
-# says WORDS COMMAND..: the command fails and prints this one line.
-says() {
-    local words=$1 said
-    shift
-    ! said=$("$@" 2>&1) || fail "this does not fail: $*"
-    [ "$said" = "$words" ] || fail "$* says: $said"
-}
-
-# make import and make export: the site's files there and back, and their program with both editions and settings. A refusal and
-# bad usage are one line and status 1, and no file is left or changed then.
-test_capture_commands() {
-    local folder=target/hosts/captures stored=traces/captures file=("${emulator[@]}" "$built/capture_file") said line
-    { rm -rf "$folder" && mkdir -p "$folder"; } || fail "$folder could not be made"
-    { said=$(CAPTURE=$stored/site.capture OUT=$folder/site.trace bash scripts/import.sh) && [ "$said" = "$folder/site.trace" ]; } ||
-        fail "make import says: $said"
-    cmp "$folder/site.trace" "$stored/site.trace" || fail "make import makes another trace of the site's capture"
-    { said=$(TRACE=$folder/site.trace OUT=$folder/site.capture bash scripts/export.sh) && [ "$said" = "$folder/site.capture" ]; } ||
-        fail "make export says: $said"
-    cmp "$folder/site.capture" "$stored/site-again.capture" || fail "make export gives another text of the site's trace"
-    TRACE=$folder/site.trace bash scripts/explain.sh | grep -q 'entries answered: 126. Ending number 0' ||
-        fail "make explain does not take an imported trace"
-
-    # Edition 2, and every setting.
-    "${file[@]}" import "$stored/site.capture" EDITION=2 >"$folder/site-2.trace" || fail "the import with edition 2 fails"
-    { head -c 14 traces/edition-2/example12.trace && tail -c +17 "$stored/site.trace"; } | cmp - "$folder/site-2.trace" ||
-        fail "the import with edition 2 makes another trace"
-    "${file[@]}" export "$folder/site-2.trace" | cmp - "$stored/site-again.capture" || fail "the export of edition 2 gives another text"
-    "${file[@]}" import "$stored/empty.capture" ADDRESS=7 BAUD=10 ROTATION=40000 GAP=9 HSA=100 RETRY=2 TSDR=12 SLOT= |
-        cmp - <(printf '\x07\x0a\x03\xe8\x00\x00\x9c\x40\x09\x64\x02\x0c\x01\x00\x00\x00\x00') ||
-        fail "the import writes other settings than it is told"
-
-    # Refusals, in words.
-    line="a line that is not a time, one space, a frame in pairs of hex digits and a line feed, or has bytes after its frame"
-    says "import: $stored/31-tab.capture, line 2: refused with 31 ($line)" "${file[@]}" import $stored/31-tab.capture
-    says "import: $stored/33-ninth.capture, line 9: refused with 33 (more than 8 of one time)" "${file[@]}" import $stored/33-ninth.capture
-    says "import: $stored/22-check-byte.capture, line 2: refused with 22 (check byte)" "${file[@]}" import $stored/22-check-byte.capture
-    says "import: the settings are refused with 10 (baud code above 10)" "${file[@]}" import $stored/site.capture BAUD=11
-    says "import: SLOT is a whole number from 0 to 65535, not '1e3'" "${file[@]}" import $stored/site.capture SLOT=1e3
-    says "import: there is no setting 'SPEED=6'" "${file[@]}" import $stored/site.capture SPEED=6
-    says "export: traces/headers/03-hsa.trace: its header is refused with 3 (HSA)" "${file[@]}" export traces/headers/03-hsa.trace
-    says "export: traces/applications.trace: it has 3 applications, and a capture is of a trace with one" \
-        "${file[@]}" export traces/applications.trace
-
-    # Through the commands, onto files that are there.
-    said=$(find "$folder" -type f | sort | xargs cksum)
-    says "import: $stored/32-time-falls.capture, line 2: refused with 32 (a time below the one before)" \
-        env CAPTURE=$stored/32-time-falls.capture OUT="$folder/site.trace" bash scripts/import.sh
-    says "export: traces/cut-short-entry.trace, entry 2: refused with 17 (trace ends inside header or entry, or is above 2^32 bytes (checked with the header))" \
-        env TRACE=traces/cut-short-entry.trace OUT="$folder/site.capture" bash scripts/export.sh
-    says "make import: CAPTURE=file names no capture" bash scripts/import.sh
-    says "make import: there is no file $folder/nosuch" env CAPTURE="$folder/nosuch" bash scripts/import.sh
-    says "make import: there is no folder $folder/nosuch for $folder/nosuch/a" \
-        env CAPTURE=$stored/site.capture OUT="$folder/nosuch/a" bash scripts/import.sh
-    says "make import: $folder/site.capture is the file that it is made from" \
-        env CAPTURE="$folder/site.capture" OUT="$folder/site.capture" bash scripts/import.sh
-    says "make export: TRACE=file names no trace" bash scripts/export.sh
-    [ "$(find "$folder" -type f | sort | xargs cksum)" = "$said" ] || fail "a refused make import or make export changed a file of $folder"
-    echo "make import and make export: the site's capture there and back, both editions, settings, and each refusal on one line"
+    echo "C host: $count captures from files, each as its story says"
 }
 
 # The Rust host's tests hold with the proved library linked, and its example replays every trace. Where another machine
@@ -277,26 +176,127 @@ test_rust_linked() {
     replay_all Rust "${emulator[@]}" "$linked/examples/replay_file"
 }
 
+# The service desk's program: its tests; each story's trace answered, the stored pictures drawn anew; captures as other programs
+# open them; the tour; make's lines over it, and its installation.
+test_desk() {
+    local why
+    if [ "$machine" != x86_64 ] && ! why=$( (need_desk) 2>&1); then
+        echo "hosts: not run on this machine ($machine): the service desk: ${why#hosts: }"
+        return 0
+    fi
+    build_desk
+    test_rust "the service desk" desk_cargo test
+    desk_answers
+    test_pictures
+    test_pcap
+    bash scripts/tour.sh
+    test_lines
+}
+
+# Each trace of traces/ is answered as its story says. Where one is refused the status is 1.
+desk_answers() {
+    local trace count=0 status wanted
+    while read -r trace; do
+        status=0
+        "${desk[@]}" replay "$trace" >target/hosts/desk.answers 2>/dev/null || status=$?
+        cmp target/hosts/desk.answers "${trace%.trace}.answers" || fail "the service desk answers $trace otherwise than its story"
+        wanted=1
+        [ "$(awk 'END { print $2 }' target/hosts/desk.answers)" != 0 ] || wanted=0
+        [ "$status" -eq "$wanted" ] || fail "the service desk ends with $status after $trace"
+        count=$((count + 1))
+    done < <(find traces/ -name '*.trace' | sort)
+    echo "Service desk: $count traces replayed, each answered as its story says"
+}
+
+# Each stored picture is drawn anew, byte for byte, README's too, and one of 500 entries. That of a trace in a folder of traces/ has
+# the folder's name before the first dash.
+test_pictures() {
+    local folder=target/hosts/pictures tests=hosts/rust/tools/tests/pictures stored name trace count=0
+    { rm -rf "$folder" && mkdir -p "$folder"; } || fail "$folder could not be made"
+    for stored in "$tests"/*.svg; do
+        name=$(basename "$stored" .svg)
+        trace=traces/$name.trace
+        [ -f "$trace" ] || trace=traces/${name/-//}.trace
+        # A trace that ends inside an entry is drawn, and refused.
+        "${desk[@]}" picture "$trace" -o "$folder/$name.svg" 2>/dev/null || [ "$name" = cut-entry ] ||
+            fail "amsulfezd picture does not draw $trace"
+        cmp "$stored" "$folder/$name.svg" || fail "amsulfezd picture draws $trace otherwise than it is stored"
+        count=$((count + 1))
+    done
+    "${desk[@]}" picture traces/night.trace --from 18 --to 30 | cmp docs/night.svg - ||
+        fail "amsulfezd picture draws entries 18 to 30 of traces/night.trace otherwise than docs/night.svg"
+    "${desk[@]}" picture "$tests/long.trace" -o "$folder/long.svg" || fail "amsulfezd picture does not draw the long trace"
+    [ "$(grep -c '<g class="entry"' "$folder/long.svg")" -eq 500 ] || fail "the picture of the long trace does not have 500 entries"
+    [ "$(find "$folder" -type f | wc -l)" -eq $((count + 1)) ] || fail "amsulfezd picture left other files in $folder"
+    echo "Pictures: $count and README's drawn as they are stored, and one of 500 entries"
+}
+
+# The site's capture as pcap: capinfos counts its frames, tshark lists them with their times. Debian 12's Wireshark does not know
+# link type 257, so the file for private use is opened; the two differ in the link type alone.
+test_pcap() {
+    local folder=target/hosts/pcap text=traces/captures/site.capture said
+    { rm -rf "$folder" && mkdir -p "$folder"; } || fail "$folder could not be made"
+    need capinfos wireshark-common
+    need tshark tshark
+    "${desk[@]}" export "$text" -o "$folder/site.pcap" || fail "amsulfezd export makes no pcap file"
+    "${desk[@]}" export "$text" --private -o "$folder/private.pcap" || fail "amsulfezd export makes no pcap file"
+    said=$({ cmp -l "$folder/site.pcap" "$folder/private.pcap" || true; } | awk '{ printf "%d:%s-%s ", $1, $2, $3 }')
+    [ "$said" = "21:1-223 22:1-0 " ] || fail "the two pcap files differ in more than the link type: $said"
+    said=$(capinfos -r -T -m -c "$folder/private.pcap") || fail "capinfos does not open the pcap file"
+    [ "$said" = "$folder/private.pcap,$(wc -l <"$text")" ] || fail "capinfos says: $said"
+    tshark -n -r "$folder/private.pcap" -o 'uat:user_dlts:"User 0 (DLT=147)","data","0","","0",""' \
+        -T fields -e frame.time_epoch -e data.data >"$folder/listed" 2>/dev/null || fail "tshark does not open the pcap file"
+    awk '{ printf "%d.%06d000\t%s\n", $1 / 1000000, $1 % 1000000, tolower($2) }' "$text" | cmp - "$folder/listed" ||
+        fail "tshark lists other frames or times than $text has"
+    echo "Captures: capinfos and tshark open the site's as pcap, with its $(wc -l <"$text") frames and their times"
+}
+
+# make's lines over the program, and what make install puts where.
+test_lines() {
+    local folder=target/hosts/lines said
+    { rm -rf "$folder" && mkdir -p "$folder"; } || fail "$folder could not be made"
+    make --no-print-directory replay | cmp - traces/example12.answers || fail "make replay does not replay example 12"
+    said=$(make --no-print-directory explain TRACE=traces/night.trace FROM=24 TO=27) || fail "make explain fails"
+    [ "$(grep -c '^ *[0-9*]' <<<"$said")" -eq 5 ] || fail "make explain does not give four entries and a note: $said"
+    said=$(make --no-print-directory counts TRACE=traces/night.trace) || fail "make counts fails"
+    grep -q '^ *1  neighbours removed' <<<"$said" || fail "make counts does not give the night's counts: $said"
+    said=$(make --no-print-directory picture TRACE=traces/night.trace FROM=18 TO=30 OUT="$folder/night.svg") || fail "make picture fails"
+    { [ "$said" = "$folder/night.svg" ] && cmp docs/night.svg "$said"; } || fail "make picture says: $said"
+    said=$(make --no-print-directory import CAPTURE=traces/captures/site.capture OUT="$folder/site.trace" HSA=100 EDITION=2) ||
+        fail "make import fails"
+    [ "$(head -c 1 "$said" | od -An -tx1)" = " 82" ] || fail "make import does not hand its settings on"
+    said=$(make --no-print-directory export TRACE=traces/captures/site.trace OUT="$folder/site.capture") || fail "make export fails"
+    cmp "$said" traces/captures/site-again.capture || fail "make export gives another text"
+    said=$(make --no-print-directory install PREFIX="$PWD/$folder/usr") || fail "make install fails"
+    "$said" replay traces/example12.trace | cmp - traces/example12.answers || fail "the installed program does not replay example 12"
+    { [ -s "$folder/usr/share/man/man1/amsulfezd.1" ] && [ -s "$folder/usr/share/bash-completion/completions/amsulfezd" ]; } ||
+        fail "make install puts no manual page or completion"
+    echo "Service desk: make's lines over it, and installed"
+}
+
 find_runner
 need cargo cargo
 need_c_compiler
 build_staticlib
+export LIBRARY_BUILT=yes
 mkdir -p "$built"
 
 test_c test faulty replay_trace other_edition
 test_c test_frames faulty_frames read_frame write_frame
 test_c test_captures faulty_captures import_capture export_capture
 test_c test_heard faulty_heard trace_heard
+test_c test_counts faulty_counts trace_counts
+test_c test_settings faulty_settings new_settings set_slot_bits set_max_retry_limit finish_settings
 test_header
 test_stack
 test_c_example
 c_host "$built/replay_file" hosts/c/replay_file.c
 replay_all C "${emulator[@]}" "$built/replay_file"
 test_stored_captures
-heard_all
+asked_all heard 6 "every address that was heard"
+asked_all counts 40 "their counts"
 
 test_rust "without the library" host_cargo test
 test_rust_linked
 
-test_pictures
-test_capture_commands
+test_desk

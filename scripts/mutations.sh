@@ -1,5 +1,5 @@
 #!/usr/bin/env bash
-# Plants each error of oracle/mutants/list.rs in a copy of the oracle, runs traces, moves, questions who was heard or the
+# Plants each error of oracle/mutants/list.rs in a copy of the oracle, runs traces, moves, questions who was heard, counts or the
 # settings table until one shows it, each error of oracle/mutants/frames.rs in a copy of the reader and writer of frames, each of
 # oracle/mutants/captures.rs in a copy of the importer and exporter of captures, and writes the tables of oracle/MUTATIONS.md. Not part of the gate: it takes some minutes.
 set -euo pipefail
@@ -22,10 +22,10 @@ cat >"$part" <<EOF_TABLE || fail "$part cannot be written"
 # Planted errors
 
 That the comparison can fail: each line is one error planted in a copy of the oracle (the published \`active.rs\` and
-\`parameters.rs\`, document 01's helpers in them, ring, records, trace, editions, heard, port), the run that shows it, and where.
+\`parameters.rs\`, document 01's helpers in them, ring, records, trace, editions, heard, counts, port), the run that shows it, and where.
 "traces" is the first generated trace of seed 1; "Shortest" is how many entries the shortened trace has. "moves" is the first
 of these traces whose header moves otherwise to the other edition, "questions" the first of which an address was heard
-otherwise. "settings table" is the table of the published
+otherwise, "counts" the first whose life is counted otherwise. "settings table" is the table of the published
 \`parameters.rs\`. "none" says why no run can. Made by \`bash scripts/mutations.sh\`.
 
 $table

@@ -15,8 +15,9 @@ part() {
     echo "$me: $name: $((SECONDS - begun)) s"
 }
 
-# Sets RT_JOBS, how many crates rt proves at a time. A crate takes up to 1.5 GB. Crates of one level are proved side by side, and
-# the next level waits for all of them: with six at a time two cores wait less.
+# Sets RT_JOBS, how many crates or edits rt checks at a time. A check takes up to 1.9 GB. Crates of one level are proved side by
+# side, and the next level waits for all of them; edits go in batches, and the next batch waits too: with eight at a time two cores
+# wait less.
 choose_jobs() {
     local free
     if [ -n "${RT_JOBS:-}" ]; then
@@ -25,9 +26,9 @@ choose_jobs() {
         return
     fi
     free=$(awk '/^MemAvailable:/ { print int($2 / 1024) }' /proc/meminfo 2>/dev/null) || free=0
-    RT_JOBS=$((${free:-0} / 1500))
+    RT_JOBS=$((${free:-0} / 2000))
     [ "$RT_JOBS" -ge 1 ] || RT_JOBS=1
-    [ "$RT_JOBS" -le 6 ] || RT_JOBS=6
+    [ "$RT_JOBS" -le 8 ] || RT_JOBS=8
     export RT_JOBS
     echo "$me: $RT_JOBS crates at a time, by ${free:-0} MiB of memory that are free; RT_JOBS=n says otherwise"
 }
@@ -45,6 +46,8 @@ need_rt
 need python3 python3
 need shellcheck shellcheck
 need cargo cargo
+need capinfos wireshark-common
+need tshark tshark
 find_runner
 need_c_compiler
 choose_jobs

@@ -4,23 +4,27 @@
  * A trace is a header and then entries: commands and poll records. A header has 16 bytes (edition 1), or 14 that begin
  * with 82h (edition 2, for slow lines). The proved call amsulfezd_replay_trace runs a trace and writes an answer of 8
  * bytes for each entry; amsulfezd_trace_heard says of one address when a trace's station heard it;
+ * amsulfezd_trace_counts says how often the station claimed the token, removed a neighbour and met its own address;
  * amsulfezd_other_edition moves a header to the other edition. amsulfezd_read_frame reads a frame as it stands on the
  * bus, amsulfezd_write_frame writes one. amsulfezd_import_capture makes entries of a bus monitor's text,
- * amsulfezd_export_capture text of entries. In this file, in this order:
+ * amsulfezd_export_capture text of entries. amsulfezd_new_settings makes a header with the defaults, amsulfezd_set_.. sets
+ * one setting of it, amsulfezd_finish_settings checks it as a whole. In this file, in this order:
  *
  *   the numbers in traces and answers      enum amsulfezd_..
  *   the calls on traces                    amsulfezd_replay_trace, amsulfezd_entries, amsulfezd_ending;
  *                                          amsulfezd_trace_heard, amsulfezd_heard_of;
+ *                                          amsulfezd_trace_counts, amsulfezd_counts_of;
  *                                          amsulfezd_other_edition, amsulfezd_written; amsulfezd_number
  *   the calls on frames                    amsulfezd_read_frame, amsulfezd_write_frame, amsulfezd_frame_..
  *   the calls on captures                  amsulfezd_import_capture, amsulfezd_export_capture
+ *   the calls on settings                  amsulfezd_new_settings, amsulfezd_set_.., amsulfezd_finish_settings
  *   readers of an answer                   amsulfezd_answer, amsulfezd_answer_..; amsulfezd_state_name,
  *                                          amsulfezd_refusal_words
  *   writers of a trace                     amsulfezd_write_header, amsulfezd_write_header_2, amsulfezd_write_command,
  *                                          amsulfezd_write_poll
  *
- * example.c uses all but the frames, captures and who was heard. The field widths are document 01's, "Station" and
- * "Trace", and document 02's, P7 and P9; a frame's bytes are document 02's, P1, a capture's text P13.
+ * example.c uses all but the frames, captures, counts, settings and who was heard. The field widths are document 01's, "Station"
+ * and "Trace", and document 02's, P6, P7 and P9; a frame's bytes are document 02's, P1, a capture's text P13.
  *
  * Linking. `rt staticlib amsulfezd` proves the library and writes target/staticlib/libamsulfezd.a. From the
  * repository's root:
@@ -33,12 +37,14 @@
  * defined this file has them and not the calls.
  *
  * Stack. A call uses at most AMSULFEZD_STACK_BYTES of the caller's stack, its return address included, whatever the
- * trace's length. Measured: 4,664 bytes (amsulfezd_trace_heard, which keeps its table there), with the library of the toolchain rattle-kit-5b. The method: the call runs on
- * a stack of its own that was filled with a pattern, and the deepest byte that changed is looked for, over all traces
- * of traces/, one of 100,000 entries and 1,000 traces made at random, which reach every state and every kind of send;
- * each is replayed, asked for an address that was heard, its header moved to the other edition, and its entries exported;
- * over a frame of each start byte and a word of each kind; and over the captures of traces/. hosts/c/stack.c does this and is part of the tests, so that a library that uses more than AMSULFEZD_STACK_BYTES is
- * found. The library's code has no recursion, takes no stack by a computed length and calls nothing outside itself.
+ * trace's length. Measured: 4,840 bytes (amsulfezd_trace_heard, which keeps its table there), with the library of the
+ * toolchain rattle-kit-5b. The method: the call runs on a stack of its own that was filled with a pattern, and the deepest
+ * byte that changed is looked for, over all traces of traces/, one of 100,000 entries and 1,000 traces made at random,
+ * which reach every state and every kind of send; each is replayed, asked for an address that was heard and for its
+ * counts, its header moved to the other edition, and its entries exported; over a frame of each start byte and a word of
+ * each kind; over the captures of traces/; and over each call on settings. hosts/c/stack.c does this and is part of the tests, so that a library that
+ * uses more than AMSULFEZD_STACK_BYTES is found. The library's code has no recursion, takes no stack by a computed length
+ * and calls nothing outside itself.
  */
 #ifndef AMSULFEZD_H
 #define AMSULFEZD_H
@@ -68,6 +74,9 @@ extern "C" {
 #define AMSULFEZD_HEARD_LENGTH 17
 #define AMSULFEZD_LAST_ADDRESS 125
 
+/* The length of what amsulfezd_trace_counts writes, in bytes. */
+#define AMSULFEZD_COUNTS_LENGTH 12
+
 /* The longest entry, in bytes: a byte with the record's length, and the record. */
 #define AMSULFEZD_ENTRY_LENGTH 256
 
@@ -79,9 +88,11 @@ extern "C" {
 
 /*
  * The refusal numbers of documents 01 and 02. As ending number of a run: 0, the number of a refused header (1 to 8, 10, 11,
- * 14, 25), 17 or 18; of amsulfezd_trace_heard also 26. In an answer: 0, or 12 to 16. Of a frame that is read: 0, 19 to 24 or
+ * 14, 25), 17 or 18; of amsulfezd_trace_heard also 26. In an answer: 0, or 12 to 15. Of a frame that is read: 0, 19 to 24 or
  * 34; of a word to be written: 0, 14, 18 or 34. Of a capture's line: 0, 18 to 24, 31 to 34; of an entry to be exported: 0,
- * 12 to 15, 17 or 18. Number 9 belongs to a settings call and is never answered here.
+ * 12 to 15, 17 or 18. Of a call on settings: 0, the number of a refused header, 17 or 18.
+ * Number 9 is never answered here. Number 16 belongs to earlier versions,
+ * which refused the command passive; stored answers of theirs may have it, and no call answers with it any more.
  */
 enum amsulfezd_refusal {
     AMSULFEZD_OK = 0,
@@ -100,7 +111,7 @@ enum amsulfezd_refusal {
     AMSULFEZD_REFUSAL_TELEGRAM_COUNT = 13,  /* telegram count above 8 */
     AMSULFEZD_REFUSAL_ZERO_BIT = 14,        /* a bit that should be zero */
     AMSULFEZD_REFUSAL_NO_BYTES = 15,        /* sending 0 bytes */
-    AMSULFEZD_REFUSAL_PASSIVE = 16,         /* passive */
+    AMSULFEZD_REFUSAL_PASSIVE = 16,         /* passive; of earlier versions, no longer answered */
     AMSULFEZD_REFUSAL_CUT = 17,             /* trace ends inside header or entry, or is above 2^32 bytes */
     AMSULFEZD_REFUSAL_NO_ROOM = 18,         /* no 8 bytes left for an answer; no room for what is to be written */
     /* Document 02's: 25 of a header, 26 of an address asked for, 31 to 33 of a capture, the others of a frame. */
@@ -121,7 +132,7 @@ enum amsulfezd_refusal {
 /* How a poll ended. */
 enum amsulfezd_outcome {
     AMSULFEZD_OUTCOME_NONE = 0,         /* no poll: a command, or an entry that was refused */
-    AMSULFEZD_OUTCOME_OFFLINE = 1,      /* the station is not online */
+    AMSULFEZD_OUTCOME_OFFLINE = 1,      /* the station is offline */
     AMSULFEZD_OUTCOME_TRANSMISSION = 2, /* a transmission was found going on, or one was begun */
     AMSULFEZD_OUTCOME_BUS = 3,          /* it waits for something to happen on the bus */
     AMSULFEZD_OUTCOME_DELAY = 4         /* it waits for time to pass */
@@ -137,7 +148,8 @@ enum amsulfezd_state {
     AMSULFEZD_STATE_AWAIT_DATA_RESPONSE = 5,
     AMSULFEZD_STATE_PASS_TOKEN = 6,
     AMSULFEZD_STATE_CHECK_TOKEN_PASS = 7,
-    AMSULFEZD_STATE_AWAIT_STATUS_RESPONSE = 8
+    AMSULFEZD_STATE_AWAIT_STATUS_RESPONSE = 8,
+    AMSULFEZD_STATE_PASSIVE_IDLE = 9 /* passive: it answers status requests and never takes the token */
 };
 
 /* What the station sent in a poll. */
@@ -221,7 +233,7 @@ enum amsulfezd_frame_byte {
  *
  * Which bytes change: exactly the 8 bytes of each answered entry. All others of `answers` keep their value, and nothing
  * else is written. After 17 or 18 the answers before it stand. A refused header writes nothing. An entry that is
- * refused with 12 to 16 gets an answer with its number, and the run goes on.
+ * refused with 12 to 15 gets an answer with its number, and the run goes on.
  *
  * What the caller must ensure: `trace` points to trace_len readable bytes and `answers` to answers_len writable ones
  * for the time of the call; the two do not overlap; neither is NULL, not even with length 0; nobody else writes to
@@ -262,6 +274,34 @@ uint64_t amsulfezd_trace_heard(const uint8_t *trace, size_t trace_len, uint8_t a
                                size_t entry_len);
 
 /*
+ * Runs a trace from a fresh station, as amsulfezd_replay_trace does, and writes three counts of the station's life. Each stops
+ * at 2^32 - 1, and none is cleared: going offline, by command or by collision, keeps them.
+ *
+ *   claims    how often the station claimed a lost token: each entry to ClaimToken. The second token that it then sends to
+ *             itself is no other one.
+ *   removals  how often it removed its next station after a third token to which nobody was heard. Stations that leave the
+ *             ring by a token between others are not counted.
+ *   meetings  how often it met its own address, each collision that it counted: in ListenToken any telegram with our address
+ *             as source, in ActiveIdle tokens only, also those that a poll in CheckTokenPass hears. Telegrams behind the second
+ *             collision in one poll are not counted.
+ *
+ * trace, trace_len    The trace, as above.
+ * counts, counts_len  Where AMSULFEZD_COUNTS_LENGTH bytes go: claims, removals and meetings, 4 bytes each. Read them with
+ *                     amsulfezd_counts_of.
+ *
+ * Returns the number of entries, times 256, plus the ending number: 0, or 17 if the trace ends inside an entry; the 12 bytes
+ * are then written, with what the whole entries make. Refused, in this order, with no entries and nothing written: 17 or the
+ * number of a refused header, as above; 18 if counts_len is below 12. Room for answers is not asked for. Take it apart with
+ * amsulfezd_entries and amsulfezd_ending.
+ *
+ * Which bytes change: the first 12 of `counts`, where nothing was refused. All others keep their value.
+ *
+ * What the caller must ensure, ownership and threads: as for amsulfezd_replay_trace. It always returns; its time grows with
+ * the number of entries.
+ */
+uint64_t amsulfezd_trace_counts(const uint8_t *trace, size_t trace_len, uint8_t *counts, size_t counts_len);
+
+/*
  * Moves a header to the other edition: one of 16 bytes to 14, one of 14 that begins with 82h to 16. An accepted header
  * moves there and back to the same bytes, and a trace whose header moved has the same answers.
  *
@@ -281,13 +321,13 @@ uint64_t amsulfezd_trace_heard(const uint8_t *trace, size_t trace_len, uint8_t a
 uint64_t amsulfezd_other_edition(const uint8_t *header, size_t header_len, uint8_t *out, size_t out_len);
 #endif
 
-/* The number of entries, of what amsulfezd_replay_trace or amsulfezd_trace_heard returned. */
+/* The number of entries, of what amsulfezd_replay_trace, amsulfezd_trace_heard or amsulfezd_trace_counts returned. */
 static inline uint64_t amsulfezd_entries(uint64_t returned)
 {
     return returned / 256;
 }
 
-/* The ending number, of what amsulfezd_replay_trace or amsulfezd_trace_heard returned: see enum amsulfezd_refusal. */
+/* The ending number, of what these three returned: see enum amsulfezd_refusal. */
 static inline unsigned amsulfezd_ending(uint64_t returned)
 {
     return (unsigned)(returned % 256);
@@ -299,7 +339,7 @@ static inline uint64_t amsulfezd_written(uint64_t returned)
     return returned / 256;
 }
 
-/* The refusal number, of what any call but these two returned: see enum amsulfezd_refusal. */
+/* The refusal number, of what any call but these three returned: see enum amsulfezd_refusal. */
 static inline unsigned amsulfezd_number(uint64_t returned)
 {
     return (unsigned)(returned % 256);
@@ -314,7 +354,14 @@ struct amsulfezd_heard {
     uint8_t station_type;  /* that of the last response: enum amsulfezd_station_type; 0 if there was none */
 };
 
-/* For amsulfezd_heard_of: this many bytes as a number, most significant first. */
+/* The counts of a station's life. */
+struct amsulfezd_counts {
+    uint32_t claims;   /* lost tokens claimed */
+    uint32_t removals; /* neighbours removed after a third token */
+    uint32_t meetings; /* collisions counted: our own address was heard */
+};
+
+/* For amsulfezd_heard_of and amsulfezd_counts_of: this many bytes as a number, most significant first. */
 static inline uint64_t amsulfezd_load(const uint8_t *bytes, unsigned count)
 {
     uint64_t number = 0;
@@ -335,6 +382,16 @@ static inline struct amsulfezd_heard amsulfezd_heard_of(const uint8_t *entry)
     heard.response_seen = entry[16] != 0;
     heard.station_type = (uint8_t)(entry[16] == 0 ? 0 : entry[16] - 1);
     return heard;
+}
+
+/* What the AMSULFEZD_COUNTS_LENGTH bytes say that amsulfezd_trace_counts wrote. */
+static inline struct amsulfezd_counts amsulfezd_counts_of(const uint8_t *bytes)
+{
+    struct amsulfezd_counts counts;
+    counts.claims = (uint32_t)amsulfezd_load(bytes, 4);
+    counts.removals = (uint32_t)amsulfezd_load(bytes + 4, 4);
+    counts.meetings = (uint32_t)amsulfezd_load(bytes + 8, 4);
+    return counts;
 }
 
 /* The length of the header that these bytes begin with, by their first byte. They may be fewer. */
@@ -444,6 +501,46 @@ uint64_t amsulfezd_export_capture(const uint8_t *entries, size_t entries_len, ui
                                   uint64_t *entry, uint64_t *written);
 #endif
 
+/* ---- The calls on settings --------------------------------------------------------------------------------------- */
+
+#ifndef AMSULFEZD_WITHOUT_CALL
+/*
+ * Settings in the caller's memory: AMSULFEZD_HEADER_LENGTH bytes that are a header of edition 1. They are made new, changed
+ * setting by setting and finished; finished they begin a trace.
+ *
+ * amsulfezd_new_settings writes the header of this address and baud code, for so many applications, with the defaults: the
+ * least slot bits of the code, rotation 32,436, gap wait 10, HSA 126, retry 1, min Tsdr 11, no watchdog factors. Refused, in
+ * this order: 1 if the address is above 125, 10 if the baud code is above 10, 11 if the applications are not 1..8, 18 if
+ * header_len is below 16.
+ *
+ * Each amsulfezd_set_.. changes one setting, and amsulfezd_set_highest_station_address also sets the rotation to HSA * 5000.
+ * Refused, in this order: 17 if header_len is below 16; the number that the header as it stands is refused with, 25 left out
+ * (edition 2 is not taken: 1); the setting's own number. So slot and rotation may be set in either order. All other fields
+ * stay as given, also a pair of watchdog factors that no time gives.
+ *
+ * amsulfezd_finish_settings checks the header as a whole and writes nothing: 17 if header_len is below 16, 1 for edition 2,
+ * else the number that a trace with this header ends with, 25 among them, 0 if it is accepted.
+ *
+ * Each returns the refusal number, 0 if nothing was refused.
+ *
+ * Which bytes change: of an accepted call the first 16 of `header`, where only those of the setting get another value. Bytes
+ * behind them keep their value, and all do where something is refused.
+ *
+ * What the caller must ensure: `header` points to header_len bytes that are the caller's for the time of the call, is not
+ * NULL, not even with length 0, and nobody else writes to it during the call. Any content is allowed. A call keeps no
+ * pointer, allocates nothing, has no state and always returns.
+ */
+uint64_t amsulfezd_new_settings(uint8_t address, uint8_t baud, uint8_t applications, uint8_t *header, size_t header_len);
+uint64_t amsulfezd_set_slot_bits(uint8_t *header, size_t header_len, uint16_t slot_bits);
+uint64_t amsulfezd_set_highest_station_address(uint8_t *header, size_t header_len, uint8_t hsa);
+uint64_t amsulfezd_set_token_rotation_bits(uint8_t *header, size_t header_len, uint32_t rotation_bits);
+uint64_t amsulfezd_set_gap_wait_rotations(uint8_t *header, size_t header_len, uint8_t gap_wait);
+uint64_t amsulfezd_set_max_retry_limit(uint8_t *header, size_t header_len, uint8_t max_retry_limit);
+uint64_t amsulfezd_set_min_tsdr_bits(uint8_t *header, size_t header_len, uint8_t min_tsdr_bits);
+uint64_t amsulfezd_set_watchdog_timeout(uint8_t *header, size_t header_len, uint32_t milliseconds);
+uint64_t amsulfezd_finish_settings(const uint8_t *header, size_t header_len);
+#endif
+
 /* ---- Readers of an answer ---------------------------------------------------------------------------------------- */
 
 /* The answer in these 8 bytes, as a word whose fields the functions below read. Of entry i: answers + 8 * i. */
@@ -463,7 +560,7 @@ static inline unsigned amsulfezd_field(uint64_t answer, unsigned place, unsigned
     return (unsigned)(answer >> place & ((UINT64_C(1) << width) - 1));
 }
 
-/* Why the entry was refused: AMSULFEZD_OK, or 12 to 16 of enum amsulfezd_refusal. The topmost 5 bits. */
+/* Why the entry was refused: AMSULFEZD_OK, or 12 to 15 of enum amsulfezd_refusal. The topmost 5 bits. */
 static inline unsigned amsulfezd_answer_refusal(uint64_t answer)
 {
     return (unsigned)(answer >> 59);
@@ -579,6 +676,8 @@ static inline const char *amsulfezd_state_name(unsigned state)
         return "CheckTokenPass";
     case AMSULFEZD_STATE_AWAIT_STATUS_RESPONSE:
         return "AwaitStatusResponse";
+    case AMSULFEZD_STATE_PASSIVE_IDLE:
+        return "PassiveIdle";
     default:
         return "unknown";
     }

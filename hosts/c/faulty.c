@@ -3,7 +3,7 @@
  * with `-Damsulfezd_replay_trace=faulty_replay_trace -Damsulfezd_other_edition=faulty_other_edition` for each fault and
  * expects it to be found.
  */
-#include "amsulfezd.h"
+#include "faulty.h"
 
 uint64_t faulty_replay_trace(const uint8_t *trace, size_t trace_len, uint8_t *answers, size_t answers_len);
 uint64_t faulty_other_edition(const uint8_t *header, size_t header_len, uint8_t *out, size_t out_len);
@@ -14,23 +14,12 @@ uint64_t faulty_replay_trace(const uint8_t *trace, size_t trace_len, uint8_t *an
     uint64_t returned = amsulfezd_replay_trace(trace, trace_len, answers, answers_len);
     size_t used = (size_t)amsulfezd_entries(returned) * AMSULFEZD_ANSWER_LENGTH;
     switch (FAULT) {
-    case 1: /* a byte past the answers, inside the buffer */
-        if (used < answers_len) {
-            written[used] ^= 1;
-        }
-        break;
-    case 2: /* the byte after the buffer */
-        written[answers_len] ^= 1;
-        break;
-    case 3: /* the byte before the buffer */
-        written[-1] ^= 1;
-        break;
-    case 4: /* the byte after the trace is read */
-        return returned + 0 * *(volatile const uint8_t *)(trace + trace_len);
-    case 5: /* the trace is written to */
-        if (trace_len != 0) {
-            *(volatile uint8_t *)(uintptr_t)trace ^= 1;
-        }
+    case 1:
+    case 2:
+    case 3:
+    case 4:
+    case 5:
+        touch_outside(FAULT - 1, trace, trace_len, answers, answers_len, used);
         break;
     case 6: /* a byte of an answer is wrong */
         if (used != 0) {
@@ -56,23 +45,12 @@ uint64_t faulty_other_edition(const uint8_t *header, size_t header_len, uint8_t 
     uint64_t returned = amsulfezd_other_edition(header, header_len, out, out_len);
     size_t written = (size_t)amsulfezd_written(returned);
     switch (FAULT) {
-    case 10: /* a byte past the header, inside the buffer */
-        if (written != 0 && written < out_len) {
-            changed[written] ^= 1;
-        }
-        break;
-    case 11: /* the byte after the buffer */
-        changed[out_len] ^= 1;
-        break;
-    case 12: /* the byte before the buffer */
-        changed[-1] ^= 1;
-        break;
-    case 13: /* the byte after what was lent is read */
-        return returned + 0 * *(volatile const uint8_t *)(header + header_len);
-    case 14: /* what was lent is written to */
-        if (header_len != 0) {
-            *(volatile uint8_t *)(uintptr_t)header ^= 1;
-        }
+    case 10:
+    case 11:
+    case 12:
+    case 13:
+    case 14:
+        touch_outside(FAULT - 10, header, header_len, out, out_len, written);
         break;
     case 15: /* a bit of the header is wrong */
         if (written != 0) {

@@ -2,20 +2,15 @@
  * That the C test of captures can fail: the proved calls with one planted fault, chosen by the number FAULT. hosts.sh builds
  * the test with the two calls named faulty_.. for each fault and expects it to be found.
  */
-#include "amsulfezd.h"
+#include "faulty.h"
 
 typedef uint64_t call(const uint8_t *lent, size_t lent_len, uint8_t *buffer, size_t room, uint64_t *place, uint64_t *written);
 
 call faulty_import_capture, faulty_export_capture;
 
-/* The faults that either call can have, from 0. */
+/* The faults that either call can have beside those of faulty.h. */
 enum fault {
-    AFTER_LENT,
-    BEFORE_LENT,
-    LENT_WRITTEN,
-    PAST_WRITTEN,
-    AFTER_BUFFER,
-    BEFORE_BUFFER,
+    BEFORE_LENT = LENT_WRITTEN + 1,
     LAST_BYTE,
     FROM_0,
     PLACE_UNSAID,
@@ -34,26 +29,8 @@ static uint64_t faulty(call *proved, int fault, const uint8_t *lent, size_t lent
     uint64_t place_before = *place, written_before = *written;
     uint64_t returned = proved(lent, lent_len, buffer, room, place, written);
     switch (fault) {
-    case AFTER_LENT: /* the byte after what was lent is read */
-        return returned + 0 * read[lent_len];
     case BEFORE_LENT: /* the byte before what was lent is read */
         return returned + 0 * read[-1];
-    case LENT_WRITTEN: /* what was lent is written to */
-        if (lent_len != 0) {
-            *(volatile uint8_t *)(uintptr_t)lent ^= 1;
-        }
-        break;
-    case PAST_WRITTEN: /* a byte past what is written, inside the buffer */
-        if (*written < room) {
-            changed[*written] ^= 1;
-        }
-        break;
-    case AFTER_BUFFER: /* the byte after the buffer */
-        changed[room] ^= 1;
-        break;
-    case BEFORE_BUFFER: /* the byte before the buffer */
-        changed[-1] ^= 1;
-        break;
     case LAST_BYTE: /* the last byte written is wrong */
         if (*written != 0) {
             changed[*written - 1] ^= 1;
@@ -83,6 +60,7 @@ static uint64_t faulty(call *proved, int fault, const uint8_t *lent, size_t lent
         }
         break;
     default:
+        touch_outside(fault, lent, lent_len, buffer, room, (size_t)*written);
         break;
     }
     return returned;

@@ -2,7 +2,7 @@
  * That the C test of frames can fail: the proved calls with one planted fault, chosen by the number FAULT. hosts.sh builds
  * the test with the two calls named faulty_.. for each fault and expects it to be found.
  */
-#include "amsulfezd.h"
+#include "faulty.h"
 
 uint64_t faulty_read_frame(const uint8_t *frame, size_t frame_len);
 uint64_t faulty_write_frame(uint32_t word, uint8_t *frame, size_t frame_len);
@@ -43,16 +43,10 @@ uint64_t faulty_write_frame(uint32_t word, uint8_t *frame, size_t frame_len)
     uint64_t returned = amsulfezd_write_frame(word, frame, frame_len);
     size_t used = amsulfezd_frame_bytes(returned);
     switch (FAULT) {
-    case 9: /* a byte past the frame, inside the buffer */
-        if (used < frame_len) {
-            written[used] ^= 1;
-        }
-        break;
-    case 10: /* the byte after the buffer */
-        written[frame_len] ^= 1;
-        break;
-    case 11: /* the byte before the buffer */
-        written[-1] ^= 1;
+    case 9:
+    case 10:
+    case 11:
+        touch_outside(FAULT - 9, frame, frame_len, frame, frame_len, used);
         break;
     case 12: /* a byte of the frame is wrong */
         if (used != 0) {

@@ -1,6 +1,6 @@
 /*
  * Tests the readers and writers of amsulfezd.h against bytes that are stated here by hand, from document 01, its
- * example 12 and the trace and answers of docs/QUALIFICATION.md, part 5, and from document 02, P7 and P9. It calls nothing of
+ * example 12 and the trace and answers of docs/QUALIFICATION.md, part 5, and from document 02, P6, P7 and P9. It calls nothing of
  * the library, and it is C99 and C++11 at once, so that it shows that the header is both. hosts.sh plants faults in the header, each of which it
  * must find.
  *
@@ -89,6 +89,8 @@ static void test_readers(void)
     static const unsigned times_out[FIELDS] = {0, 4, 6, 0, 0, 0, 0, 0, 0, 0, 2, 0, 20, 0, 127};
     static const unsigned refused[FIELDS] = {15, 0, 3, 0, 0, 0, 0, 0, 0, 0, 0, 0, 0, 0, 127};
     static const unsigned two[FIELDS] = {15, 0, 3, 0, 0, 0, 0, 0, 0, 0, 0, 0, 0, 0, 9};
+    /* Document 02, P10: a passive station answers 9's request with "slave". */
+    static const unsigned passive[FIELDS] = {0, 2, 9, 3, 9, 0, 0, 0, 6, 0, 0, 0, 0, 0, 7};
     /* Every second field full, then the others. */
     static const unsigned even[FIELDS] = {31, 0, 15, 0, 127, 0, 7, 0, 255, 0, 3, 0, 127, 0, 127};
     static const unsigned odd[FIELDS] = {0, 7, 0, 7, 0, 3, 0, 1, 0, 15, 0, 7, 0, 7, 0};
@@ -100,6 +102,7 @@ static void test_readers(void)
     reads("04600000008141fc", 16, times_out);
     reads("78300000000001fc", 16, refused);
     reads("7830000000000024", 16, two);
+    reads("029624006000001c", 16, passive);
     reads("11111 000 1111 000 1111111 00 111 0 11111111 0000 11 000 1111111 000 1111111 00", 2, even);
     reads("00000 111 0000 111 0000000 11 000 1 00000000 1111 00 111 0000000 111 0000000 11", 2, odd);
     check(AMSULFEZD_NOBODY == 127, "not document 02's number", "AMSULFEZD_NOBODY");
@@ -142,6 +145,31 @@ static void test_heard(void)
     reads_heard("01020304 05060708090a 0b0c0d0e0f10 02", unlike);
     check(AMSULFEZD_HEARD_LENGTH == 4 + 6 + 6 + 1 && AMSULFEZD_LAST_ADDRESS == 125, "lengths", "who was heard");
     check(AMSULFEZD_REFUSAL_ASKED_ADDRESS == 26, "not document 02's number", "who was heard");
+}
+
+/* The counts of a station's life are these: claims, removals, meetings. */
+static void reads_counts(const char *digits, uint32_t claims, uint32_t removals, uint32_t meetings)
+{
+    uint8_t bytes[AMSULFEZD_COUNTS_LENGTH + 1] = {0};
+    const size_t count = bytes_of(digits, 16, bytes);
+    const struct amsulfezd_counts counts = amsulfezd_counts_of(bytes);
+    check(count == AMSULFEZD_COUNTS_LENGTH, "not 12 bytes", digits);
+    check(counts.claims == claims, "claims", digits);
+    check(counts.removals == removals, "removals", digits);
+    check(counts.meetings == meetings, "meetings", digits);
+}
+
+/* Counts: none, each alone, all at their largest, and no two bytes alike. */
+static void test_counts(void)
+{
+    reads_counts("00000000 00000000 00000000", 0, 0, 0);
+    reads_counts("00000001 00000000 00000000", 1, 0, 0);
+    reads_counts("00000000 00000100 00000000", 0, 256, 0);
+    reads_counts("00000000 00000000 00010000", 0, 0, 65536);
+    reads_counts("ffffffff 00000000 ffffffff", 0xffffffff, 0, 0xffffffff);
+    reads_counts("00000000 ffffffff 00000000", 0, 0xffffffff, 0);
+    reads_counts("01020304 05060708 090a0b0c", 0x01020304, 0x05060708, 0x090a0b0c);
+    check(AMSULFEZD_COUNTS_LENGTH == 3 * 4, "lengths", "counts");
 }
 
 /* A frame's word has these fields: kind, destination, source, status request, type, status. */
@@ -220,11 +248,12 @@ static void test_numbers(void)
         AMSULFEZD_STATE_ACTIVE_IDLE,    AMSULFEZD_STATE_USE_TOKEN,
         AMSULFEZD_STATE_CLAIM_TOKEN,    AMSULFEZD_STATE_AWAIT_DATA_RESPONSE,
         AMSULFEZD_STATE_PASS_TOKEN,     AMSULFEZD_STATE_CHECK_TOKEN_PASS,
-        AMSULFEZD_STATE_AWAIT_STATUS_RESPONSE,
+        AMSULFEZD_STATE_AWAIT_STATUS_RESPONSE, AMSULFEZD_STATE_PASSIVE_IDLE,
     };
     static const char *const names[] = {
         "Offline",           "ListenToken", "ActiveIdle",     "UseToken",            "ClaimToken",
-        "AwaitDataResponse", "PassToken",   "CheckTokenPass", "AwaitStatusResponse", "unknown",
+        "AwaitDataResponse", "PassToken",   "CheckTokenPass", "AwaitStatusResponse", "PassiveIdle",
+        "unknown",
     };
     static const unsigned sent[] = {AMSULFEZD_SENT_NONE, AMSULFEZD_SENT_TOKEN, AMSULFEZD_SENT_STATUS_REQUEST,
                                     AMSULFEZD_SENT_STATUS_RESPONSE, AMSULFEZD_SENT_APPLICATION};
@@ -565,6 +594,7 @@ int main(int count, char **words)
     test_numbers();
     test_frames();
     test_heard();
+    test_counts();
     test_header();
     test_header_2();
     test_commands();

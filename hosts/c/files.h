@@ -34,7 +34,7 @@ static void fail(const char *format, ...)
 }
 
 /* Memory for so many bytes, and one more, as the calls ask for a pointer also where there is nothing to write. */
-static uint8_t *take(size_t size)
+static inline uint8_t *take(size_t size)
 {
     uint8_t *bytes = malloc(size + 1);
     if (bytes == NULL) {

@@ -2,9 +2,9 @@
  * Measures the stack that the proved calls use, and holds it to AMSULFEZD_STACK_BYTES. A call runs on a stack of its
  * own that is filled with a pattern; afterwards the deepest byte that changed is looked for. The traces: those of the
  * files named, example 12's header with 100,000 times online, and as many made at random as are asked for, with headers
- * of both editions; each is replayed, asked for an address that was heard, its header moved to the other edition, and its
- * entries exported as a capture; each state and each kind of send, moves both ways, and an address that was heard, must have
- * been seen. Frames: one of each start byte, and a word of each kind. Captures: those of the files named, whose names end in
+ * of both editions; each is replayed, asked for an address that was heard and for its counts, its header moved to the other
+ * edition, and its entries exported as a capture; each state and each kind of send, moves both ways, an address that was heard,
+ * and each of the counts must have been seen. Frames: one of each start byte, and a word of each kind. Captures: those of the files named, whose names end in
  * .capture, and one of each start byte. Built with -DFAULT the call takes more, which must be found.
  *
  * usage: stack TRACES FILE..
@@ -43,7 +43,7 @@ static uint64_t returned;
 /* The first byte above the call's stack, its return address included. */
 static uintptr_t above;
 
-static unsigned states_seen, sent_seen, moves_seen, heard_seen;
+static unsigned states_seen, sent_seen, moves_seen, heard_seen, counts_seen;
 static size_t deepest;
 
 static void fail(const char *why, const char *what)
@@ -139,9 +139,10 @@ static uint64_t trace_heard(const uint8_t *lent, size_t length, uint8_t *buffer,
     return amsulfezd_trace_heard(lent, length, 9, buffer, room);
 }
 
-/* Replays a trace, asks who was heard, moves its header and exports its entries, and notes what came. */
+/* Replays a trace, asks who was heard and for the counts, moves its header and exports its entries, and notes what came. */
 static void measure(const uint8_t *bytes, size_t length, const char *name)
 {
+    struct amsulfezd_counts counts;
     uint64_t i;
     trace = bytes;
     trace_len = length;
@@ -157,6 +158,10 @@ static void measure(const uint8_t *bytes, size_t length, const char *name)
     memset(answers, 0, AMSULFEZD_HEARD_LENGTH);
     run(trace_heard, name);
     heard_seen |= amsulfezd_heard_of(answers).times != 0;
+    memset(answers, 0, AMSULFEZD_COUNTS_LENGTH);
+    run(amsulfezd_trace_counts, name);
+    counts = amsulfezd_counts_of(answers);
+    counts_seen |= (counts.claims != 0 ? 1u : 0) | (counts.removals != 0 ? 2u : 0) | (counts.meetings != 0 ? 4u : 0);
     run(amsulfezd_other_edition, name);
     if (amsulfezd_written(returned) != 0) {
         moves_seen |= amsulfezd_written(returned) == AMSULFEZD_HEADER_LENGTH ? TO_FIRST : TO_SECOND;
@@ -228,6 +233,30 @@ static void measure_frames(void)
         if (amsulfezd_frame_bytes(returned) == 0) {
             fail("it was not written", "a word");
         }
+    }
+}
+
+/* Makes settings, sets each of them and finishes them. */
+static uint64_t settings(const uint8_t *lent, size_t length, uint8_t *buffer, size_t room)
+{
+    (void)lent;
+    (void)length;
+    return amsulfezd_new_settings(5, 6, 1, buffer, room) | amsulfezd_set_slot_bits(buffer, room, 300) |
+           amsulfezd_set_highest_station_address(buffer, room, 100) |
+           amsulfezd_set_token_rotation_bits(buffer, room, 5000) | amsulfezd_set_gap_wait_rotations(buffer, room, 5) |
+           amsulfezd_set_max_retry_limit(buffer, room, 2) | amsulfezd_set_min_tsdr_bits(buffer, room, 20) |
+           amsulfezd_set_watchdog_timeout(buffer, room, 650000) | amsulfezd_finish_settings(buffer, room);
+}
+
+/* Calls each call on settings. */
+static void measure_settings(void)
+{
+    static const uint8_t nothing[1] = {0};
+    trace = nothing;
+    trace_len = 0;
+    run(settings, "settings");
+    if (returned != AMSULFEZD_OK) {
+        fail("a call was refused", "settings");
     }
 }
 
@@ -323,7 +352,7 @@ static size_t read_file(const char *name, uint8_t *to, size_t room)
 int main(int count, char **words)
 {
     const struct amsulfezd_header header = amsulfezd_new_header(5, 6, 1);
-    const unsigned all_states = (1u << (AMSULFEZD_STATE_AWAIT_STATUS_RESPONSE + 1)) - 1;
+    const unsigned all_states = (1u << (AMSULFEZD_STATE_PASSIVE_IDLE + 1)) - 1;
     const unsigned all_sent = (1u << (AMSULFEZD_SENT_APPLICATION + 1)) - 1;
     const size_t room = AMSULFEZD_HEADER_LENGTH + LONG;
     uint8_t *bytes = (uint8_t *)take(room);
@@ -336,6 +365,7 @@ int main(int count, char **words)
     answers_len = AMSULFEZD_ANSWER_LENGTH * (size_t)LONG;
     answers = (uint8_t *)take(answers_len);
     measure_frames();
+    measure_settings();
     measure_captures();
     for (file = 2; file < count; file++) {
         const char *end_of_name = strrchr(words[file], '.');
@@ -352,8 +382,10 @@ int main(int count, char **words)
     for (i = 0; i < traces; i++) {
         measure(bytes, make(bytes, room), "a trace made at random");
     }
-    if (states_seen != all_states || sent_seen != all_sent || moves_seen != (TO_FIRST | TO_SECOND) || !heard_seen) {
-        fail("not every state, every kind of send, both moves and an address that was heard were reached", "the traces");
+    if (states_seen != all_states || sent_seen != all_sent || moves_seen != (TO_FIRST | TO_SECOND) || !heard_seen ||
+        counts_seen != 7) {
+        fail("not every state, every kind of send, both moves, an address that was heard and each count were reached",
+             "the traces");
     }
     if (deepest > AMSULFEZD_STACK_BYTES) {
         fprintf(stderr, "stack: a call used %zu bytes of stack, more than the %d that amsulfezd.h names\n", deepest,

@@ -1,20 +1,21 @@
-//! What is put into the published `active.rs` in the place of the names that document 01 lists as
-//! lacking. Each text of the published file must be found exactly once, or the build fails.
+//! What is put into the published `active.rs`: document 01's rules in the place of the names that it lists as lacking, and
+//! PassiveIdle by document 02, P10, where the published text stops. Each text of the published file must be found exactly
+//! once, or the build fails.
 
 /// One text of the published file and what stands in its place.
 pub struct Replacement {
-    /// The name on document 01's list.
+    /// The name on document 01's list, or the part of the published text that document 02 changes.
     pub name: &'static str,
     /// The text as published.
     pub published: &'static str,
-    /// Document 01's rule.
+    /// The documents' rule.
     pub ours: &'static str,
     /// Replaced with the feature `published_helpers` too: the published files at hand do not have it.
     pub always: bool,
 }
 
 /// The list. Everything else of `active.rs` stays as published.
-pub const REPLACEMENTS: [Replacement; 16] = [
+pub const REPLACEMENTS: [Replacement; 24] = [
     // "TokenRing": `new` hands it the settings; ours takes the own address.
     Replacement {
         name: "TokenRing",
@@ -252,7 +253,8 @@ pub const REPLACEMENTS: [Replacement; 16] = [
 ",
         always: true,
     },
-    // What the oracle reads off a station, put at the end of the file: the text is watch.rs beside this one.
+    // What is put at the end of the file: PassiveIdle's own step, and what the oracle reads off a station. The texts are
+    // passive.rs and watch.rs beside this one.
     Replacement {
         name: "the end of the file",
         published: "            s => todo!(\"Active station state {s:?} not implemented yet!\"),
@@ -267,9 +269,109 @@ pub const REPLACEMENTS: [Replacement; 16] = [
 }
 
 ",
+            include_str!("passive.rs"),
+            "\n",
             include_str!("watch.rs")
         ),
         always: true,
+    },
+    // From here on document 02, P10. Where the published text has a rule for passive it stays as it is: which states become
+    // PassiveIdle, that the others go on, that online leads from PassiveIdle to ListenToken, and that both come first in a poll.
+    //
+    // "Passive is accepted." The published text notes the wish and stops.
+    Replacement {
+        name: "set_state",
+        published: "            *self = Self::new(parameters);
+        } else if state != ConnectivityState::Online {
+            todo!(
+                \"ConnectivityState {:?} is not yet supported properly!\",
+                state
+            );
+        }
+",
+        ours: "            *self = Self::new(parameters);
+        }
+",
+        always: false,
+    },
+    // "PassiveIdle (state 9, no request pending)": the state gets a place for the request, empty on entering. The two places
+    // of poll_inner that name the state without a field follow.
+    Replacement {
+        name: "PassiveIdle",
+        published: "    Offline,
+    PassiveIdle,
+    ListenToken {
+",
+        ours: "    Offline,
+    PassiveIdle {
+        status_request: Option<crate::Address>,
+    },
+    ListenToken {
+",
+        always: true,
+    },
+    Replacement {
+        name: "PassiveIdle::entered",
+        published: "        *self = State::PassiveIdle;
+",
+        ours: "        *self = State::PassiveIdle {
+            status_request: None,
+        };
+",
+        always: true,
+    },
+    Replacement {
+        name: "PassiveIdle::stays",
+        published: "                    State::PassiveIdle => (),
+",
+        ours: "                    State::PassiveIdle { .. } => (),
+",
+        always: true,
+    },
+    Replacement {
+        name: "PassiveIdle::left",
+        published: "if matches!(self.state, State::Offline | State::PassiveIdle) {
+",
+        ours: "if matches!(self.state, State::Offline | State::PassiveIdle { .. }) {
+",
+        always: true,
+    },
+    // "Offline, ListenToken and ActiveIdle become PassiveIdle .. at the next poll": so says poll_inner, and the assertion of
+    // the transition has Offline alone.
+    Replacement {
+        name: "transition_passive_idle",
+        published: "        debug_assert_state!(self, State::Offline { .. } | State::PassiveIdle { .. });
+",
+        ours: "        debug_assert_state!(
+            self,
+            State::Offline { .. }
+                | State::PassiveIdle { .. }
+                | State::ListenToken { .. }
+                | State::ActiveIdle { .. }
+        );
+",
+        always: false,
+    },
+    // "Online from there goes to ListenToken": so says poll_inner, and the assertion of the transition lacks PassiveIdle.
+    Replacement {
+        name: "transition_listen_token",
+        published: "            State::ListenToken { .. } | State::Offline { .. } | State::ActiveIdle { .. }
+",
+        ours: "            State::ListenToken { .. }
+                | State::Offline { .. }
+                | State::ActiveIdle { .. }
+                | State::PassiveIdle { .. }
+",
+        always: false,
+    },
+    // The step of PassiveIdle, where the published text stops: passive.rs.
+    Replacement {
+        name: "poll_inner",
+        published: "            s => todo!(\"Active station state {s:?} not implemented yet!\"),
+",
+        ours: "            State::PassiveIdle { .. } => self.do_passive_idle(now, phy).into(),
+",
+        always: false,
     },
 ];
 
@@ -281,8 +383,8 @@ pub fn replace_once(text: &str, old: &str, new: &str) -> Result<String, usize> {
     }
 }
 
-/// The published `active.rs` with document 01's rules in it; with `published_helpers` only what the
-/// published files lack is put in.
+/// The published `active.rs` with the documents' rules in it; with `published_helpers` only what the
+/// published files lack is put in, and passive stops where it does in them.
 pub fn station_text(published: &str, published_helpers: bool) -> Result<String, String> {
     let mut text = published.to_string();
     for r in &REPLACEMENTS {

@@ -4,9 +4,11 @@
 /// What a generator and a reader may know of a station.
 #[derive(Debug, Clone, Copy, PartialEq, Eq)]
 pub struct Watched {
-    /// Document 01's number of the state.
+    /// The number of the state.
     pub state: u8,
+    /// What the last command or a second collision left: neither is offline.
     pub online: bool,
+    pub passive: bool,
     pub last_bus_activity: Option<crate::time::Instant>,
     pub pending_bytes: usize,
     pub last_token_time: crate::time::Instant,
@@ -32,6 +34,22 @@ pub struct Watched {
     pub next_application: usize,
 }
 
+impl Watched {
+    /// Offline by command, by a second collision, or since the start.
+    pub fn offline(&self) -> bool {
+        !self.online && !self.passive
+    }
+
+    /// The state in which the next poll is handled, after the move that a command asked for.
+    pub fn handled_in(&self) -> u8 {
+        match self.state {
+            0..=2 if self.passive => 9,
+            0 | 9 if self.online => 1,
+            state => state,
+        }
+    }
+}
+
 impl FdlActiveStation {
     /// `poll_multi`, with document 01's number of the outcome.
     pub fn poll_done<PHY: ProfibusPhy>(
@@ -44,7 +62,7 @@ impl FdlActiveStation {
     }
 
     /// Document 01's number of the state: "Offline, ListenToken, ActiveIdle, UseToken, ClaimToken,
-    /// AwaitDataResponse, PassToken, CheckTokenPass, AwaitStatusResponse".
+    /// AwaitDataResponse, PassToken, CheckTokenPass, AwaitStatusResponse"; document 02: "PassiveIdle (state 9 ..".
     pub fn state_number(&self) -> u8 {
         match self.state {
             State::Offline => 0,
@@ -56,7 +74,7 @@ impl FdlActiveStation {
             State::PassToken { .. } => 6,
             State::CheckTokenPass { .. } => 7,
             State::AwaitStatusResponse { .. } => 8,
-            State::PassiveIdle => unreachable!("passive is refused"),
+            State::PassiveIdle { .. } => 9,
         }
     }
 
@@ -82,6 +100,7 @@ impl FdlActiveStation {
         let mut w = Watched {
             state: self.state_number(),
             online: self.connectivity_state.is_online(),
+            passive: self.connectivity_state.is_passive(),
             last_bus_activity: self.last_bus_activity,
             pending_bytes: self.pending_bytes,
             last_token_time: self.last_token_time,
@@ -104,7 +123,8 @@ impl FdlActiveStation {
             GapState::DoPoll { current_address } => w.gap_poll = Some(current_address),
         }
         match self.state {
-            State::Offline | State::PassiveIdle | State::ClaimToken { .. } => {}
+            State::Offline | State::ClaimToken { .. } => {}
+            State::PassiveIdle { status_request } => w.status_request = status_request,
             State::ListenToken {
                 status_request,
                 collision_count,

@@ -67,6 +67,8 @@ static uint64_t make(uint8_t which, uint8_t address, const uint8_t *lent, size_t
         return amsulfezd_other_edition(lent, length, buffer, room);
     case 2:
         return amsulfezd_trace_heard(lent, length, address, buffer, room);
+    case 3:
+        return amsulfezd_trace_counts(lent, length, buffer, room);
     default:
         fail("there is no such call");
         return 0;

@@ -20,7 +20,7 @@ use std::path::Path;
 /// Files that lean on nothing of the crate: copied only where the error stands in them.
 const ALONE: [&str; 3] = ["records", "ring", "dp"];
 /// Files that lean on each other: copied for each error.
-const TOGETHER: [&str; 8] = ["time", "baud", "fdl", "phy", "port", "editions", "trace", "heard"];
+const TOGETHER: [&str; 9] = ["time", "baud", "fdl", "phy", "port", "editions", "trace", "heard", "counts"];
 
 fn read(path: &str) -> String {
     println!("cargo:rerun-if-changed={}", path);
@@ -28,8 +28,11 @@ fn read(path: &str) -> String {
 }
 
 fn main() {
-    for file in ["build.rs", "list.rs", "frames.rs", "captures.rs", "../build/replacements.rs", "../build/watch.rs"] {
+    for file in ["build.rs", "list.rs", "frames.rs", "captures.rs"] {
         println!("cargo:rerun-if-changed={}", file);
+    }
+    for file in ["replacements", "passive", "watch"] {
+        println!("cargo:rerun-if-changed=../build/{}.rs", file);
     }
     let out = std::env::var("OUT_DIR").expect("cargo names a folder");
     let active = replacements::station_text(&read("../published/active.rs"), false)
@@ -77,7 +80,7 @@ fn main() {
         let table = if asked { format!("{}::settings_table::table", name) } else { "String::new".to_string() };
         writeln!(
             runs,
-            "    crate::Runs {{ traces: {0}::trace::replay_trace, moves: {0}::editions::other_edition, heard: {0}::heard::trace_heard, table: {1} }},",
+            "    crate::Runs {{ traces: {0}::trace::replay_trace, moves: {0}::editions::other_edition, heard: {0}::heard::trace_heard, counts: {0}::counts::trace_counts, table: {1} }},",
             name, table
         )
         .expect("text");

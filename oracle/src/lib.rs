@@ -12,11 +12,12 @@ extern crate self as log;
 /// Document 01's helpers: the names that the published files use, ring, records, port and trace.
 mod helpers {
     pub mod baud;
+    pub mod counts;
     pub mod dp;
     pub mod editions;
     pub mod fdl;
     pub mod heard;
-    mod log;
+    pub mod log;
     pub mod phy;
     pub mod port;
     pub mod records;
@@ -46,16 +47,20 @@ pub mod generator {
 
 /// The cases that generated traces have to reach, by name.
 pub mod coverage {
+    pub mod counts;
     mod events;
     pub mod heard;
     mod met;
     pub mod moves;
+    mod passive;
     mod points;
     mod poll;
     mod refusals;
+    mod tally;
     pub use met::Met;
     pub use points::Points;
     pub(crate) use refusals::{stray_point, stray_points};
+    pub(crate) use tally::{Point, Tally};
 }
 
 /// Holding other calls to the oracle's.
@@ -75,7 +80,7 @@ pub mod comparison {
 pub mod frames {
     pub mod compare;
     pub mod frame;
-    mod met;
+    pub(crate) mod met;
     pub mod tries;
 }
 
@@ -94,7 +99,10 @@ pub mod settings_table;
 pub mod watchdog_lines;
 
 // The published files find these names at the root.
-pub use helpers::{baud, baud::Baudrate, dp, editions, fdl, heard, phy, port, records, ring, time, trace};
+pub use helpers::{baud, baud::Baudrate, counts, dp, editions, fdl, heard, phy, port, records, ring, time, trace};
+
+/// The lines that the published text says, as far as they are counted.
+pub use helpers::log as lines;
 
 /// A station's address, as the published files name it.
 pub type Address = u8;

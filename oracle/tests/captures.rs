@@ -1,13 +1,14 @@
 //! That the comparison of captures can fail: wrong importers and exporters, each of which must be found; the oracle there and
 //! back; and its programs.
 
+mod programs;
+
 use oracle::captures::capture::{export_capture, import_capture, line_of, line_with};
 use oracle::captures::compare::{compare_captures, made, Call};
 use oracle::captures::tries::{parts, Try};
 use oracle::comparison::calls::{oracle, Left};
 use oracle::comparison::hex;
 use oracle::frames::frame::{frame_of, read};
-use std::process::{Command, Stdio};
 
 /// The text of a comparison with these calls, which must not hold.
 fn found(import: Call, export: Call) -> String {
@@ -169,32 +170,14 @@ fn there_and_back() {
 
 const COMPARE_CAPTURES: &str = env!("CARGO_BIN_EXE_compare_captures");
 
-/// Runs the program; gives its status and what it prints.
-fn program(words: &[&str]) -> (i32, String, String) {
-    let mut command = Command::new(COMPARE_CAPTURES);
-    let output = command.args(words).stdin(Stdio::null()).output().expect("it runs");
-    let text = |bytes| String::from_utf8(bytes).expect("text");
-    (output.status.code().expect("a status"), text(output.stdout), text(output.stderr))
-}
-
 #[test]
 fn calls_in_another_process_are_the_same() {
-    let here = program(&["5", "1000"]);
-    assert_eq!(here.0, 0, "{}", here.1);
-    assert_eq!(program(&["5", "1000", "--", COMPARE_CAPTURES, "--serve"]), here);
-    // a program that says nothing
-    let (status, said, _) = program(&["5", "1000", "--", "true"]);
-    assert_eq!(status, 1);
-    assert!(said.contains("did not come back"), "{}", said);
+    programs::calls_in_another_process_are_the_same(COMPARE_CAPTURES);
 }
 
 #[test]
 fn bad_usage_is_one_line_and_status_2() {
-    for words in ["", "1", "1 0", "x 1", "1 2 3", "1 2 --", "1 2 -- no-such-program", "--other"] {
-        let list: Vec<&str> = words.split_whitespace().collect();
-        let (status, said, error) = program(&list);
-        assert_eq!((status, said.as_str(), error.lines().count()), (2, "", 1), "{}: {}", words, error);
-    }
+    programs::bad_usage(COMPARE_CAPTURES, &programs::BAD_USAGE);
 }
 
 /// The stories of traces/captures, stated by hand, by the oracle: what is given, and the room, the bytes and the three numbers

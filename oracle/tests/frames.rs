@@ -1,10 +1,11 @@
 //! That the comparison of frames can fail: wrong readers and writers, each of which must be found; and its programs.
 
+mod programs;
+
 use oracle::comparison::calls::{oracle, Left};
 use oracle::frames::compare::{compare_frames, made};
 use oracle::frames::frame::{read_frame, write_frame};
 use oracle::frames::tries::Try;
-use std::process::{Command, Stdio};
 
 type Reader = fn(&[u8]) -> u64;
 type Writer = fn(u32, &mut [u8]) -> u64;
@@ -88,30 +89,12 @@ fn a_call_that_ends_is_found() {
 
 const COMPARE_FRAMES: &str = env!("CARGO_BIN_EXE_compare_frames");
 
-/// Runs the program; gives its status and what it prints.
-fn program(words: &[&str]) -> (i32, String, String) {
-    let mut command = Command::new(COMPARE_FRAMES);
-    let output = command.args(words).stdin(Stdio::null()).output().expect("it runs");
-    let text = |bytes| String::from_utf8(bytes).expect("text");
-    (output.status.code().expect("a status"), text(output.stdout), text(output.stderr))
-}
-
 #[test]
 fn calls_in_another_process_are_the_same() {
-    let here = program(&["5", "1000"]);
-    assert_eq!(here.0, 0, "{}", here.1);
-    assert_eq!(program(&["5", "1000", "--", COMPARE_FRAMES, "--serve"]), here);
-    // a program that says nothing
-    let (status, said, _) = program(&["5", "1000", "--", "true"]);
-    assert_eq!(status, 1);
-    assert!(said.contains("did not come back"), "{}", said);
+    programs::calls_in_another_process_are_the_same(COMPARE_FRAMES);
 }
 
 #[test]
 fn bad_usage_is_one_line_and_status_2() {
-    for words in ["", "1", "1 0", "x 1", "1 2 3", "1 2 --", "1 2 -- no-such-program", "--other"] {
-        let list: Vec<&str> = words.split_whitespace().collect();
-        let (status, said, error) = program(&list);
-        assert_eq!((status, said.as_str(), error.lines().count()), (2, "", 1), "{}: {}", words, error);
-    }
+    programs::bad_usage(COMPARE_FRAMES, &programs::BAD_USAGE);
 }

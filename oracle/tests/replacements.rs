@@ -33,7 +33,7 @@ fn a_text_that_does_not_stand_once_fails_by_name() {
     }
 }
 
-/// Only names of document 01's list are replaced, and what the oracle reads is put at the end.
+/// Only names of document 01's list are replaced, and what document 02 says of passive; what the oracle adds is put at the end.
 #[test]
 fn only_the_listed_names_are_replaced() {
     let listed = [
@@ -49,12 +49,18 @@ fn only_the_listed_names_are_replaced() {
         "connectivity_state",
         "PollDone",
         "the end of the file",
+        // document 02, P10
+        "set_state",
+        "PassiveIdle",
+        "transition_passive_idle",
+        "transition_listen_token",
+        "poll_inner",
     ];
     for r in &REPLACEMENTS {
         let name = r.name.split("::").next().expect("a name");
         assert!(listed.contains(&name), "{}", r.name);
     }
-    let end = REPLACEMENTS.last().expect("the last");
+    let end = REPLACEMENTS.iter().find(|r| r.name == "the end of the file").expect("the end");
     assert!(PUBLISHED.trim_end().ends_with(end.published.trim_end()));
     assert!(end.ours.starts_with(end.published));
 }

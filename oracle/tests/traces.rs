@@ -1,6 +1,8 @@
 //! Document 01's examples 9 to 12 through the oracle, document 02's times, the published calls that the replay does not
 //! make, the programs, and that the comparison can fail.
 
+mod programs;
+
 use oracle::baud::{Baudrate, BAUDRATES};
 use oracle::comparison::compare::compare_traces;
 use oracle::comparison::hex;
@@ -11,8 +13,7 @@ use oracle::port::{RecordApplication, RecordPort};
 use oracle::records::{PollRecord, Sent, Telegram};
 use oracle::time::Instant;
 use oracle::trace::{replay_trace, Entry, Header, Runner, ANSWER};
-use std::io::Write;
-use std::process::{Command, Stdio};
+use programs::{bad_usage, program, BAD_USAGE};
 
 /// A poll at this time, all else zero.
 fn silent(clock: u64) -> PollRecord {
@@ -115,18 +116,6 @@ const EXAMPLE_12: &str = "00000000000001fc
 6 0
 ";
 
-/// Runs a program; gives its status and what it prints.
-fn program(path: &str, words: &[&str], input: &[u8]) -> (i32, String, String) {
-    let mut command = Command::new(path);
-    command.args(words).stdin(Stdio::piped()).stdout(Stdio::piped()).stderr(Stdio::piped());
-    let mut child = command.spawn().expect("it starts");
-    // it may end before it has read all
-    let _ = child.stdin.take().expect("its input").write_all(input);
-    let output = child.wait_with_output().expect("it ends");
-    let text = |bytes| String::from_utf8(bytes).expect("text");
-    (output.status.code().expect("a status"), text(output.stdout), text(output.stderr))
-}
-
 const REPLAY_ORACLE: &str = env!("CARGO_BIN_EXE_replay_oracle");
 const COMPARE_TRACES: &str = env!("CARGO_BIN_EXE_compare_traces");
 
@@ -153,16 +142,9 @@ fn example_12_as_the_program_prints_it() {
 
 #[test]
 fn bad_usage_is_one_line_and_status_2() {
-    let replay = ["--hex", "--hex 0", "--hex zz", "--other", "no-such-file", "a b c"];
-    let compare =
-        ["", "1", "1 0", "x 1", "1 2 3", "1 -2", "--show 1", "1 2 --", "1 2 -- no-such-program", "x 2 -- true"];
-    let all =
-        replay.map(|words| (REPLAY_ORACLE, words)).into_iter().chain(compare.map(|words| (COMPARE_TRACES, words)));
-    for (path, words) in all {
-        let list: Vec<&str> = words.split_whitespace().collect();
-        let (status, said, error) = program(path, &list, &[]);
-        assert_eq!((status, said.as_str(), error.lines().count()), (2, "", 1), "{}: {}", words, error);
-    }
+    bad_usage(REPLAY_ORACLE, &["--hex", "--hex 0", "--hex zz", "--other", "no-such-file", "a b c"]);
+    bad_usage(COMPARE_TRACES, &BAD_USAGE);
+    bad_usage(COMPARE_TRACES, &["1 -2", "--show 1", "x 2 -- true"]);
 }
 
 /// `poll` and `poll_multi` of the published text leave the station as the replay's poll does, and ask the same of the
@@ -183,7 +165,7 @@ fn poll_and_poll_multi_are_the_replays_poll() {
             match entry {
                 Entry::Online => other.set_online(),
                 Entry::Offline => other.set_offline(),
-                Entry::Passive => {}
+                Entry::Passive => other.set_passive(),
                 Entry::Poll(bytes) => {
                     if let Ok(record) = PollRecord::decode(header.applications, bytes) {
                         polls += 1;

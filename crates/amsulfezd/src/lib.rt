@@ -1,13 +1,16 @@
 // The library for hosts: every call that C and Rust programs make of it, each thin over the crate that does the work. Their
 // names carry the prefix amsulfezd_, as a C library's names do. hosts/c/amsulfezd.h declares them. It leans on trace,
-// trace_editions, trace_heard, codec_frames, capture_import and capture_export.
+// trace_editions, trace_heard, trace_counts, settings_header, codec_frames, capture_import and capture_export.
 ghost use mathlib.Core.Path.{_≡_};
 ghost use lib.ListN.{length};
 ghost use Rattle.capture_export.specs.Export.{exportOf, exportedOf, bufferOf as exportBuffer};
 ghost use Rattle.capture_import.specs.Import.{importOf, importedOf, bufferOf as importBuffer};
 ghost use Rattle.codec_frames.specs.Frames.{frameOf, readNumber, writeOf, writeNumber, writtenOver};
+ghost use Rattle.settings.specs.Settings.{slotBitsOf, hsaOf, rotationOf, gapWaitOf, retryOf, minTsdrOf, watchdogOf};
+ghost use Rattle.settings_header.specs.SettingsHeader.{setNumber, setInto, newNumber, newInto, finishNumber};
 ghost use Rattle.trace.specs.Trace.{replayOf, numberOf, bufferOf};
 ghost use Rattle.trace_editions.specs.Editions.{moveNumber, moveInto};
+ghost use Rattle.trace_counts.specs.TraceCounts.{countsNumber, countsInto};
 ghost use Rattle.trace_heard.specs.TraceHeard.{heardNumber, heardInto};
 
 // Replays a trace and returns the entries answered × 256 + the ending number. Each entry's answer stands in the next eight
@@ -18,6 +21,17 @@ pub extern "C" fn amsulfezd_replay_trace(trace: &[u8], answers: &mut [u8]) -> u6
     ensures { λ _. ⌜ now (answers .exit) ≡ bufferOf (replayOf (now (trace .entry)) (length (now (answers .entry)))) (now (answers .entry)) ⌝ }
 {
     trace::replay_trace(trace, answers)
+}
+
+// Runs over a trace and writes what its station has counted at the end: how often it claimed the token, removed a neighbour and met its
+// own address, 32 bits each, 12 bytes into `counts`. Returns the entries answered × 256 + the ending number. Refused with the header's
+// numbers, or 18 where `counts` is too short: then nothing is written.
+#[no_mangle]
+pub extern "C" fn amsulfezd_trace_counts(trace: &[u8], counts: &mut [u8]) -> u64
+    ensures { λ r. ⌜ r ≡ countsNumber (now (trace .entry)) (length (now (counts .entry))) ⌝ }
+    ensures { λ _. ⌜ now (counts .exit) ≡ countsInto (now (trace .entry)) (now (counts .entry)) ⌝ }
+{
+    trace_counts::trace_counts(trace, counts)
 }
 
 // Runs over a trace and writes who was heard: of an address the times heard, the first and the last clock and the station type of its
@@ -100,4 +114,95 @@ pub extern "C" fn amsulfezd_export_capture(
     *entry = exported.entry;
     *written = exported.written;
     exported.refusal as u64
+}
+
+// Settings in the caller's memory: the first 16 bytes of `header` are a header of edition 1.
+
+// New settings with the source's defaults: an address, a baud code, and so many applications. Refused with 1, 10, 11, or 18 where the
+// bytes are too few: then nothing is written.
+#[no_mangle]
+pub extern "C" fn amsulfezd_new_settings(
+    address: u8,
+    baud: u8,
+    applications: u8,
+    header: &mut [u8],
+) -> u64
+    ensures { λ r. ⌜ r ≡ newNumber address baud applications (length (now (header .entry))) ⌝ }
+    ensures { λ _. ⌜ now (header .exit) ≡ newInto address baud applications (now (header .entry)) ⌝ }
+{
+    settings_header::new_settings(address, baud, applications, header)
+}
+
+// The setters. Each is refused with 17 where the bytes are too few, with the header's own number if it is refused for another reason
+// than 25, and then with the setter's: a refused call leaves the bytes as they were.
+
+// Sets the slot time in bits. Refused with 2.
+#[no_mangle]
+pub extern "C" fn amsulfezd_set_slot_bits(header: &mut [u8], slot_bits: u16) -> u64
+    ensures { λ r. ⌜ r ≡ setNumber (λ p. slotBitsOf p «slot_bits») (now (header .entry)) ⌝ }
+    ensures { λ _. ⌜ now (header .exit) ≡ setInto (λ p. slotBitsOf p «slot_bits») (now (header .entry)) ⌝ }
+{
+    settings_header::set_slot_bits(header, slot_bits)
+}
+
+// Sets the highest station address, and the rotation to 5000 bits for each of its addresses. Refused with 3.
+#[no_mangle]
+pub extern "C" fn amsulfezd_set_highest_station_address(header: &mut [u8], hsa: u8) -> u64
+    ensures { λ r. ⌜ r ≡ setNumber (λ p. hsaOf p hsa) (now (header .entry)) ⌝ }
+    ensures { λ _. ⌜ now (header .exit) ≡ setInto (λ p. hsaOf p hsa) (now (header .entry)) ⌝ }
+{
+    settings_header::set_highest_station_address(header, hsa)
+}
+
+// Sets the target token rotation time in bits. Refused with 4.
+#[no_mangle]
+pub extern "C" fn amsulfezd_set_token_rotation_bits(header: &mut [u8], ttr: u32) -> u64
+    ensures { λ r. ⌜ r ≡ setNumber (λ p. rotationOf p ttr) (now (header .entry)) ⌝ }
+    ensures { λ _. ⌜ now (header .exit) ≡ setInto (λ p. rotationOf p ttr) (now (header .entry)) ⌝ }
+{
+    settings_header::set_token_rotation_bits(header, ttr)
+}
+
+// Sets how many token rotations to wait before the gap is polled again. Refused with 5.
+#[no_mangle]
+pub extern "C" fn amsulfezd_set_gap_wait_rotations(header: &mut [u8], gap_wait: u8) -> u64
+    ensures { λ r. ⌜ r ≡ setNumber (λ p. gapWaitOf p «gap_wait») (now (header .entry)) ⌝ }
+    ensures { λ _. ⌜ now (header .exit) ≡ setInto (λ p. gapWaitOf p «gap_wait») (now (header .entry)) ⌝ }
+{
+    settings_header::set_gap_wait_rotations(header, gap_wait)
+}
+
+// Sets how often a telegram is retried. Refused with 6.
+#[no_mangle]
+pub extern "C" fn amsulfezd_set_max_retry_limit(header: &mut [u8], max_retry_limit: u8) -> u64
+    ensures { λ r. ⌜ r ≡ setNumber (λ p. retryOf p «max_retry_limit») (now (header .entry)) ⌝ }
+    ensures { λ _. ⌜ now (header .exit) ≡ setInto (λ p. retryOf p «max_retry_limit») (now (header .entry)) ⌝ }
+{
+    settings_header::set_max_retry_limit(header, max_retry_limit)
+}
+
+// Sets the least time in bits before anyone responds. Refused with 7.
+#[no_mangle]
+pub extern "C" fn amsulfezd_set_min_tsdr_bits(header: &mut [u8], min_tsdr_bits: u8) -> u64
+    ensures { λ r. ⌜ r ≡ setNumber (λ p. minTsdrOf p «min_tsdr_bits») (now (header .entry)) ⌝ }
+    ensures { λ _. ⌜ now (header .exit) ≡ setInto (λ p. minTsdrOf p «min_tsdr_bits») (now (header .entry)) ⌝ }
+{
+    settings_header::set_min_tsdr_bits(header, min_tsdr_bits)
+}
+
+// Sets the watchdog timeout in milliseconds. Refused with 8.
+#[no_mangle]
+pub extern "C" fn amsulfezd_set_watchdog_timeout(header: &mut [u8], ms: u32) -> u64
+    ensures { λ r. ⌜ r ≡ setNumber (λ p. watchdogOf p ms) (now (header .entry)) ⌝ }
+    ensures { λ _. ⌜ now (header .exit) ≡ setInto (λ p. watchdogOf p ms) (now (header .entry)) ⌝ }
+{
+    settings_header::set_watchdog_timeout(header, ms)
+}
+
+// The number that the whole header is refused with, 25 among them, or 0: then the settings are finished.
+#[no_mangle]
+pub extern "C" fn amsulfezd_finish_settings(header: &[u8]) -> u64
+    ensures { λ r. ⌜ r ≡ finishNumber (now (header .entry)) ⌝ }
+{
+    settings_header::finish_settings(header)
 }

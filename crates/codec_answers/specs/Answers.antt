@@ -19,9 +19,9 @@ use Rattle.codec_answers.specs.declared.Unpacked.{Unpacked}
 use Rattle.codec_answers.specs.declared.Unpacked.the-variants.{NoAnswer, Is}
 
 -- the largest state: 0 Offline, 1 ListenToken, 2 ActiveIdle, 3 UseToken, 4 ClaimToken, 5 AwaitDataResponse, 6 PassToken,
--- 7 CheckTokenPass, 8 AwaitStatusResponse
+-- 7 CheckTokenPass, 8 AwaitStatusResponse, 9 PassiveIdle (document 02)
 abbrev pub lastState : ℕ
-lastState = 8
+lastState = 9
 
 -- outcome: 0 none, 1 offline, 2 transmission, 3 bus, 4 delay
 abbrev pub outcomeNumber : Outcome → ℕ
@@ -134,7 +134,7 @@ answerOf w =
     cond (eqb refusal 0) (fullOf w) (refusedAnswer refusal state next-application next-station))
     w
 
--- the refusals that an answer can have: none, or 12 to 16
+-- the refusals that an answer can have: none, or 12 to 16 (16, passive, in answers of earlier versions alone)
 unfoldable pub refusalKnown : ℕ → Bool
 refusalKnown n = cond (eqb n 0) true (cond (ltb n 12) false (leb n 16))
 

@@ -13,8 +13,8 @@ use codec_telegrams::response_state;
 use codec_telegrams::response_state_number;
 
 // The largest state: 0 Offline, 1 ListenToken, 2 ActiveIdle, 3 UseToken, 4 ClaimToken, 5 AwaitDataResponse, 6 PassToken,
-// 7 CheckTokenPass, 8 AwaitStatusResponse.
-const LAST_STATE: u8 = 8;
+// 7 CheckTokenPass, 8 AwaitStatusResponse, 9 PassiveIdle.
+const LAST_STATE: u8 = 9;
 
 // How a poll ended.
 pub enum Outcome {

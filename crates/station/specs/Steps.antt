@@ -1,8 +1,8 @@
 -- What every state leans on, nearly in the order of active.rs: transitions, bus activity, the pause, sending, the slot. A step takes
--- what its state holds and gives the new state. A transition is that state: the three that clear what it holds have a name here;
+-- what its state holds and gives the new state. A transition is that state: the four that clear what it holds have a name here;
 -- transition_claim_token is ClaimToken true, transition_await_data_response AwaitDataResponse, transition_pass_token PassToken,
 -- transition_check_token_pass CheckTokenPass, transition_await_status_response AwaitStatusResponse. transition_offline, which the
--- Rust never calls, and transition_passive_idle are not taken.
+-- Rust never calls, is not taken.
 use Prim.Native.Nat.{ℕ, _+_, _*_}
 use mathlib.Core.Bool.{Bool, true, false, cond}
 use lib.Dec.{ltb, leb, eqb}
@@ -23,9 +23,11 @@ use Rattle.station.specs.declared.Activity.{Activity}
 use Rattle.station.specs.declared.Activity.the-variants as activity
 use Rattle.station.specs.declared.UseTokenData.{UseTokenData}
 use Rattle.station.specs.declared.State.{State}
-use Rattle.station.specs.declared.State.the-variants.{ListenToken, ActiveIdle, UseToken}
+use Rattle.station.specs.declared.State.the-variants.{ListenToken, ActiveIdle, UseToken, PassiveIdle}
 use Rattle.station.specs.declared.Core.{Core}
 use Rattle.station.specs.declared.Waited.{Waited}
+use Rattle.station.specs.declared.Event.{Event}
+use Rattle.station.specs.declared.Event.the-variants as event
 use Rattle.station.specs.declared.Step.{Step}
 use Rattle.station.specs.Whole.{RingStep, Heard}
 use Rattle.station.specs.Parts.{withActivity, withPending}
@@ -37,6 +39,10 @@ withTokenTime now = record { «token_time» = now; «first_app» = optionApplica
 -- State::transition_listen_token
 abbrev pub toListenToken : State
 toListenToken = ListenToken optionAddress.None 0
+
+-- State::transition_passive_idle: no request is pending
+abbrev pub toPassiveIdle : State
+toPassiveIdle = PassiveIdle optionAddress.None
 
 -- State::transition_active_idle: it clears request, predecessor and collisions. While in ActiveIdle nothing else clears a remembered predecessor
 abbrev pub toActiveIdle : State
@@ -100,22 +106,44 @@ unfoldable pub tokenLostWaitOf : Parameters → Core → Micros → Waited
 tokenLostWaitOf p c now = waitedOf c now (tokenLostOf p)
 
 -- PollDone::waiting_for_transmission, PollDone::waiting_for_bus, PollDone::waiting_for_delay, PollDone::offline, by the outcome: a
--- step that sends, tells and consumes nothing
+-- step that sends, tells and consumes nothing, and of which nothing is counted
 unfoldable pub doneOf : State → Core → Outcome → Step
-doneOf s c o = record { state = s; core = c; sent = sent.Nothing; notice = notice.NoNotice; outcome = o; consumed = 0 }
+doneOf s c o = record { state = s; core = c; sent = sent.Nothing; notice = notice.NoNotice; outcome = o; consumed = 0; event = event.Nothing }
 
 -- mark_tx, in a step that sends: the bytes of what is sent
 unfoldable pub transmitOf : Parameters → State → Core → Micros → Sent → Step
 transmitOf p s c now x =
-    record { state = s; core = withActivity c (sentAt p now (sentBytes x)); sent = x; notice = notice.NoNotice; outcome = outcome.Transmission; consumed = 0 }
+    record { state = s; core = withActivity c (sentAt p now (sentBytes x)); sent = x; notice = notice.NoNotice; outcome = outcome.Transmission; consumed = 0; event = event.Nothing }
 
 -- a step and the ring that it leaves
 abbrev pub ringStepOf : Step → Ring → RingStep
 ringStepOf s ring = record { step = s; ring = ring }
 
--- what the telegrams of a poll have led to
+-- document 02: a step in which this happened
+unfoldable pub withEvent : RingStep → Event → RingStep
+withEvent s x =
+    let step = s .step in
+    record {
+      step =
+          record {
+            state = step .state;
+            core = step .core;
+            sent = step .sent;
+            notice = step .notice;
+            outcome = step .outcome;
+            consumed = step .consumed;
+            event = x;
+          };
+      ring = s .ring;
+    }
+
+-- what a telegram leads to that is no collision; and what a poll begins with before its telegrams
 unfoldable pub heardOf : State → Core → Ring → Outcome → Heard
-heardOf s c ring o = record { state = s; core = c; ring = ring; outcome = o }
+heardOf s c ring o = record { state = s; core = c; ring = ring; outcome = o; met = 0 }
+
+-- document 02: what a telegram leads to that is counted as a collision
+unfoldable pub collisionOf : State → Core → Ring → Heard
+collisionOf s c ring = record { state = s; core = c; ring = ring; outcome = outcome.Bus; met = 1 }
 
 -- do_listen_token and handle_telegram: a status request, to us, that is the last telegram of its poll
 unfoldable pub lastRequestToUs : ℕ → ℕ → Bool → Bool → Bool

@@ -8,6 +8,7 @@ use Rattle.ring.specs.Ring.{Ring, ringOf}
 use Rattle.codec_answers.specs.declared.Outcome.{Outcome}
 use Rattle.station.specs.declared.State.{State}
 use Rattle.station.specs.declared.Core.{Core}
+use Rattle.station.specs.declared.Counts.{Counts}
 use Rattle.station.specs.declared.Step.{Step}
 use Rattle.station.specs.declared.Station.{Station as StationHead}
 use Rattle.station.specs.declared.Started.{Started as StartedHead}
@@ -20,6 +21,7 @@ pub record Station : Type 0 where
   pub core : Core
   pub «token_ring» : Ring
   pub p : Parameters
+  pub counts : Counts
   pub applications : ℕ
 
 -- a new station, and the refusal's number: 0 where there is none
@@ -32,16 +34,17 @@ pub record RingStep : Type 0 where
   pub step : Step
   pub ring : Ring
 
--- what the telegrams of a poll have led to so far
+-- what a telegram of a poll has led to, or all of them, and how many collisions are counted: of one telegram one or none
 pub record Heard : Type 0 where
   pub state : State
   pub core : Core
   pub ring : Ring
   pub outcome : Outcome
+  pub met : ℕ
 
 -- a station of the code with the tables that are lent beside it; below, the same of what else has a ring
 abbrev pub stationAt : StationHead → List ℕ → Station
-stationAt s links = record { state = s .state; core = s .core; «token_ring» = ringOf (s .«token_ring») links; p = s .p; applications = s .applications }
+stationAt s links = record { state = s .state; core = s .core; «token_ring» = ringOf (s .«token_ring») links; p = s .p; counts = s .counts; applications = s .applications }
 
 abbrev pub startedAt : StartedHead → List ℕ → Started
 startedAt s links = record { station = stationAt (s .station) links; refusal = s .refusal }
@@ -50,4 +53,4 @@ abbrev pub ringStepAt : RingStepHead → List ℕ → RingStep
 ringStepAt s links = record { step = s .step; ring = ringOf (s .ring) links }
 
 abbrev pub heardAt : HeardHead → List ℕ → Heard
-heardAt h links = record { state = h .state; core = h .core; ring = ringOf (h .ring) links; outcome = h .outcome }
+heardAt h links = record { state = h .state; core = h .core; ring = ringOf (h .ring) links; outcome = h .outcome; met = h .met }

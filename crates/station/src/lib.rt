@@ -12,9 +12,9 @@ ghost use mathlib.Core.Path.{_≡_};
 ghost use Prim.Native.Nat.{ℕ, _<_, _^_};
 ghost use mathlib.Core.List.{List};
 ghost use Rattle.ring.specs.Ring.{ringOf};
-ghost use Rattle.station.specs.Whole.{startedAt, heardAt};
-ghost use Rattle.station.specs.Parts.{withActivity, withPending, withGap, withTokenTimes, withNextApplication, withOnline, stateNumber, freshCore, newStation};
-ghost use Rattle.station.specs.Steps.{withTokenTime, toListenToken, toActiveIdle, toUseToken, knownAt, elapsedOf, markedAt, ongoingOf, waitedOf, pauseOf, sentAt, busActivityOf, rxOf, slotExpiredOf, tokenLostWaitOf, doneOf, transmitOf, heardOf, lastRequestToUs};
+ghost use Rattle.station.specs.Whole.{startedAt, ringStepAt, heardAt};
+ghost use Rattle.station.specs.Parts.{withActivity, withPending, withGap, withTokenTimes, withNextApplication, withConnectivity, isOffline, stateNumber, freshCore, newStation};
+ghost use Rattle.station.specs.Steps.{withTokenTime, toListenToken, toPassiveIdle, toActiveIdle, toUseToken, knownAt, elapsedOf, markedAt, ongoingOf, waitedOf, pauseOf, sentAt, busActivityOf, rxOf, slotExpiredOf, tokenLostWaitOf, doneOf, transmitOf, withEvent, heardOf, collisionOf, lastRequestToUs};
 use bit_times::Bits;
 use bit_times::Micros;
 use codec_answers::Notice;
@@ -55,7 +55,14 @@ pub struct UseTokenData {
     pub first_app: OptionApplication,
 }
 
-// State, but for PassiveIdle.
+// ConnectivityState.
+pub enum ConnectivityState {
+    Offline,
+    Passive,
+    Online,
+}
+
+// State. PassiveIdle, which the Rust has without a request, is document 02's; it comes last, as its number does.
 pub enum State {
     Offline,
     ListenToken {
@@ -89,9 +96,12 @@ pub enum State {
     AwaitStatusResponse {
         address: u8,
     },
+    PassiveIdle {
+        status_request: OptionAddress,
+    },
 }
 
-// What a poll may change besides the state and the ring, with FdlActiveStation's names. `online` is its connectivity state.
+// What a poll may change besides the state and the ring, with FdlActiveStation's names.
 pub struct Core {
     pub last_token_time: Micros,
     pub end_token_hold_time: Micros,
@@ -99,7 +109,24 @@ pub struct Core {
     pub gap_state: GapState,
     pub pending_bytes: u16,
     pub next_application: u8,
-    pub online: bool,
+    pub connectivity_state: ConnectivityState,
+}
+
+// How often, since the station was made, it claimed the token, removed a neighbour after a third attempt, and met its own address on
+// the bus (document 02). Each stops at its largest value. They stand beside the core: no step takes or makes them.
+pub struct Counts {
+    pub claims: u32,
+    pub removals: u32,
+    pub meetings: u32,
+}
+
+// What happened in a step that is counted, of which a poll has one kind at most: the entry to ClaimToken, the removal after a third
+// attempt, or so many collisions among the poll's telegrams.
+pub enum Event {
+    Nothing,
+    Claim,
+    Removal,
+    Meetings(u8),
 }
 
 // FdlActiveStation but for the ring's tables, and the number of applications, which is fixed for life.
@@ -108,6 +135,7 @@ pub struct Station {
     pub core: Core,
     pub token_ring: Head,
     pub p: Parameters,
+    pub counts: Counts,
     pub applications: u8,
 }
 
@@ -124,7 +152,7 @@ pub struct Waited {
     pub over: bool,
 }
 
-// What a step came to: the new state, the part that it changed, what it sent and told, and how the poll ended.
+// What a step came to: the new state, the part that it changed, what it sent and told, how the poll ended, and what is counted of it.
 pub struct Step {
     pub state: State,
     pub core: Core,
@@ -132,6 +160,7 @@ pub struct Step {
     pub notice: Notice,
     pub outcome: Outcome,
     pub consumed: u8,
+    pub event: Event,
 }
 
 // A step that may change the ring too, but for the ring's tables.
@@ -140,12 +169,14 @@ pub struct RingStep {
     pub ring: Head,
 }
 
-// What the telegrams of a poll have led to so far, but for the ring's tables.
+// What one telegram of a poll has led to, or all of them, but for the ring's tables; `met` counts the collisions: of one telegram
+// there is one or none.
 pub struct Heard {
     pub state: State,
     pub core: Core,
     pub ring: Head,
     pub outcome: Outcome,
+    pub met: u8,
 }
 
 // One part changed.
@@ -157,6 +188,7 @@ pub fn with_activity(core: Core, activity: Activity) -> Core
     let last_token_time = core.last_token_time;
     let end_token_hold_time = core.end_token_hold_time;
     let gap_state = core.gap_state;
+    let connectivity_state = core.connectivity_state;
     Core {
         last_token_time,
         end_token_hold_time,
@@ -164,7 +196,7 @@ pub fn with_activity(core: Core, activity: Activity) -> Core
         gap_state,
         pending_bytes: core.pending_bytes,
         next_application: core.next_application,
-        online: core.online,
+        connectivity_state,
     }
 }
 
@@ -175,6 +207,7 @@ pub fn with_gap(core: Core, gap: GapState) -> Core
     let last_token_time = core.last_token_time;
     let end_token_hold_time = core.end_token_hold_time;
     let last_bus_activity = core.last_bus_activity;
+    let connectivity_state = core.connectivity_state;
     Core {
         last_token_time,
         end_token_hold_time,
@@ -182,7 +215,7 @@ pub fn with_gap(core: Core, gap: GapState) -> Core
         gap_state: gap,
         pending_bytes: core.pending_bytes,
         next_application: core.next_application,
-        online: core.online,
+        connectivity_state,
     }
 }
 
@@ -211,12 +244,34 @@ pub fn with_next_application(mut core: Core, application: u8) -> Core
     core
 }
 
-// The same but for being online.
-pub fn with_online(mut core: Core, online: bool) -> Core
-    ensures { λ r. ⌜ r ≡ withOnline core online ⌝ }
+// The same but for the connectivity state.
+pub fn with_connectivity(core: Core, connectivity: ConnectivityState) -> Core
+    ensures { λ r. ⌜ r ≡ withConnectivity core connectivity ⌝ }
 {
-    core.online = online;
-    core
+    let last_token_time = core.last_token_time;
+    let end_token_hold_time = core.end_token_hold_time;
+    let last_bus_activity = core.last_bus_activity;
+    let gap_state = core.gap_state;
+    Core {
+        last_token_time,
+        end_token_hold_time,
+        last_bus_activity,
+        gap_state,
+        pending_bytes: core.pending_bytes,
+        next_application: core.next_application,
+        connectivity_state: connectivity,
+    }
+}
+
+// ConnectivityState::is_offline.
+pub fn is_offline(connectivity: ConnectivityState) -> bool
+    ensures { λ r. ⌜ r ≡ isOffline connectivity ⌝ }
+{
+    match connectivity {
+        ConnectivityState::Offline => true,
+        ConnectivityState::Passive => false,
+        ConnectivityState::Online => false,
+    }
 }
 
 // Document 01's number of a state.
@@ -233,6 +288,7 @@ pub fn state_number(state: State) -> u8
         State::PassToken { .. } => 6,
         State::CheckTokenPass { .. } => 7,
         State::AwaitStatusResponse { .. } => 8,
+        State::PassiveIdle { .. } => 9,
     }
 }
 
@@ -257,6 +313,15 @@ pub fn transition_listen_token() -> State
     State::ListenToken {
         status_request: OptionAddress::None,
         collision_count: 0,
+    }
+}
+
+// transition_passive_idle.
+pub fn transition_passive_idle() -> State
+    ensures { λ r. ⌜ r ≡ toPassiveIdle ⌝ }
+{
+    State::PassiveIdle {
+        status_request: OptionAddress::None,
     }
 }
 
@@ -294,7 +359,7 @@ pub fn fresh_core() -> Core
         gap_state: GapState::Waiting { rotation_count: 0 },
         pending_bytes: 0,
         next_application: 0,
-        online: false,
+        connectivity_state: ConnectivityState::Offline,
     }
 }
 
@@ -309,6 +374,11 @@ impl Station {
                 core: fresh_core(),
                 token_ring: ring::fresh(links, p.address),
                 p,
+                counts: Counts {
+                    claims: 0,
+                    removals: 0,
+                    meetings: 0,
+                },
                 applications,
             },
             refusal: settings_rules::applications_refusal(applications),
@@ -441,6 +511,7 @@ pub fn done(state: State, core: Core, outcome: Outcome) -> Step
         notice: Notice::NoNotice,
         outcome,
         consumed: 0,
+        event: Event::Nothing,
     }
 }
 
@@ -457,10 +528,36 @@ pub fn transmit(p: Parameters, state: State, core: Core, now: Micros, sent: Sent
         notice: Notice::NoNotice,
         outcome: Outcome::Transmission,
         consumed: 0,
+        event: Event::Nothing,
     }
 }
 
-// What the telegrams of a poll have led to so far, made of its parts.
+// A step in which this happened: all else of it stays.
+pub fn with_event(stepped: RingStep, event: Event) -> RingStep
+    ensures { λ r. ⌜ ((l : List ℕ) → ringStepAt r l ≡ withEvent (ringStepAt stepped l) event) ⌝ }
+{
+    let step = stepped.step;
+    let ring = stepped.ring;
+    let state = step.state;
+    let core = step.core;
+    let sent = step.sent;
+    let notice = step.notice;
+    let outcome = step.outcome;
+    RingStep {
+        step: Step {
+            state,
+            core,
+            sent,
+            notice,
+            outcome,
+            consumed: step.consumed,
+            event,
+        },
+        ring,
+    }
+}
+
+// What one telegram leads to that is no collision, made of its parts; and what a poll begins with before its telegrams.
 pub fn hearing(state: State, core: Core, ring: Head, outcome: Outcome) -> Heard
     ensures { λ r. ⌜ ((l : List ℕ) → heardAt r l ≡ heardOf state core (ringOf ring l) outcome) ⌝ }
 {
@@ -469,6 +566,20 @@ pub fn hearing(state: State, core: Core, ring: Head, outcome: Outcome) -> Heard
         core,
         ring,
         outcome,
+        met: 0,
+    }
+}
+
+// What one telegram leads to that is counted as a collision: the poll waits for the bus.
+pub fn colliding(state: State, core: Core, ring: Head) -> Heard
+    ensures { λ r. ⌜ ((l : List ℕ) → heardAt r l ≡ collisionOf state core (ringOf ring l)) ⌝ }
+{
+    Heard {
+        state,
+        core,
+        ring,
+        outcome: Outcome::Bus,
+        met: 1,
     }
 }
 

@@ -6,7 +6,9 @@ use Rattle.ring.specs.Ring.{nextOf, nextNumber}
 use Rattle.codec_answers.specs.declared.Answer.{Answer}
 use Rattle.codec_answers.specs.Answers.{refusedAnswer}
 use Rattle.station.specs.Whole.{Station, RingStep, stationAt}
+use Rattle.station.specs.declared.Counts.{Counts}
 use Rattle.station.specs.Parts.{stateNumber}
+use Rattle.station_answer.specs.Counted.{countedOf}
 use Rattle.station_answer.specs.declared.Polled.{Polled as PolledHead}
 
 -- what a call hands back, with the ring whole, as the records of `Whole` have it
@@ -32,10 +34,21 @@ stepAnswer s =
       «next_station» = nextNumber (nextOf (s .ring));
     }
 
--- the station after a step, and the answer
-unfoldable pub polledOf : Parameters → ℕ → RingStep → Polled
-polledOf p n s =
-    record { station = record { state = s .step .state; core = s .step .core; «token_ring» = s .ring; p = p; applications = n }; answer = stepAnswer s }
+-- the station after a step, with what happened in it counted, and the answer
+unfoldable pub polledOf : Parameters → ℕ → Counts → RingStep → Polled
+polledOf p n counts s =
+    record {
+      station =
+          record {
+            state = s .step .state;
+            core = s .step .core;
+            «token_ring» = s .ring;
+            p = p;
+            counts = countedOf counts (s .step .event);
+            applications = n;
+          };
+      answer = stepAnswer s;
+    }
 
 -- a refused entry: the station is unchanged
 unfoldable pub refusedPoll : Station → ℕ → Polled

@@ -1,2 +1,3 @@
 -- The definitions; there are no laws.
+pub mod Counted
 pub mod Answer

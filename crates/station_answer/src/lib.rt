@@ -2,9 +2,12 @@
 // PollDone is its outcome. It leans on station, codec_answers and ring.
 ghost use mathlib.Core.Path.{_≡_};
 ghost use Rattle.station.specs.Whole.{ringStepAt, stationAt};
+ghost use Rattle.station_answer.specs.Counted.{raisedBy, countedOf};
 ghost use Rattle.station_answer.specs.Answer.{polledAt, stepAnswer, polledOf, refusedPoll};
 use codec_answers::Answer;
 use settings::Parameters;
+use station::Counts;
+use station::Event;
 use station::RingStep;
 use station::Station;
 
@@ -37,13 +40,55 @@ fn answer_of(stepped: RingStep, links: &[u8; 252]) -> Answer
     }
 }
 
-// The station after a step, with the step's answer.
-pub fn poll_done(p: Parameters, applications: u8, stepped: RingStep, links: &[u8; 252]) -> Polled
-    ensures { λ r. ⌜ polledAt r (now (links .entry)) ≡ polledOf p applications (ringStepAt stepped (now (links .entry))) ⌝ }
+// A count, so many higher. It stops at its largest value.
+fn raised(count: u32, more: u8) -> u32
+    ensures { λ r. ⌜ r ≡ raisedBy count more ⌝ }
+{
+    let sum = count as u64 + more as u64;
+    if sum < 4294967295 {
+        return sum as u32;
+    }
+    4294967295
+}
+
+// The counts after a step: what happened in it is counted.
+fn counted(counts: Counts, event: Event) -> Counts
+    ensures { λ r. ⌜ r ≡ countedOf counts event ⌝ }
+{
+    match event {
+        Event::Nothing => counts,
+        Event::Claim => Counts {
+            claims: raised(counts.claims, 1),
+            removals: counts.removals,
+            meetings: counts.meetings,
+        },
+        Event::Removal => Counts {
+            claims: counts.claims,
+            removals: raised(counts.removals, 1),
+            meetings: counts.meetings,
+        },
+        Event::Meetings(met) => Counts {
+            claims: counts.claims,
+            removals: counts.removals,
+            meetings: raised(counts.meetings, met),
+        },
+    }
+}
+
+// The station after a step, with the step's answer. What happened in the step is counted here and nowhere else.
+pub fn poll_done(
+    p: Parameters,
+    applications: u8,
+    counts: Counts,
+    stepped: RingStep,
+    links: &[u8; 252],
+) -> Polled
+    ensures { λ r. ⌜ polledAt r (now (links .entry)) ≡ polledOf p applications counts (ringStepAt stepped (now (links .entry))) ⌝ }
 {
     let step = stepped.step;
     let state = step.state;
     let core = step.core;
+    let event = step.event;
     let token_ring = stepped.ring;
     Polled {
         station: Station {
@@ -51,6 +96,7 @@ pub fn poll_done(p: Parameters, applications: u8, stepped: RingStep, links: &[u8
             core,
             token_ring,
             p,
+            counts: counted(counts, event),
             applications,
         },
         answer: answer_of(stepped, links),

@@ -17,6 +17,7 @@ use Rattle.codec_answers.specs.declared.Notice.the-variants as notice
 use Rattle.station.specs.declared.PassTokenAttempt.the-variants.{First}
 use Rattle.station.specs.declared.State.the-variants.{PassToken, AwaitStatusResponse}
 use Rattle.station.specs.declared.Core.{Core}
+use Rattle.station.specs.declared.Event.the-variants as event
 use Rattle.station.specs.Whole.{RingStep}
 use Rattle.station.specs.Steps.{toActiveIdle, rxOf, slotExpiredOf, doneOf, ringStepOf}
 use Rattle.station_pass.specs.Pass.{passTokenOf}
@@ -35,12 +36,12 @@ statusRing ring address state status = cond (eqb status 0) (statusRingOn state r
 -- do_await_status_response: the awaited answer: to PassToken, without gap question; the pass itself is the next poll's
 unfoldable pub statusAnswered : Core → Ring → RingStep
 statusAnswered c ring =
-    ringStepOf (record { state = PassToken false First; core = c; sent = sent.Nothing; notice = notice.NoNotice; outcome = outcome.Delay; consumed = 1 }) ring
+    ringStepOf (record { state = PassToken false First; core = c; sent = sent.Nothing; notice = notice.NoNotice; outcome = outcome.Delay; consumed = 1; event = event.Nothing }) ring
 
 -- do_await_status_response: anything else leads to ActiveIdle
 unfoldable pub statusUnexpected : Core → Ring → RingStep
 statusUnexpected c ring =
-    ringStepOf (record { state = toActiveIdle; core = c; sent = sent.Nothing; notice = notice.NoNotice; outcome = outcome.Bus; consumed = 1 }) ring
+    ringStepOf (record { state = toActiveIdle; core = c; sent = sent.Nothing; notice = notice.NoNotice; outcome = outcome.Bus; consumed = 1; event = event.Nothing }) ring
 
 -- do_await_status_response: a telegram came; awaited is a response to us from the station that was asked
 unfoldable pub statusReceived : Parameters → Core → Ring → ℕ → Telegram → RingStep

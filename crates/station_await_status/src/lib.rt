@@ -17,6 +17,7 @@ use codec_telegrams::Telegram;
 use ring::Head;
 use settings::Parameters;
 use station::Core;
+use station::Event;
 use station::PassTokenAttempt;
 use station::RingStep;
 use station::State;
@@ -58,6 +59,7 @@ fn do_await_status_response_answered(core: Core, ring: Head) -> RingStep
             notice: Notice::NoNotice,
             outcome: Outcome::Delay,
             consumed: 1,
+            event: Event::Nothing,
         },
         ring,
     }
@@ -75,6 +77,7 @@ fn do_await_status_response_unexpected(core: Core, ring: Head) -> RingStep
             notice: Notice::NoNotice,
             outcome: Outcome::Bus,
             consumed: 1,
+            event: Event::Nothing,
         },
         ring,
     }

@@ -6,15 +6,27 @@ ghost use Prim.Native.Nat.{_<_, _^_};
 ghost use denote.Ref.{now as contents};
 ghost use Rattle.ring.specs.Ring.{ringOf};
 ghost use Rattle.station.specs.Whole.{ringStepAt};
-ghost use Rattle.station_check_pass.specs.CheckPass.{resendOf, checkReceived, checkTokenPassOf};
+ghost use Rattle.station_check_pass.specs.CheckPass.{removalOf, resendOf, checkReceived, checkTokenPassOf};
 use bit_times::Micros;
 use codec_answers::Outcome;
 use ring::Head;
+use ring::NextStation;
 use settings::Parameters;
 use station::Core;
+use station::Event;
 use station::PassTokenAttempt;
 use station::RingStep;
 use station::State;
+
+// What is counted where the next station is taken out of the ring: a removal, and nothing where there is nobody.
+fn removal(next: NextStation) -> Event
+    ensures { λ r. ⌜ r ≡ removalOf next ⌝ }
+{
+    match next {
+        NextStation::Nobody => Event::Nothing,
+        NextStation::Neighbour(..) => Event::Removal,
+    }
+}
 
 // do_check_token_pass: the token was not taken up. It is sent again at once; after the third attempt the station that it
 // went to is taken out of the ring, and the one behind it is tried. Own is never taken out.
@@ -49,9 +61,21 @@ fn do_check_token_pass_resend(
             PassTokenAttempt::Third,
         ),
         PassTokenAttempt::Third => {
-            let gone = station_pass::token_destination(p.address, ring::next_station(ring, links));
+            let next = ring::next_station(ring, links);
+            let gone = station_pass::token_destination(p.address, next);
             ring::remove_station(ring, links, gone);
-            station_pass::do_pass_token(p, core, ring, links, now, false, PassTokenAttempt::First)
+            station::with_event(
+                station_pass::do_pass_token(
+                    p,
+                    core,
+                    ring,
+                    links,
+                    now,
+                    false,
+                    PassTokenAttempt::First,
+                ),
+                removal(next),
+            )
         }
     }
 }

@@ -12,16 +12,15 @@ use Rattle.codec_answers.specs.declared.Outcome.the-variants as outcome
 use Rattle.station.specs.declared.OptionAddress.{OptionAddress}
 use Rattle.station.specs.declared.OptionAddress.the-variants as optionAddress
 use Rattle.station.specs.declared.State.{State}
-use Rattle.station.specs.declared.State.the-variants.{Offline, ListenToken, ActiveIdle, UseToken, ClaimToken, AwaitDataResponse, PassToken, CheckTokenPass, AwaitStatusResponse}
+use Rattle.station.specs.declared.State.the-variants.{Offline, ListenToken, ActiveIdle, UseToken, ClaimToken, AwaitDataResponse, PassToken, CheckTokenPass, AwaitStatusResponse, PassiveIdle}
 use Rattle.station.specs.declared.Core.{Core}
-use Rattle.station.specs.Steps.{toListenToken, toUseToken, heardOf, lastRequestToUs}
+use Rattle.station.specs.Steps.{toListenToken, toUseToken, heardOf, collisionOf, lastRequestToUs}
 use Rattle.station.specs.Whole.{Heard}
 
 -- handle_telegram: a token with our own source: the first is counted, the second back to back leads to ListenToken
 unfoldable pub activeCollided : Core → Ring → OptionAddress → OptionAddress → ℕ → Heard
 activeCollided c ring request newPreviousStation collisions =
-    cond (eqb collisions 0) (heardOf (ActiveIdle request newPreviousStation 1) c ring outcome.Bus)
-    (heardOf toListenToken c ring outcome.Bus)
+    cond (eqb collisions 0) (collisionOf (ActiveIdle request newPreviousStation 1) c ring) (collisionOf toListenToken c ring)
 
 -- handle_telegram: is this the remembered station
 unfoldable pub remembers : OptionAddress → ℕ → Bool
@@ -84,3 +83,4 @@ handleTelegram p (AwaitDataResponse a d) c ring now t last = heardOf (AwaitDataR
 handleTelegram p (PassToken g a) c ring now t last = heardOf (PassToken g a) c ring outcome.Bus
 handleTelegram p (CheckTokenPass a) c ring now t last = heardOf (CheckTokenPass a) c ring outcome.Bus
 handleTelegram p (AwaitStatusResponse a) c ring now t last = heardOf (AwaitStatusResponse a) c ring outcome.Bus
+handleTelegram p (PassiveIdle r) c ring now t last = heardOf (PassiveIdle r) c ring outcome.Bus

@@ -17,7 +17,8 @@ use station::Heard;
 use station::OptionAddress;
 use station::State;
 
-// handle_telegram: a token with our own source. The first is counted, the second back to back leads to ListenToken.
+// handle_telegram: a token with our own source. The first is counted, the second back to back leads to ListenToken. Each is a
+// meeting of our own address.
 fn handle_telegram_collision(
     core: Core,
     ring: Head,
@@ -28,7 +29,7 @@ fn handle_telegram_collision(
     ensures { λ r. ⌜ ((l : List ℕ) → heardAt r l ≡ activeCollided core (ringOf ring l) «status_request» «new_previous_station» «collision_count») ⌝ }
 {
     if collision_count == 0 {
-        return station::hearing(
+        return station::colliding(
             State::ActiveIdle {
                 status_request,
                 new_previous_station,
@@ -36,10 +37,9 @@ fn handle_telegram_collision(
             },
             core,
             ring,
-            Outcome::Bus,
         );
     }
-    station::hearing(station::transition_listen_token(), core, ring, Outcome::Bus)
+    station::colliding(station::transition_listen_token(), core, ring)
 }
 
 // Is this the remembered address?
@@ -325,5 +325,6 @@ pub fn handle_telegram(
         State::PassToken { .. } => station::hearing(state, core, ring, Outcome::Bus),
         State::CheckTokenPass { .. } => station::hearing(state, core, ring, Outcome::Bus),
         State::AwaitStatusResponse { .. } => station::hearing(state, core, ring, Outcome::Bus),
+        State::PassiveIdle { .. } => station::hearing(state, core, ring, Outcome::Bus),
     }
 }

@@ -1,49 +1,73 @@
--- One telegram heard in ListenToken: the closure of do_listen_token. request (status_request) and collisions are the fields of
--- the state, last whether the telegram is the last of its poll.
+-- One telegram heard in ListenToken: the closure of do_listen_token; and one heard in PassiveIdle, which is document 02's. request
+-- (status_request) and collisions are the fields of the state, last whether the telegram is the last of its poll.
 use Prim.Native.Nat.{ℕ}
-use mathlib.Core.Bool.{Bool, cond}
+use mathlib.Core.Bool.{Bool, false, cond}
 use lib.Dec.{eqb}
 use Rattle.settings.specs.declared.Parameters.{Parameters}
 use Rattle.ring.specs.Ring.{Ring, freshOf, witnessOf}
 use Rattle.codec_telegrams.specs.declared.Telegram.{Telegram}
 use Rattle.codec_telegrams.specs.declared.Telegram.the-variants as telegram
+use Rattle.codec_answers.specs.declared.Outcome.{Outcome}
 use Rattle.codec_answers.specs.declared.Outcome.the-variants as outcome
 use Rattle.station.specs.declared.OptionAddress.{OptionAddress}
 use Rattle.station.specs.declared.OptionAddress.the-variants as optionAddress
 use Rattle.station.specs.declared.State.{State}
-use Rattle.station.specs.declared.State.the-variants.{Offline, ListenToken, ActiveIdle, UseToken, ClaimToken, AwaitDataResponse, PassToken, CheckTokenPass, AwaitStatusResponse}
+use Rattle.station.specs.declared.State.the-variants.{Offline, ListenToken, ActiveIdle, UseToken, ClaimToken, AwaitDataResponse, PassToken, CheckTokenPass, AwaitStatusResponse, PassiveIdle}
 use Rattle.station.specs.declared.Core.{Core}
 use Rattle.station.specs.Parts.{freshCore}
 use Rattle.station.specs.Whole.{Heard}
-use Rattle.station.specs.Steps.{heardOf, lastRequestToUs}
+use Rattle.station.specs.Steps.{heardOf, collisionOf, lastRequestToUs}
 
--- do_listen_token: a telegram with our own source: the first is counted, the second makes a fresh station, offline.
--- A request is none here: a noted one blocks consuming
+-- do_listen_token: a telegram with our own source: the first is counted, the second makes a fresh station, offline (document 02: fresh
+-- but for the counts). A request is none here: a noted one blocks consuming
 unfoldable pub collided : Parameters → Core → Ring → OptionAddress → ℕ → Heard
 collided p c ring request collisions =
-    cond (eqb collisions 0) (heardOf (ListenToken request 1) c ring outcome.Bus)
-    (heardOf Offline freshCore (freshOf (p .address)) outcome.Bus)
+    cond (eqb collisions 0) (collisionOf (ListenToken request 1) c ring) (collisionOf Offline freshCore (freshOf (p .address)))
 
--- do_listen_token: a status request to us that is last of its poll is noted
-unfoldable pub listened : Core → Ring → OptionAddress → ℕ → ℕ → Bool → Heard
-listened c ring request collisions source noted =
-    cond noted (heardOf (ListenToken (optionAddress.Some source) collisions) c ring outcome.Delay)
-    (heardOf (ListenToken request collisions) c ring outcome.Bus)
+-- do_listen_token: telegram.source_address() is our own address; a short confirmation has none
+unfoldable pub sentByUs : ℕ → Telegram → Bool
+sentByUs own (telegram.Token destination source) = eqb source own
+sentByUs own telegram.ShortConfirmation = false
+sentByUs own (telegram.Request destination source asks) = eqb source own
+sentByUs own (telegram.Response destination source state status) = eqb source own
 
--- do_listen_token: one telegram, in ListenToken: collision, token, request, anything else
+-- What a telegram of another station does in ListenToken, and, by document 02's words ("witnesses tokens as ListenToken does"), in
+-- PassiveIdle. do_listen_token: a status request to us that is last of its poll is noted
+unfoldable pub notedOf : ℕ → OptionAddress → Telegram → Bool → OptionAddress
+notedOf own request (telegram.Token destination source) last = request
+notedOf own request telegram.ShortConfirmation last = request
+notedOf own request (telegram.Request destination source asks) last =
+    cond (lastRequestToUs destination own asks last) (optionAddress.Some source) request
+notedOf own request (telegram.Response destination source state status) last = request
+
+-- do_listen_token: a token is witnessed
+unfoldable pub witnessedOf : Ring → Telegram → Ring
+witnessedOf ring (telegram.Token destination source) = witnessOf ring source destination
+witnessedOf ring telegram.ShortConfirmation = ring
+witnessedOf ring (telegram.Request destination source asks) = ring
+witnessedOf ring (telegram.Response destination source state status) = ring
+
+-- do_listen_token: a delay where a request was noted, else the bus
+unfoldable pub overheardOf : ℕ → Telegram → Bool → Outcome
+overheardOf own (telegram.Token destination source) last = outcome.Bus
+overheardOf own telegram.ShortConfirmation last = outcome.Bus
+overheardOf own (telegram.Request destination source asks) last = cond (lastRequestToUs destination own asks last) outcome.Delay outcome.Bus
+overheardOf own (telegram.Response destination source state status) last = outcome.Bus
+
+-- do_listen_token: one telegram, in ListenToken: our own address as source is a collision
 unfoldable pub listenHeard : Parameters → Core → Ring → OptionAddress → ℕ → Telegram → Bool → Heard
-listenHeard p c ring request collisions (telegram.Token destination source) last =
-    cond (eqb source (p .address)) (collided p c ring request collisions)
-    (heardOf (ListenToken request collisions) c (witnessOf ring source destination) outcome.Bus)
-listenHeard p c ring request collisions telegram.ShortConfirmation last = heardOf (ListenToken request collisions) c ring outcome.Bus
-listenHeard p c ring request collisions (telegram.Request destination source asks) last =
-    cond (eqb source (p .address)) (collided p c ring request collisions)
-    (listened c ring request collisions source (lastRequestToUs destination (p .address) asks last))
-listenHeard p c ring request collisions (telegram.Response destination source state status) last =
-    cond (eqb source (p .address)) (collided p c ring request collisions) (heardOf (ListenToken request collisions) c ring outcome.Bus)
+listenHeard p c ring request collisions t last =
+    cond (sentByUs (p .address) t) (collided p c ring request collisions)
+    (heardOf (ListenToken (notedOf (p .address) request t last) collisions) c (witnessedOf ring t) (overheardOf (p .address) t last))
 
--- do_listen_token: one telegram; once offline by collision the rest of the poll only marks activity, and is consumed
--- (no other state can be here)
+-- document 02, P10: one telegram, in PassiveIdle: our own address as source changes nothing
+unfoldable pub passiveHeard : Parameters → Core → Ring → OptionAddress → Telegram → Bool → Heard
+passiveHeard p c ring request t last =
+    cond (sentByUs (p .address) t) (heardOf (PassiveIdle request) c ring outcome.Bus)
+    (heardOf (PassiveIdle (notedOf (p .address) request t last)) c (witnessedOf ring t) (overheardOf (p .address) t last))
+
+-- do_listen_token, and PassiveIdle: one telegram; once offline by collision the rest of the poll only marks activity, and is
+-- consumed (no other state can be here)
 unfoldable pub listenTelegram : Parameters → State → Core → Ring → Telegram → Bool → Heard
 listenTelegram p Offline c ring t last = heardOf Offline c ring outcome.Bus
 listenTelegram p (ListenToken request collisions) c ring t last = listenHeard p c ring request collisions t last
@@ -54,3 +78,4 @@ listenTelegram p (AwaitDataResponse a d) c ring t last = heardOf (AwaitDataRespo
 listenTelegram p (PassToken g a) c ring t last = heardOf (PassToken g a) c ring outcome.Bus
 listenTelegram p (CheckTokenPass a) c ring t last = heardOf (CheckTokenPass a) c ring outcome.Bus
 listenTelegram p (AwaitStatusResponse a) c ring t last = heardOf (AwaitStatusResponse a) c ring outcome.Bus
+listenTelegram p (PassiveIdle request) c ring t last = passiveHeard p c ring request t last

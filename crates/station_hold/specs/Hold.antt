@@ -26,6 +26,7 @@ use Rattle.station.specs.declared.PassTokenAttempt.the-variants.{First}
 use Rattle.station.specs.declared.UseTokenData.{UseTokenData}
 use Rattle.station.specs.declared.State.the-variants.{UseToken, AwaitDataResponse, PassToken}
 use Rattle.station.specs.declared.Core.{Core}
+use Rattle.station.specs.declared.Event.the-variants as event
 use Rattle.station.specs.declared.Step.{Step}
 use Rattle.station.specs.Parts.{withTokenTimes, withNextApplication, zeroTime}
 use Rattle.station.specs.Steps.{toActiveIdle, pauseOf, rxOf, slotExpiredOf, doneOf, transmitOf}
@@ -146,12 +147,12 @@ validResponse (telegram.Response destination source state status) address own =
 unfoldable pub receivedOf : Parameters → Core → Micros → ℕ → UseTokenData → Telegram → Step
 receivedOf p c now address held t =
     cond (validResponse t address (p .address))
-    (record { state = UseToken true held; core = rxOf c now; sent = sent.Nothing; notice = notice.Reply (c .«next_application») address; outcome = outcome.Delay; consumed = 1 })
-    (record { state = toActiveIdle; core = rxOf c now; sent = sent.Nothing; notice = notice.NoNotice; outcome = outcome.Bus; consumed = 1 })
+    (record { state = UseToken true held; core = rxOf c now; sent = sent.Nothing; notice = notice.Reply (c .«next_application») address; outcome = outcome.Delay; consumed = 1; event = event.Nothing })
+    (record { state = toActiveIdle; core = rxOf c now; sent = sent.Nothing; notice = notice.NoNotice; outcome = outcome.Bus; consumed = 1; event = event.Nothing })
 
 -- a step with a notice
 unfoldable pub withNotice : Step → Notice → Step
-withNotice s x = record { state = s .state; core = s .core; sent = s .sent; notice = x; outcome = s .outcome; consumed = s .consumed }
+withNotice s x = record { state = s .state; core = s .core; sent = s .sent; notice = x; outcome = s .outcome; consumed = s .consumed; event = s .event }
 
 -- do_await_data_response: the timeout is told to the application that sent, and the token is used at once
 unfoldable pub timeoutOf : Parameters → Core → Micros → ℕ → UseTokenData → List ℕ → ℕ → Step

@@ -17,6 +17,7 @@ use ring::GapState;
 use settings::Parameters;
 use settings_rules::GAP_ALLOWANCE;
 use station::Core;
+use station::Event;
 use station::OptionApplication;
 use station::PassTokenAttempt;
 use station::State;
@@ -327,6 +328,7 @@ fn do_await_data_response_received(
             },
             outcome: Outcome::Delay,
             consumed: 1,
+            event: Event::Nothing,
         };
     }
     Step {
@@ -336,6 +338,7 @@ fn do_await_data_response_received(
         notice: Notice::NoNotice,
         outcome: Outcome::Bus,
         consumed: 1,
+        event: Event::Nothing,
     }
 }
 
@@ -347,6 +350,7 @@ fn with_notice(step: Step, notice: Notice) -> Step
     let core = step.core;
     let sent = step.sent;
     let outcome = step.outcome;
+    let event = step.event;
     Step {
         state,
         core,
@@ -354,6 +358,7 @@ fn with_notice(step: Step, notice: Notice) -> Step
         notice,
         outcome,
         consumed: step.consumed,
+        event,
     }
 }
 

@@ -1,2 +1,3 @@
--- The definitions; there are no laws.
+-- The definitions, and what the proof of the loop over telegrams uses.
 pub mod Listen
+pub mod Laws

@@ -7,7 +7,7 @@ ghost use mathlib.Core.List.{List};
 ghost use denote.Ref.{now as contents};
 ghost use Rattle.ring.specs.Ring.{ringOf};
 ghost use Rattle.station.specs.Whole.{ringStepAt, heardAt};
-ghost use Rattle.station_listen.specs.Listen.{responseState, listenAnswered, listenResponse, heardTelegram, receivedAll, consumedAll, listenTokenOf, activeResponse, activeIdleOf};
+ghost use Rattle.station_listen.specs.Listen.{responseState, listenAnswered, respondOf, listenResponse, heardTelegram, metToo, receivedAll, meetingsOf, consumedAll, listenTokenOf, activeResponse, activeIdleOf};
 use bit_times::Micros;
 use codec_answers::Notice;
 use codec_answers::Outcome;
@@ -17,6 +17,7 @@ use codec_telegrams::Telegram;
 use ring::Head;
 use settings::Parameters;
 use station::Core;
+use station::Event;
 use station::Heard;
 use station::OptionAddress;
 use station::RingStep;
@@ -49,24 +50,23 @@ fn do_listen_token_answered(ring: Head, collision_count: u8) -> State
     }
 }
 
-// do_listen_token: a status request is answered after the pause.
-fn do_listen_token_respond(
+// A status request is answered after the pause, with this type: `waiting` is the state until then, `answered` the one from then on.
+pub fn respond(
     p: Parameters,
+    waiting: State,
+    answered: State,
     core: Core,
     ring: Head,
-    links: &[u8; 252],
     now: Micros,
     source: u8,
-    collision_count: u8,
+    state: ResponseState,
 ) -> RingStep
     requires { ⌜ now .0 < 2 ^ 48 ⌝ }
-    ensures { λ r. ⌜ ringStepAt r (contents (links .entry)) ≡ listenResponse p core (ringOf ring (contents (links .entry))) now source «collision_count» ⌝ }
+    ensures { λ r. ⌜ ((l : List ℕ) → ringStepAt r l ≡ respondOf p waiting answered core (ringOf ring l) now source state) ⌝ }
 {
     let pause = station::wait_synchronization_pause(p, core, now);
     let waited = pause.core;
     if pause.over {
-        let state = do_listen_token_state(ring, links, source);
-        let answered = do_listen_token_answered(ring, collision_count);
         return RingStep {
             step: station::transmit(
                 p,
@@ -82,19 +82,42 @@ fn do_listen_token_respond(
         };
     }
     RingStep {
-        step: station::done(
-            State::ListenToken {
-                status_request: OptionAddress::Some(source),
-                collision_count,
-            },
-            waited,
-            Outcome::Delay,
-        ),
+        step: station::done(waiting, waited, Outcome::Delay),
         ring,
     }
 }
 
-// One telegram of receive_all_telegrams, while listening or in ActiveIdle.
+// do_listen_token: a status request is answered.
+fn do_listen_token_respond(
+    p: Parameters,
+    core: Core,
+    ring: Head,
+    links: &[u8; 252],
+    now: Micros,
+    source: u8,
+    collision_count: u8,
+) -> RingStep
+    requires { ⌜ now .0 < 2 ^ 48 ⌝ }
+    ensures { λ r. ⌜ ringStepAt r (contents (links .entry)) ≡ listenResponse p core (ringOf ring (contents (links .entry))) now source «collision_count» ⌝ }
+{
+    let answered = do_listen_token_answered(ring, collision_count);
+    let state = do_listen_token_state(ring, links, source);
+    respond(
+        p,
+        State::ListenToken {
+            status_request: OptionAddress::Some(source),
+            collision_count,
+        },
+        answered,
+        core,
+        ring,
+        now,
+        source,
+        state,
+    )
+}
+
+// One telegram of receive_all_telegrams, while listening (in ListenToken or PassiveIdle) or in ActiveIdle.
 fn receive_telegram(
     p: Parameters,
     before: Heard,
@@ -124,6 +147,17 @@ fn receive_telegram(
     station_hear_active::handle_telegram(p, state, marked, ring, links, now, telegram, last)
 }
 
+// The collisions of a poll, with one telegram more, which is one or none.
+fn met_too(met: u8, here: u8) -> u8
+    requires { ⌜ met < 255 ⌝ }
+    ensures { λ r. ⌜ r ≡ metToo met here ⌝ }
+{
+    if here == 0 {
+        return met;
+    }
+    met + 1
+}
+
 // receive_all_telegrams, in their order. With none the poll waits for the bus.
 pub fn receive_all_telegrams(
     p: Parameters,
@@ -140,16 +174,29 @@ pub fn receive_all_telegrams(
     ensures { λ r. ⌜ heardAt r (contents (links .exit)) ≡ receivedAll p state core (ringOf ring (contents (links .entry))) now listening (contents (bytes .entry)) applications telegrams ⌝ }
 {
     let mut all = station::hearing(state, core, ring, Outcome::Bus);
+    let mut met: u8 = 0;
     let mut index: u8 = 0;
     while index < telegrams {
         let telegram = codec_records::telegram(bytes, applications, index);
         index += 1;
         all = receive_telegram(p, all, links, now, listening, telegram, index == telegrams);
+        met = met_too(met, all.met);
     }
+    all.met = met;
     all
 }
 
-// The step that the telegrams of a poll led to; all of them are consumed.
+// What is counted of a poll with so many collisions.
+fn meetings(met: u8) -> Event
+    ensures { λ r. ⌜ r ≡ meetingsOf met ⌝ }
+{
+    if met == 0 {
+        return Event::Nothing;
+    }
+    Event::Meetings(met)
+}
+
+// The step that the telegrams of a poll led to; all of them are consumed, and the collisions among them are counted.
 pub fn consumed_all(all: Heard, telegrams: u8) -> RingStep
     ensures { λ r. ⌜ ((l : List ℕ) → ringStepAt r l ≡ consumedAll (heardAt all l) telegrams) ⌝ }
 {
@@ -165,6 +212,7 @@ pub fn consumed_all(all: Heard, telegrams: u8) -> RingStep
             notice: Notice::NoNotice,
             outcome,
             consumed: telegrams,
+            event: meetings(all.met),
         },
         ring,
     }
@@ -204,7 +252,7 @@ fn received_some(
 }
 
 // The step that the telegrams of a poll lead to. Most polls have none.
-fn received(
+pub fn received(
     p: Parameters,
     state: State,
     core: Core,
@@ -257,7 +305,10 @@ pub fn do_listen_token(
     let lost = station::token_lost(p, core, now);
     let waited = lost.core;
     if lost.over {
-        return station_claim::do_claim_token(p, waited, ring, now, true);
+        return station::with_event(
+            station_claim::do_claim_token(p, waited, ring, now, true),
+            Event::Claim,
+        );
     }
     match status_request {
         OptionAddress::None => received(
@@ -287,7 +338,7 @@ pub fn do_listen_token(
     }
 }
 
-// do_active_idle: a status request is answered after the pause.
+// do_active_idle: a status request is answered.
 fn do_active_idle_respond(
     p: Parameters,
     core: Core,
@@ -300,40 +351,24 @@ fn do_active_idle_respond(
     requires { ⌜ now .0 < 2 ^ 48 ⌝ }
     ensures { λ r. ⌜ ((l : List ℕ) → ringStepAt r l ≡ activeResponse p core (ringOf ring l) now source «new_previous_station» «collision_count») ⌝ }
 {
-    let pause = station::wait_synchronization_pause(p, core, now);
-    let waited = pause.core;
-    if pause.over {
-        let answered = State::ActiveIdle {
+    respond(
+        p,
+        State::ActiveIdle {
+            status_request: OptionAddress::Some(source),
+            new_previous_station,
+            collision_count,
+        },
+        State::ActiveIdle {
             status_request: OptionAddress::None,
             new_previous_station,
             collision_count,
-        };
-        return RingStep {
-            step: station::transmit(
-                p,
-                answered,
-                waited,
-                now,
-                Sent::StatusResponse {
-                    destination: source,
-                    state: ResponseState::MasterInRing,
-                },
-            ),
-            ring,
-        };
-    }
-    RingStep {
-        step: station::done(
-            State::ActiveIdle {
-                status_request: OptionAddress::Some(source),
-                new_previous_station,
-                collision_count,
-            },
-            waited,
-            Outcome::Delay,
-        ),
+        },
+        core,
         ring,
-    }
+        now,
+        source,
+        ResponseState::MasterInRing,
+    )
 }
 
 // do_active_idle.
@@ -356,7 +391,10 @@ pub fn do_active_idle(
     let lost = station::token_lost(p, core, now);
     let waited = lost.core;
     if lost.over {
-        return station_claim::do_claim_token(p, waited, ring, now, true);
+        return station::with_event(
+            station_claim::do_claim_token(p, waited, ring, now, true),
+            Event::Claim,
+        );
     }
     match status_request {
         OptionAddress::None => received(

@@ -11,11 +11,12 @@ ghost use Rattle.station.specs.Steps.{ringStepOf};
 ghost use Rattle.station_answer.specs.Answer.{polledAt};
 ghost use Rattle.station_hold.specs.Hold.{useTokenOf};
 ghost use Rattle.station_pass.specs.Pass.{passTokenOf};
-ghost use Rattle.station_poll.specs.Poll.{connectedOf, dispatchOf, pollOnline, pollInner, acceptedPoll, pollOf};
+ghost use Rattle.station_poll.specs.Poll.{connectedOf, passivatedOf, enteredOf, dispatchOf, pollOnline, pollInner, acceptedPoll, pollOf};
 use bit_times::Micros;
 use codec_answers::Outcome;
 use ring::Head;
 use settings::Parameters;
+use station::ConnectivityState;
 use station::Core;
 use station::PassTokenAttempt;
 use station::RingStep;
@@ -24,7 +25,7 @@ use station::Station;
 use station::UseTokenData;
 use station_answer::Polled;
 
-// poll_inner: a station that was put online starts listening.
+// poll_inner: a station that was put online starts listening, from Offline or from PassiveIdle.
 fn poll_inner_connected(state: State) -> State
     ensures { λ r. ⌜ r ≡ connectedOf state ⌝ }
 {
@@ -38,6 +39,37 @@ fn poll_inner_connected(state: State) -> State
         State::PassToken { .. } => state,
         State::CheckTokenPass { .. } => state,
         State::AwaitStatusResponse { .. } => state,
+        State::PassiveIdle { .. } => station::transition_listen_token(),
+    }
+}
+
+// poll_inner: a station that was put passive, or is back in ListenToken or ActiveIdle while it is passive, leaves the ring. In any
+// other state it goes on.
+fn poll_inner_passive(state: State) -> State
+    ensures { λ r. ⌜ r ≡ passivatedOf state ⌝ }
+{
+    match state {
+        State::Offline => station::transition_passive_idle(),
+        State::ListenToken { .. } => station::transition_passive_idle(),
+        State::ActiveIdle { .. } => station::transition_passive_idle(),
+        State::UseToken { .. } => state,
+        State::ClaimToken { .. } => state,
+        State::AwaitDataResponse { .. } => state,
+        State::PassToken { .. } => state,
+        State::CheckTokenPass { .. } => state,
+        State::AwaitStatusResponse { .. } => state,
+        State::PassiveIdle { .. } => state,
+    }
+}
+
+// poll_inner: the state that the connectivity state leads to, first thing in a poll.
+fn poll_inner_entered(connectivity: ConnectivityState, state: State) -> State
+    ensures { λ r. ⌜ r ≡ enteredOf connectivity state ⌝ }
+{
+    match connectivity {
+        ConnectivityState::Offline => state,
+        ConnectivityState::Passive => poll_inner_passive(state),
+        ConnectivityState::Online => poll_inner_connected(state),
     }
 }
 
@@ -78,7 +110,7 @@ fn poll_inner_pass_token(
     station_pass::do_pass_token(p, core, ring, links, now, do_gap, attempt)
 }
 
-// poll_inner: what the state asks for. Offline cannot be: poll_inner_connected comes first.
+// poll_inner: what the state asks for. Offline cannot be: poll_inner_entered comes first.
 fn poll_inner_dispatch(
     p: Parameters,
     state: State,
@@ -182,6 +214,17 @@ fn poll_inner_dispatch(
             applications,
             telegrams,
         ),
+        State::PassiveIdle { status_request } => station_passive::do_passive_idle(
+            p,
+            core,
+            ring,
+            links,
+            now,
+            status_request,
+            bytes,
+            applications,
+            telegrams,
+        ),
     }
 }
 
@@ -228,7 +271,7 @@ fn poll_inner_online(
     )
 }
 
-// poll_inner: a station that is not online does nothing.
+// poll_inner: an offline station does nothing.
 fn poll_inner(
     p: Parameters,
     state: State,
@@ -245,25 +288,26 @@ fn poll_inner(
     requires { ⌜ now .0 < 2 ^ 48 ⌝ }
     ensures { λ r. ⌜ ringStepAt r (contents (links .exit)) ≡ pollInner p state core (ringOf ring (contents (links .entry))) now transmitting pending (contents (bytes .entry)) applications telegrams ⌝ }
 {
-    if core.online {
-        return poll_inner_online(
-            p,
-            poll_inner_connected(state),
-            core,
+    let connectivity = core.connectivity_state;
+    if station::is_offline(connectivity) {
+        return RingStep {
+            step: station::done(state, core, Outcome::Offline),
             ring,
-            links,
-            now,
-            transmitting,
-            pending,
-            bytes,
-            applications,
-            telegrams,
-        );
+        };
     }
-    RingStep {
-        step: station::done(state, core, Outcome::Offline),
+    poll_inner_online(
+        p,
+        poll_inner_entered(connectivity, state),
+        core,
         ring,
-    }
+        links,
+        now,
+        transmitting,
+        pending,
+        bytes,
+        applications,
+        telegrams,
+    )
 }
 
 // A poll whose record is not refused.
@@ -273,6 +317,7 @@ fn poll_accepted(station: Station, links: &mut [u8; 252], bytes: &[u8]) -> Polle
     let head = codec_records::read_head(bytes);
     let applications = station.applications;
     let p = station.p;
+    let counts = station.counts;
     let state = station.state;
     let core = station.core;
     let ring = station.token_ring;
@@ -289,7 +334,7 @@ fn poll_accepted(station: Station, links: &mut [u8; 252], bytes: &[u8]) -> Polle
         applications,
         head.telegrams,
     );
-    station_answer::poll_done(p, applications, stepped, links)
+    station_answer::poll_done(p, applications, counts, stepped, links)
 }
 
 // poll_multi, on a poll record. Refusals 12 to 15.

@@ -26,15 +26,16 @@ use Rattle.station.specs.declared.OptionAddress.{OptionAddress}
 use Rattle.station.specs.declared.OptionAddress.the-variants as optionAddress
 use Rattle.station.specs.declared.Activity.{Activity}
 use Rattle.station.specs.declared.Activity.the-variants as activity
+use Rattle.station.specs.declared.ConnectivityState.the-variants as connectivity
 use Rattle.station.specs.declared.PassTokenAttempt.{PassTokenAttempt}
 use Rattle.station.specs.declared.State.{State}
-use Rattle.station.specs.declared.State.the-variants.{Offline, ListenToken, ActiveIdle, UseToken, ClaimToken, AwaitDataResponse, PassToken, CheckTokenPass, AwaitStatusResponse}
+use Rattle.station.specs.declared.State.the-variants.{Offline, ListenToken, ActiveIdle, UseToken, ClaimToken, AwaitDataResponse, PassToken, CheckTokenPass, AwaitStatusResponse, PassiveIdle}
 use Rattle.station.specs.Whole.{Station}
 use Rattle.station.specs.Parts.{stateNumber}
 use Rattle.station_pass.specs.Pass.{gapAdvanced}
 use Rattle.station_poll.specs.Poll.{pollOf}
 use Rattle.theorem_sound.specs.Keeps.{RingGood}
-use Rattle.theorem_silence.specs.Silence.{online, AllQuiet, holdsToken, until, sentUntil, countedIn, tokens}
+use Rattle.theorem_silence.specs.Silence.{AllQuiet, holdsToken, until, sentUntil, countedIn, tokens}
 use Rattle.theorem_silence.specs.Phases.{triedBefore, tokensFrom, claimTokens}
 
 -- What is assumed of the station. Every station that calls make with accepted settings meets the first two lines (`met-by-calls` of Met).
@@ -43,8 +44,8 @@ pub record AnyStart (s : Station) : Type 0 where
   pub settings : firstRefusal (plainOf (s .p)) ≡ 0
   -- its ring is sound and has the settings' address for its own
   pub ring-good : RingGood (s .p) (s .«token_ring»)
-  -- it is online; its state may still be Offline, where no poll came since the command
-  pub is-online : online s ≡ true
+  -- it is online; its state may still be Offline or PassiveIdle, where no poll came since the command
+  pub is-online : s .core .«connectivity_state» ≡ connectivity.Online
   -- it is in any state but UseToken and AwaitDataResponse
   pub not-use-token : stateNumber (s .state) ≡ 3 → ⊥
   pub not-await-data : stateNumber (s .state) ≡ 5 → ⊥
@@ -97,6 +98,7 @@ planOn (ClaimToken first) gap stations own = onlyTokens (claimTokens first own)
 planOn (PassToken look attempt) gap stations own = passPlan look gap attempt stations own
 planOn (CheckTokenPass attempt) gap stations own = onlyTokens (tokensFrom (suc (triedBefore attempt)) stations own)
 planOn (AwaitStatusResponse address) gap stations own = onlyTokens (tokens stations own)
+planOn (PassiveIdle request) gap stations own = claimPlan optionAddress.None own
 planOn (UseToken cycled held) gap stations own = onlyTokens []
 planOn (AwaitDataResponse address held) gap stations own = onlyTokens []
 

@@ -22,15 +22,15 @@ use Rattle.station.specs.declared.State.the-variants.{ListenToken, ActiveIdle}
 use Rattle.station.specs.declared.Core.{Core}
 use Rattle.station.specs.Whole.{RingStep}
 use Rattle.station.specs.Steps.{pauseOf, tokenLostWaitOf, busyOf, doneOf, transmitOf, heardOf}
-use Rattle.station_listen.specs.Listen.{handleLostToken, listenAnswered, listenResponse, heardAll, receivedAll, consumedAll, listenTokenOn, listenTokenOf, activeResponse, activeIdleOn, activeIdleOf}
+use Rattle.station_listen.specs.Listen.{handleLostToken, respondOf, listenAnswered, listenResponse, heardAll, receivedAll, consumedAll, listenTokenOn, listenTokenOf, activeResponse, activeIdleOn, activeIdleOf, metIn, meetingsOf}
 use Rattle.station_poll.specs.Poll.{connectedOf, dispatchOf}
 use Rattle.theorem_silence.specs.Silence.{slotAfter}
 use Rattle.theorem_silence.specs.Times.{Slotted, after-shorter, after-over, counted-free, waited-paused}
 use Rattle.theorem_silence.specs.Phases.{claiming}
-use Rattle.theorem_silence.specs.OnePoll.{Ready, active-ready, known-ready, Sends, claim-sent, quietStep, not-counted, not-counted-busy}
+use Rattle.theorem_silence.specs.OnePoll.{Ready, active-ready, known-ready, Sends, claim-sent, quietStep, not-counted, not-counted-busy, counted-too}
 use Rattle.theorem_any_start.specs.AnyStart.{lostAfter}
 
--- a state that waits for the lost token, with this status request noted; Offline leads to ListenToken first
+-- a state that waits for the lost token, with this status request noted; Offline and PassiveIdle lead to ListenToken first
 pub data Hears (request : OptionAddress) (s : State) : Type 0 where
   listening : (collisions : ℕ) → connectedOf s ≡ ListenToken request collisions → Hears request s
   idle : (newPreviousStation : OptionAddress) (collisions : ℕ) → connectedOf s ≡ ActiveIdle request newPreviousStation collisions → Hears request s
@@ -79,7 +79,7 @@ module _ (p : Parameters) (w : Slotted p) (os : List ℕ) (c : Core) (r : Ring) 
   -- a lost token is claimed at once: the pause is over too
   lost-claimed : (rest : Core → RingStep) → tokenLostWaitOf p c now .over ≡ true → Sends p now (sent.Token (p .address)) (claiming false os) (handleLostToken p c r now rest)
   unfolding handleLostToken tokenLostWaitOf
-  lost-claimed rest e = rw e (claim-sent p _ r now true os (known-ready p c r os now _ g) (waited-paused p w c now (tokenLostOf p) (omega (arith, w .pause, slot-lost p)) e))
+  lost-claimed rest e = rw e (counted-too _ _ (claim-sent p _ r now true os (known-ready p c r os now _ g) (waited-paused p w c now (tokenLostOf p) (omega (arith, w .pause, slot-lost p)) e)))
 
   -- else the state goes on, the last activity being known
   not-lost : (rest : Core → RingStep) → tokenLostWaitOf p c now .over ≡ false → handleLostToken p c r now rest ≡ rest (tokenLostWaitOf p c now .core)
@@ -99,7 +99,7 @@ module _ (p : Parameters) (os : List ℕ) (c : Core) (r : Ring) (now : Micros) (
   answered-hears i false e = rw e (listening i refl)
 
   listen-rest : (request : OptionAddress) (collisions : ℕ) → ListenTurn p now request os false (listenTokenOn request p c r now collisions bytes n 0)
-  unfolding listenTokenOn listenResponse consumedAll receivedAll heardAll heardOf transmitOf doneOf connectedOf pauseOf
+  unfolding listenTokenOn listenResponse respondOf metIn meetingsOf consumedAll receivedAll heardAll heardOf transmitOf doneOf connectedOf pauseOf
   listen-rest optionAddress.None i = waits refl refl (g, listening i refl)
   listen-rest (optionAddress.Some source) i =
       cases (pauseOf p c now .over)
@@ -107,7 +107,7 @@ module _ (p : Parameters) (os : List ℕ) (c : Core) (r : Ring) (now : Micros) (
       (λ e. rw e (waits refl refl (known-ready p c r os now _ g, listening i refl)))
 
   active-rest : (request newPreviousStation : OptionAddress) (collisions : ℕ) → ListenTurn p now request os false (activeIdleOn request p c r now newPreviousStation collisions bytes n 0)
-  unfolding activeIdleOn activeResponse consumedAll receivedAll heardAll heardOf transmitOf doneOf connectedOf pauseOf
+  unfolding activeIdleOn activeResponse respondOf metIn meetingsOf consumedAll receivedAll heardAll heardOf transmitOf doneOf connectedOf pauseOf
   active-rest optionAddress.None m i = waits refl refl (g, idle m i refl)
   active-rest (optionAddress.Some source) m i =
       cases (pauseOf p c now .over)

@@ -10,13 +10,13 @@ use Rattle.ring.specs.Ring.{others}
 use Rattle.station.specs.Whole.{Station}
 use Rattle.station.specs.Parts.{stateNumber}
 use Rattle.theorem_sound.specs.Sound.{part-ring}
-use Rattle.theorem_silence.specs.Silence.{online}
+use Rattle.theorem_silence.specs.Silence.{Online}
 use Rattle.theorem_silence.specs.Calls.{ByCalls, settings-of-calls, sound-of-calls}
 use Rattle.theorem_any_start.specs.AnyStart.{AnyStart}
 use Rattle.theorem_any_start.specs.Sharp.{SharpAt}
 
 -- a station that calls make meets the premises as soon as it is online and in a state that is not left out
-pub met-by-calls : (s : Station) → ByCalls s → online s ≡ true → (stateNumber (s .state) ≡ 3 → ⊥) → (stateNumber (s .state) ≡ 5 → ⊥) → AnyStart s
+pub met-by-calls : (s : Station) → ByCalls s → Online s → (stateNumber (s .state) ≡ 3 → ⊥) → (stateNumber (s .state) ≡ 5 → ⊥) → AnyStart s
 met-by-calls s b on held reply =
     record { settings = settings-of-calls s b; ring-good = part-ring s (sound-of-calls s b); is-online = on; not-use-token = held; not-await-data = reply }
 
@@ -36,6 +36,7 @@ pub record MetSharp (k : ℕ) : Type 0 where
 -- there is one in each state, for every number of others that the state allows
 pub record PremisesMet : Type 0 where
   pub offline : Met 0 0
+  pub was-passive : Met 9 0
   pub listening : (k : ℕ) → k ≤ 125 → Met 1 k
   pub idle : (k : ℕ) → k ≤ 125 → Met 2 k
   pub claiming : (k : ℕ) → k ≤ 125 → Met 4 k

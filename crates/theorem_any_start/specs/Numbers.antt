@@ -10,7 +10,7 @@ use Rattle.ring.specs.declared.GapState.the-variants.{Waiting, DoPoll}
 use Rattle.station.specs.declared.OptionAddress.{OptionAddress}
 use Rattle.station.specs.declared.PassTokenAttempt.{PassTokenAttempt}
 use Rattle.station.specs.declared.PassTokenAttempt.the-variants.{First, Second, Third}
-use Rattle.station.specs.declared.State.the-variants.{Offline, ListenToken, ActiveIdle, ClaimToken, PassToken, CheckTokenPass, AwaitStatusResponse}
+use Rattle.station.specs.declared.State.the-variants.{Offline, ListenToken, ActiveIdle, ClaimToken, PassToken, CheckTokenPass, AwaitStatusResponse, PassiveIdle}
 use Rattle.theorem_silence.specs.Phases.{tokens-length}
 use Rattle.theorem_any_start.specs.AnyStart.{planOn, inPlan}
 use Rattle.theorem_any_start.specs.Theorem.{from-length}
@@ -18,6 +18,7 @@ use Rattle.theorem_any_start.specs.Theorem.{from-length}
 -- by the state, with k others
 pub record Numbers (gap : GapState) (stations : List ℕ) (own k : ℕ) : Type 0 where
   pub offline : inPlan (planOn Offline gap stations own) ≡ 2
+  pub was-passive : (request : OptionAddress) → inPlan (planOn (PassiveIdle request) gap stations own) ≡ 2
   pub listening : (request : OptionAddress) (collisions : ℕ) → inPlan (planOn (ListenToken request collisions) gap stations own) ≡ 2
   pub idle : (request newPreviousStation : OptionAddress) (collisions : ℕ) → inPlan (planOn (ActiveIdle request newPreviousStation collisions) gap stations own) ≡ 2
   -- ClaimToken with its first token sent; that it stands before its first is covered, but no call leaves a station so
@@ -43,6 +44,7 @@ numbers gap stations own =
     let all = tokens-length stations own in
     record {
       offline = refl;
+      was-passive = λ q. refl;
       listening = λ q i. refl;
       idle = λ q m i. refl;
       claiming = refl;

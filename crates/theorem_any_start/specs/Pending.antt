@@ -25,10 +25,10 @@ use Rattle.station.specs.declared.State.{State}
 use Rattle.station.specs.Whole.{Station, RingStep}
 use Rattle.station.specs.Parts.{withActivity, withPending}
 use Rattle.station.specs.Steps.{knownAt, elapsedOf, markedAt, busyOf, ongoingOf, waitedOf, pauseOf, tokenLostWaitOf, busActivityOf, doneOf, heardOf}
-use Rattle.station_listen.specs.Listen.{handleLostToken, listenResponse, heardAll, receivedAll, consumedAll, listenTokenOn, listenTokenOf, activeResponse, activeIdleOn, activeIdleOf}
+use Rattle.station_listen.specs.Listen.{handleLostToken, respondOf, listenResponse, heardAll, receivedAll, consumedAll, listenTokenOn, listenTokenOf, activeResponse, activeIdleOn, activeIdleOf}
 use Rattle.station_answer.specs.Answer.{polledOf, stepAnswer}
 use Rattle.station_poll.specs.Poll.{connectedOf, dispatchOf, pollOnline, acceptedAfter, acceptedPoll, pollOf}
-use Rattle.theorem_silence.specs.Silence.{online}
+use Rattle.theorem_silence.specs.Silence.{Online}
 use Rattle.theorem_silence.specs.Times.{slotted}
 use Rattle.theorem_silence.specs.Theorem.{inner-online}
 use Rattle.theorem_any_start.specs.Listening.{Hears, listening, idle, slot-lost}
@@ -53,12 +53,12 @@ unfolding pauseOf
 pause-waits p c now e = not-over c now (timeOf (record { 0 = pauseBits }) (p .baudrate)) e (time-some pauseBits (p .baudrate) (omega arith))
 
 listen-quiet : (request : OptionAddress) (p : Parameters) (c : Core) (r : Ring) (now : Micros) (collisions : ℕ) (bytes : List ℕ) (n : ℕ) → c .«last_bus_activity» ≡ activity.At now → listenTokenOn request p c r now collisions bytes n 0 .step .sent ≡ Nothing
-unfolding listenTokenOn listenResponse consumedAll receivedAll heardAll heardOf doneOf
+unfolding listenTokenOn listenResponse respondOf consumedAll receivedAll heardAll heardOf doneOf
 listen-quiet optionAddress.None p c r now i bytes n e = refl
 listen-quiet (optionAddress.Some source) p c r now i bytes n e = rw (pause-waits p c now e)
 
 idle-quiet : (request newPreviousStation : OptionAddress) (p : Parameters) (c : Core) (r : Ring) (now : Micros) (collisions : ℕ) (bytes : List ℕ) (n : ℕ) → c .«last_bus_activity» ≡ activity.At now → activeIdleOn request p c r now newPreviousStation collisions bytes n 0 .step .sent ≡ Nothing
-unfolding activeIdleOn activeResponse consumedAll receivedAll heardAll heardOf doneOf
+unfolding activeIdleOn activeResponse respondOf consumedAll receivedAll heardAll heardOf doneOf
 idle-quiet optionAddress.None m p c r now i bytes n e = refl
 idle-quiet (optionAddress.Some source) m p c r now i bytes n e = rw (pause-waits p c now e)
 
@@ -85,7 +85,7 @@ online-quiet request s p l c r now false pending bytes n h more =
     (λ e. rw e (dispatch-quiet request s p l (busActivityOf c now pending) r now bytes n h (active-now c now pending more e)))
 
 -- the poll is accepted and hears no telegram; its clock and whether a transmission goes on are free
-pub pending-holds-off : (s : Station) (bytes : List ℕ) (request : OptionAddress) → firstRefusal (plainOf (s .p)) ≡ 0 → online s ≡ true → Hears request (s .state) → recordRefusal bytes (s .applications) ≡ 0 → headOf bytes .telegrams ≡ 0 → s .core .«pending_bytes» < headOf bytes .pending → pollOf s bytes .answer .sent ≡ Nothing
+pub pending-holds-off : (s : Station) (bytes : List ℕ) (request : OptionAddress) → firstRefusal (plainOf (s .p)) ≡ 0 → Online s → Hears request (s .state) → recordRefusal bytes (s .applications) ≡ 0 → headOf bytes .telegrams ≡ 0 → s .core .«pending_bytes» < headOf bytes .pending → pollOf s bytes .answer .sent ≡ Nothing
 unfolding pollOf acceptedPoll acceptedAfter polledOf stepAnswer
 pending-holds-off s bytes request settings on h accepted none more =
     let some : 1 ≤ tokenLostOf (s .p) .0 = omega (arith, slotted (s .p) settings .some, slot-lost (s .p)) in

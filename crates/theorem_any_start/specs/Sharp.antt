@@ -66,7 +66,7 @@ late-run ph s last m e g a l room =
     let clock = last .0 + tokenLostOf p .0 in
     let run = evenly (s .applications) (lateTime p) m clock in
     let far = time-grows (byteBits * longest ph) (byteBits * 6) (p .baudrate) (omega (arith, longest-most ph)) in
-    let late = evenly-after m ph p (slotted p e) tokenLostOf (s .applications) (lateTime p) (s .state) (s .core) (s .«token_ring») clock g l (slot-lost p) (omega arith) (rw a (le-leb clock clock (omega arith))) room in
+    let late = evenly-after m ph p (slotted p e) tokenLostOf (s .applications) (lateTime p) (s .counts) (s .state) (s .core) (s .«token_ring») clock g l (slot-lost p) (omega arith) (rw a (le-leb clock clock (omega arith))) room in
     record {
       records = run;
       quiet = evenly-quiet m (s .applications) (lateTime p) clock room;

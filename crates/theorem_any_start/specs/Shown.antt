@@ -18,19 +18,21 @@ use Rattle.codec_records.specs.Records as records
 use Rattle.station.specs.declared.PassTokenAttempt.the-variants.{First}
 use Rattle.station.specs.declared.State.the-variants.{ClaimToken, PassToken}
 use Rattle.station.specs.Whole.{Station}
-use Rattle.station.specs.Parts.{freshStation, freshCore, stateNumber, withActivity, withGap, withPending, withTokenTimes, withNextApplication, withOnline}
+use Rattle.station.specs.Parts.{freshStation, freshCore, stateNumber, withActivity, withGap, withPending, withTokenTimes, withNextApplication, withConnectivity, isOffline}
 use Rattle.station.specs.Steps as steps
 use Rattle.station_listen.specs.Listen as listening
+use Rattle.station_passive.specs.Passive as idling
 use Rattle.station_hold.specs.Hold as holding
 use Rattle.station_pass.specs.Pass as passing
 use Rattle.station_claim.specs.Claim as claiming
+use Rattle.station_answer.specs.Counted.{raisedBy, countedOf}
 use Rattle.station_answer.specs.Answer as answering
 use Rattle.station_command.specs.Command as commands
 use Rattle.station_poll.specs.Poll as polling
 use Rattle.theorem_sound.specs.Keeps.{RingGood}
 use Rattle.theorem_sound.specs.Sound.{Call, poll, after, run, part-ring}
 use Rattle.theorem_sound.specs.Sound as call
-use Rattle.theorem_silence.specs.Silence.{online, Quiet, slotAfter, counted}
+use Rattle.theorem_silence.specs.Silence.{Online, Quiet, slotAfter, counted}
 use Rattle.theorem_silence.specs.Times.{slotted}
 use Rattle.theorem_silence.specs.Phases.{starting}
 use Rattle.theorem_silence.specs.OnePoll.{At}
@@ -44,7 +46,7 @@ use Rattle.theorem_any_start.specs.Sharp.{SharpAt, lateTime, sharp}
 use Rattle.theorem_any_start.specs.Met.{met-by-calls, Met, MetSharp, PremisesMet}
 
 -- these calls make a station in this state with this ring
-met-by : (number k : ℕ) (s : Station) (cs : List Call) → run (freshStation lowest 1) cs ≡ s → online s ≡ true → stateNumber (s .state) ≡ number → (number ≡ 3 → ⊥) → (number ≡ 5 → ⊥) → length (others (s .«token_ring»)) ≡ k → Met number k
+met-by : (number k : ℕ) (s : Station) (cs : List Call) → run (freshStation lowest 1) cs ≡ s → Online s → stateNumber (s .state) ≡ number → (number ≡ 3 → ⊥) → (number ≡ 5 → ⊥) → length (others (s .«token_ring»)) ≡ k → Met number k
 met-by number k s cs makes on state held reply size =
     let calls = made-by lowest cs s lowest-accepted makes in
     record { station = s; by-calls = calls; starts = met-by-calls s calls on (λ e. held (sym state ∙ e)) (λ e. reply (sym state ∙ e)); in-state = state; size = size }
@@ -53,12 +55,26 @@ met-by number k s cs makes on state held reply size =
 abbrev went-online : Station
 went-online = run (freshStation lowest 1) (call.online ∷ [])
 
-went : (online went-online ≡ true) × ((stateNumber (went-online .state) ≡ 0) × (went-online .«token_ring» ≡ freshOf 0))
-unfolding run after commands.onlineOf freshStation freshCore withOnline steps.doneOf answering.polledOf
+went : (Online went-online) × ((stateNumber (went-online .state) ≡ 0) × (went-online .«token_ring» ≡ freshOf 0))
+unfolding run after commands.onlineOf commands.connectOf freshStation freshCore withConnectivity steps.doneOf answering.polledOf
 went = (refl, (refl, refl))
 
 met-offline : Met 0 0
 met-offline = met-by 0 0 went-online (call.online ∷ []) refl (went .0) (went .1 .0) (λ e. omega arith) (λ e. omega arith) (ap (λ (r : Ring). length (others r)) (went .1 .1) ∙ ap length (others-fresh 0 (omega arith)))
+
+-- PassiveIdle: passive, a poll, and online with no poll since.
+abbrev went-passive : List Call
+went-passive = call.passive ∷ pollSilent 0 ∷ call.online ∷ []
+
+abbrev back-online : Station
+back-online = run (freshStation lowest 1) went-passive
+
+back : (Online back-online) × ((stateNumber (back-online .state) ≡ 9) × (back-online .«token_ring» ≡ freshOf 0))
+unfolding fieldOf beFrom loadOf zerosOr14 run after commands.onlineOf commands.passiveOf commands.connectOf freshStation freshCore withActivity withPending withConnectivity isOffline decisions.lengthRefusal decisions.decisionRefusal decisions.decisionOf records.headOf records.entryRefusal records.wordsRefusal records.recordRefusal steps.busyOf steps.ongoingOf steps.busActivityOf steps.doneOf steps.heardOf listening.heardAll listening.receivedAll listening.meetingsOf listening.consumedAll idling.passiveIdleOf polling.passivatedOf polling.enteredOf polling.dispatchOf polling.pollOnline polling.pollInner polling.acceptedAfter polling.acceptedPoll polling.pollOf answering.polledOf
+back = (refl, (refl, refl))
+
+met-passive : Met 9 0
+met-passive = met-by 9 0 back-online went-passive refl (back .0) (back .1 .0) (λ e. omega arith) (λ e. omega arith) (ap (λ (r : Ring). length (others r)) (back .1 .1) ∙ ap length (others-fresh 0 (omega arith)))
 
 -- ListenToken: the others were heard. Claiming changes no member.
 listens-size : (k : ℕ) → k ≤ 125 → length (others (ring-of k)) ≡ k
@@ -72,14 +88,14 @@ met-listening k l = met-by 1 k (listens-look (heard-at k) (ring-of k)) (begins-l
 
 -- ClaimToken: the token was lost and is sent for the first time.
 abbrev claims-first : Ring → Station
-claims-first r = lowestWith (ClaimToken false) (coreAt 0 0 3366 (Waiting 0)) r
+claims-first r = lowestWith 1 0 (ClaimToken false) (coreAt 0 0 3366 (Waiting 0)) r
 
 -- ActiveIdle: the claimed token is used, the application sends and expects a reply, and a token between two others comes instead.
 abbrev loses-token : List Call
 loses-token = pollSilent 3300 ∷ pollSilent 3500 ∷ poll (recordOf 3700 expects-reply []) ∷ pollHearing 4100 (token 2 3 ∷ []) ∷ []
 
 abbrev idles : Ring → Station
-idles r = lowestWith steps.toActiveIdle (coreAt 3500 64872 4100 (Waiting 0)) r
+idles r = lowestWith 1 0 steps.toActiveIdle (coreAt 3500 64872 4100 (Waiting 0)) r
 
 -- worked out for every ring, with others heard and without
 record FromListening (last : ℕ) (r : Ring) : Type 0 where
@@ -87,7 +103,7 @@ record FromListening (last : ℕ) (r : Ring) : Type 0 where
   pub loses-it : run (listens-look last r) loses-token ≡ idles (claimOf (claimOf r))
 
 from-listening : (r : Ring) → FromListening 0 r × FromListening 900 r
-unfolding rounded timeOf slotTimeOf tokenLostOf rotationTimeOf withActivity withGap withPending withTokenTimes withNextApplication withOnline after run fieldOf beFrom loadOf zerosOr14 words.responseStateOf words.telegramRefusal words.telegramOf decisions.lengthRefusal decisions.decisionRefusal decisions.decisionOf records.headOf records.telegramAt records.decisionAt records.entryRefusal records.wordsRefusal records.recordRefusal steps.knownAt steps.elapsedOf steps.waitedOf steps.markedAt steps.busyOf steps.ongoingOf steps.busActivityOf steps.doneOf polling.connectedOf polling.dispatchOf polling.pollOnline polling.pollInner polling.acceptedAfter polling.acceptedPoll polling.pollOf answering.polledOf steps.rxOf steps.tokenLostWaitOf steps.heardOf listening.heardTelegram listening.heardAll listening.receivedAll listening.consumedAll listening.listenTokenOn listening.handleLostToken listening.listenTokenOf steps.pauseOf steps.sentAt steps.transmitOf steps.withTokenTime claiming.claimNext claiming.claimTokenOf holding.declinesOn holding.declinesAt holding.usePassOf holding.appTransmitOf holding.firstOr holding.turnOf holding.askedFrom holding.askedOf holding.holdLess holding.capped holding.endOf holding.holdEndOf holding.holdsOf holding.useAppsAfter holding.useAppsOf holding.useTokenTimed holding.useTokenOf holding.validResponse holding.receivedOf holding.awaitDataOf
+unfolding rounded timeOf slotTimeOf tokenLostOf rotationTimeOf withActivity withGap withPending withTokenTimes withNextApplication withConnectivity isOffline after run fieldOf beFrom loadOf zerosOr14 words.responseStateOf words.telegramRefusal words.telegramOf decisions.lengthRefusal decisions.decisionRefusal decisions.decisionOf records.headOf records.telegramAt records.decisionAt records.entryRefusal records.wordsRefusal records.recordRefusal steps.knownAt steps.elapsedOf steps.waitedOf steps.markedAt steps.busyOf steps.ongoingOf steps.busActivityOf steps.doneOf polling.connectedOf polling.enteredOf polling.dispatchOf polling.pollOnline polling.pollInner polling.acceptedAfter polling.acceptedPoll polling.pollOf raisedBy countedOf answering.polledOf steps.rxOf steps.tokenLostWaitOf steps.heardOf steps.collisionOf listening.heardTelegram listening.heardAll listening.receivedAll listening.metToo listening.metIn listening.meetingsOf listening.consumedAll listening.listenTokenOn listening.handleLostToken listening.listenTokenOf steps.pauseOf steps.sentAt steps.transmitOf steps.withEvent steps.withTokenTime claiming.claimNext claiming.claimTokenOf holding.declinesOn holding.declinesAt holding.usePassOf holding.appTransmitOf holding.firstOr holding.turnOf holding.askedFrom holding.askedOf holding.holdLess holding.capped holding.endOf holding.holdEndOf holding.holdsOf holding.useAppsAfter holding.useAppsOf holding.useTokenTimed holding.useTokenOf holding.validResponse holding.receivedOf holding.awaitDataOf
 from-listening r = (record { claims-it = refl; loses-it = refl }, record { claims-it = refl; loses-it = refl })
 
 from-heard : (k : ℕ) (r : Ring) → FromListening (heard-at k) r
@@ -195,6 +211,7 @@ pub all-met : PremisesMet
 all-met =
     record {
       offline = met-offline;
+      was-passive = met-passive;
       listening = met-listening;
       idle = met-idle;
       claiming = met-claiming;

@@ -3,12 +3,22 @@ use mathlib.Core.Path.{_≡_, _∙_, sym}
 use denote.Ref.{now}
 use Rattle.theorem_determined.specs.Claim.{Determined}
 use Rattle.amsulfezd.proofs.amsulfezd_replay_trace.Reads as replay-trace-reads
+use Rattle.amsulfezd.proofs.amsulfezd_trace_counts.Reads as trace-counts-reads
 use Rattle.amsulfezd.proofs.amsulfezd_trace_heard.Reads as trace-heard-reads
 use Rattle.amsulfezd.proofs.amsulfezd_other_edition.Reads as other-edition-reads
 use Rattle.amsulfezd.proofs.amsulfezd_read_frame.Reads as read-frame-reads
 use Rattle.amsulfezd.proofs.amsulfezd_write_frame.Reads as write-frame-reads
 use Rattle.amsulfezd.proofs.amsulfezd_import_capture.Reads as import-capture-reads
 use Rattle.amsulfezd.proofs.amsulfezd_export_capture.Reads as export-capture-reads
+use Rattle.amsulfezd.proofs.amsulfezd_new_settings.Reads as new-settings-reads
+use Rattle.amsulfezd.proofs.amsulfezd_set_slot_bits.Reads as set-slot-bits-reads
+use Rattle.amsulfezd.proofs.amsulfezd_set_highest_station_address.Reads as set-highest-station-address-reads
+use Rattle.amsulfezd.proofs.amsulfezd_set_token_rotation_bits.Reads as set-token-rotation-bits-reads
+use Rattle.amsulfezd.proofs.amsulfezd_set_gap_wait_rotations.Reads as set-gap-wait-rotations-reads
+use Rattle.amsulfezd.proofs.amsulfezd_set_max_retry_limit.Reads as set-max-retry-limit-reads
+use Rattle.amsulfezd.proofs.amsulfezd_set_min_tsdr_bits.Reads as set-min-tsdr-bits-reads
+use Rattle.amsulfezd.proofs.amsulfezd_set_watchdog_timeout.Reads as set-watchdog-timeout-reads
+use Rattle.amsulfezd.proofs.amsulfezd_finish_settings.Reads as finish-settings-reads
 
 -- `amsulfezd_replay_trace` returns a number and writes: both are fixed, the lent buffer in every byte
 pub amsulfezd-replay-trace :
@@ -17,6 +27,14 @@ pub amsulfezd-replay-trace :
     → replay-trace-reads.Post κs a r₂ s₂
     → (r₁ ≡ r₂) × (now (s₁ .1 .0) ≡ now (s₂ .1 .0))
 amsulfezd-replay-trace κs a r₁ r₂ s₁ s₂ p q = (p .0 ∙ sym (q .0), p .1 ∙ sym (q .1))
+
+-- so does `amsulfezd_trace_counts`
+pub amsulfezd-trace-counts :
+    (κs : _) (a : _) (r₁ r₂ : _) (s₁ s₂ : _)
+    → trace-counts-reads.Post κs a r₁ s₁
+    → trace-counts-reads.Post κs a r₂ s₂
+    → (r₁ ≡ r₂) × (now (s₁ .1 .0) ≡ now (s₂ .1 .0))
+amsulfezd-trace-counts κs a r₁ r₂ s₁ s₂ p q = (p .0 ∙ sym (q .0), p .1 ∙ sym (q .1))
 
 -- so does `amsulfezd_trace_heard`
 pub amsulfezd-trace-heard :
@@ -60,3 +78,64 @@ pub amsulfezd-export-capture :
     → export-capture-reads.Post κs a r₂ s₂
     → (r₁ ≡ r₂) × (now (s₁ .1 .0) ≡ now (s₂ .1 .0)) × (now (s₁ .1 .1 .0) ≡ now (s₂ .1 .1 .0)) × (now (s₁ .1 .1 .1 .0) ≡ now (s₂ .1 .1 .1 .0))
 amsulfezd-export-capture κs a r₁ r₂ s₁ s₂ p q = (p .0 ∙ sym (q .0), p .1 .0 ∙ sym (q .1 .0), p .1 .1 .0 ∙ sym (q .1 .1 .0), p .1 .1 .1 ∙ sym (q .1 .1 .1))
+
+-- `amsulfezd_new_settings` returns a number and writes: both are fixed
+pub amsulfezd-new-settings :
+    (κs : _) (a : _) (r₁ r₂ : _) (s₁ s₂ : _)
+    → new-settings-reads.Post κs a r₁ s₁
+    → new-settings-reads.Post κs a r₂ s₂
+    → (r₁ ≡ r₂) × (now (s₁ .1 .1 .1 .0) ≡ now (s₂ .1 .1 .1 .0))
+amsulfezd-new-settings κs a r₁ r₂ s₁ s₂ p q = (p .0 ∙ sym (q .0), p .1 ∙ sym (q .1))
+
+-- so does each setter
+pub amsulfezd-set-slot-bits :
+    (κs : _) (a : _) (r₁ r₂ : _) (s₁ s₂ : _)
+    → set-slot-bits-reads.Post κs a r₁ s₁
+    → set-slot-bits-reads.Post κs a r₂ s₂
+    → (r₁ ≡ r₂) × (now (s₁ .0) ≡ now (s₂ .0))
+amsulfezd-set-slot-bits κs a r₁ r₂ s₁ s₂ p q = (p .0 ∙ sym (q .0), p .1 ∙ sym (q .1))
+
+pub amsulfezd-set-highest-station-address :
+    (κs : _) (a : _) (r₁ r₂ : _) (s₁ s₂ : _)
+    → set-highest-station-address-reads.Post κs a r₁ s₁
+    → set-highest-station-address-reads.Post κs a r₂ s₂
+    → (r₁ ≡ r₂) × (now (s₁ .0) ≡ now (s₂ .0))
+amsulfezd-set-highest-station-address κs a r₁ r₂ s₁ s₂ p q = (p .0 ∙ sym (q .0), p .1 ∙ sym (q .1))
+
+pub amsulfezd-set-token-rotation-bits :
+    (κs : _) (a : _) (r₁ r₂ : _) (s₁ s₂ : _)
+    → set-token-rotation-bits-reads.Post κs a r₁ s₁
+    → set-token-rotation-bits-reads.Post κs a r₂ s₂
+    → (r₁ ≡ r₂) × (now (s₁ .0) ≡ now (s₂ .0))
+amsulfezd-set-token-rotation-bits κs a r₁ r₂ s₁ s₂ p q = (p .0 ∙ sym (q .0), p .1 ∙ sym (q .1))
+
+pub amsulfezd-set-gap-wait-rotations :
+    (κs : _) (a : _) (r₁ r₂ : _) (s₁ s₂ : _)
+    → set-gap-wait-rotations-reads.Post κs a r₁ s₁
+    → set-gap-wait-rotations-reads.Post κs a r₂ s₂
+    → (r₁ ≡ r₂) × (now (s₁ .0) ≡ now (s₂ .0))
+amsulfezd-set-gap-wait-rotations κs a r₁ r₂ s₁ s₂ p q = (p .0 ∙ sym (q .0), p .1 ∙ sym (q .1))
+
+pub amsulfezd-set-max-retry-limit :
+    (κs : _) (a : _) (r₁ r₂ : _) (s₁ s₂ : _)
+    → set-max-retry-limit-reads.Post κs a r₁ s₁
+    → set-max-retry-limit-reads.Post κs a r₂ s₂
+    → (r₁ ≡ r₂) × (now (s₁ .0) ≡ now (s₂ .0))
+amsulfezd-set-max-retry-limit κs a r₁ r₂ s₁ s₂ p q = (p .0 ∙ sym (q .0), p .1 ∙ sym (q .1))
+
+pub amsulfezd-set-min-tsdr-bits :
+    (κs : _) (a : _) (r₁ r₂ : _) (s₁ s₂ : _)
+    → set-min-tsdr-bits-reads.Post κs a r₁ s₁
+    → set-min-tsdr-bits-reads.Post κs a r₂ s₂
+    → (r₁ ≡ r₂) × (now (s₁ .0) ≡ now (s₂ .0))
+amsulfezd-set-min-tsdr-bits κs a r₁ r₂ s₁ s₂ p q = (p .0 ∙ sym (q .0), p .1 ∙ sym (q .1))
+
+pub amsulfezd-set-watchdog-timeout :
+    (κs : _) (a : _) (r₁ r₂ : _) (s₁ s₂ : _)
+    → set-watchdog-timeout-reads.Post κs a r₁ s₁
+    → set-watchdog-timeout-reads.Post κs a r₂ s₂
+    → (r₁ ≡ r₂) × (now (s₁ .0) ≡ now (s₂ .0))
+amsulfezd-set-watchdog-timeout κs a r₁ r₂ s₁ s₂ p q = (p .0 ∙ sym (q .0), p .1 ∙ sym (q .1))
+
+pub amsulfezd-finish-settings : Determined finish-settings-reads.Post
+amsulfezd-finish-settings κs a r₁ r₂ s₁ s₂ p q = p ∙ sym q

@@ -1,16 +1,29 @@
--- Determined, for the public calls of heard.
+-- Determined, for the public calls of heard, heard_telegrams and heard_shown.
 use mathlib.Core.Path.{_≡_, _∙_, sym}
 use denote.Ref.{now}
 use Rattle.theorem_determined.specs.Claim.{Determined}
 use Rattle.heard.proofs.heard_refusal.Reads as heard-refusal-reads
-use Rattle.heard.proofs.hear.Reads as hear-reads
-use Rattle.heard.proofs.hear_record.Reads as hear-record-reads
-use Rattle.heard.proofs.lookup.Reads as lookup-reads
-use Rattle.heard.proofs.lookup_number.Reads as lookup-number-reads
-use Rattle.heard.proofs.summary.Reads as summary-reads
+use Rattle.heard.proofs.read_entry.Reads as read-entry-reads
+use Rattle.heard.proofs.write_entry.Reads as write-entry-reads
+use Rattle.heard_telegrams.proofs.hear.Reads as hear-reads
+use Rattle.heard_telegrams.proofs.hear_record.Reads as hear-record-reads
+use Rattle.heard_shown.proofs.lookup.Reads as lookup-reads
+use Rattle.heard_shown.proofs.lookup_number.Reads as lookup-number-reads
+use Rattle.heard_shown.proofs.summary.Reads as summary-reads
 
 pub heard-refusal : Determined heard-refusal-reads.Post
 heard-refusal κs a r₁ r₂ s₁ s₂ p q = p ∙ sym q
+
+pub read-entry : Determined read-entry-reads.Post
+read-entry κs a r₁ r₂ s₁ s₂ p q = p ∙ sym q
+
+-- `write_entry` returns nothing and writes: what it leaves in the lent slice is fixed, every byte
+pub write-entry :
+    (κs : _) (a : _) (r₁ r₂ : _) (s₁ s₂ : _)
+    → write-entry-reads.Post κs a r₁ s₁
+    → write-entry-reads.Post κs a r₂ s₂
+    → now (s₁ .0) ≡ now (s₂ .0)
+write-entry κs a r₁ r₂ s₁ s₂ p q = p ∙ sym q
 
 -- `hear` returns nothing and writes: what it leaves in the lent table is fixed, every byte
 pub hear : (κs : _) (a : _) (r₁ r₂ : _) (s₁ s₂ : _) → hear-reads.Post κs a r₁ s₁ → hear-reads.Post κs a r₂ s₂ → now (s₁ .0) ≡ now (s₂ .0)

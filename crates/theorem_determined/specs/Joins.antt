@@ -18,7 +18,7 @@ abbrev headOf : Ring → Head
 headOf r = record { laps = r .laps; own = r .own; ready = r .ready }
 
 abbrev stationHead : Station → StationHead
-stationHead s = record { state = s .state; core = s .core; «token_ring» = headOf (s .«token_ring»); p = s .p; applications = s .applications }
+stationHead s = record { state = s .state; core = s .core; «token_ring» = headOf (s .«token_ring»); p = s .p; counts = s .counts; applications = s .applications }
 
 abbrev startedHead : Started → StartedHead
 startedHead s = record { station = stationHead (s .station); refusal = s .refusal }
@@ -27,7 +27,7 @@ abbrev ringStepHead : RingStep → RingStepHead
 ringStepHead s = record { step = s .step; ring = headOf (s .ring) }
 
 abbrev heardHead : Heard → HeardHead
-heardHead h = record { state = h .state; core = h .core; ring = headOf (h .ring); outcome = h .outcome }
+heardHead h = record { state = h .state; core = h .core; ring = headOf (h .ring); outcome = h .outcome; met = h .met }
 
 abbrev polledHead : Polled → PolledHead
 polledHead r = record { station = stationHead (r .station); answer = r .answer }

@@ -10,6 +10,7 @@ pub mod SettingsBuild
 pub mod RingAddresses
 pub mod RingLinks
 pub mod Ring
+pub mod RingMembers
 pub mod CodecFields
 pub mod CodecSlices
 pub mod CodecTelegrams
@@ -28,6 +29,7 @@ pub mod StationHold
 pub mod StationHearListen
 pub mod StationHearActive
 pub mod StationListen
+pub mod StationPassive
 pub mod StationPass
 pub mod StationAwaitStatus
 pub mod StationCheckPass
@@ -38,6 +40,11 @@ pub mod Heard
 pub mod TraceHeaders
 pub mod TraceHeadersWritten
 pub mod TraceEditions
+pub mod SettingsHeader
 pub mod Trace
+pub mod TraceCounts
 pub mod TraceHeard
+pub mod BusSetup
+pub mod BusWire
+pub mod Bus
 pub mod Amsulfezd

@@ -3,14 +3,16 @@ use mathlib.Core.Path.{_∙_, sym}
 use mathlib.Core.List.{[]}
 use denote.Ref.{now}
 use Rattle.theorem_determined.specs.Claim.{Determined, DeterminedLent}
-use Rattle.theorem_determined.specs.Joins.{started-same, heard-same}
+use Rattle.theorem_determined.specs.Joins.{started-same, ring-step-same, heard-same}
 use Rattle.station.proofs.with_activity.Reads as with-activity-reads
 use Rattle.station.proofs.with_gap.Reads as with-gap-reads
 use Rattle.station.proofs.with_token_times.Reads as with-token-times-reads
 use Rattle.station.proofs.with_next_application.Reads as with-next-application-reads
-use Rattle.station.proofs.with_online.Reads as with-online-reads
+use Rattle.station.proofs.with_connectivity.Reads as with-connectivity-reads
+use Rattle.station.proofs.is_offline.Reads as is-offline-reads
 use Rattle.station.proofs.state_number.Reads as state-number-reads
 use Rattle.station.proofs.transition_listen_token.Reads as transition-listen-token-reads
+use Rattle.station.proofs.transition_passive_idle.Reads as transition-passive-idle-reads
 use Rattle.station.proofs.transition_active_idle.Reads as transition-active-idle-reads
 use Rattle.station.proofs.transition_use_token.Reads as transition-use-token-reads
 use Rattle.station.proofs.fresh_core.Reads as fresh-core-reads
@@ -24,7 +26,9 @@ use Rattle.station.proofs.check_slot_expired.Reads as check-slot-expired-reads
 use Rattle.station.proofs.token_lost.Reads as token-lost-reads
 use Rattle.station.proofs.done.Reads as done-reads
 use Rattle.station.proofs.transmit.Reads as transmit-reads
+use Rattle.station.proofs.with_event.Reads as with-event-reads
 use Rattle.station.proofs.hearing.Reads as hearing-reads
+use Rattle.station.proofs.colliding.Reads as colliding-reads
 use Rattle.station.proofs.is_last_request_to_us.Reads as is-last-request-to-us-reads
 
 pub with-activity : Determined with-activity-reads.Post
@@ -39,14 +43,20 @@ with-token-times κs a r₁ r₂ s₁ s₂ p q = p ∙ sym q
 pub with-next-application : Determined with-next-application-reads.Post
 with-next-application κs a r₁ r₂ s₁ s₂ p q = p ∙ sym q
 
-pub with-online : Determined with-online-reads.Post
-with-online κs a r₁ r₂ s₁ s₂ p q = p ∙ sym q
+pub with-connectivity : Determined with-connectivity-reads.Post
+with-connectivity κs a r₁ r₂ s₁ s₂ p q = p ∙ sym q
+
+pub is-offline : Determined is-offline-reads.Post
+is-offline κs a r₁ r₂ s₁ s₂ p q = p ∙ sym q
 
 pub state-number : Determined state-number-reads.Post
 state-number κs a r₁ r₂ s₁ s₂ p q = p ∙ sym q
 
 pub transition-listen-token : Determined transition-listen-token-reads.Post
 transition-listen-token κs a r₁ r₂ s₁ s₂ p q = p ∙ sym q
+
+pub transition-passive-idle : Determined transition-passive-idle-reads.Post
+transition-passive-idle κs a r₁ r₂ s₁ s₂ p q = p ∙ sym q
 
 pub transition-active-idle : Determined transition-active-idle-reads.Post
 transition-active-idle κs a r₁ r₂ s₁ s₂ p q = p ∙ sym q
@@ -87,8 +97,14 @@ done κs a r₁ r₂ s₁ s₂ p q = p ∙ sym q
 pub transmit : Determined transmit-reads.Post
 transmit κs a r₁ r₂ s₁ s₂ p q = p ∙ sym q
 
+pub with-event : Determined with-event-reads.Post
+with-event κs a r₁ r₂ s₁ s₂ p q = ring-step-same r₁ r₂ [] [] (p [] ∙ sym (q [])) .0
+
 pub hearing : Determined hearing-reads.Post
 hearing κs a r₁ r₂ s₁ s₂ p q = heard-same r₁ r₂ [] [] (p [] ∙ sym (q [])) .0
+
+pub colliding : Determined colliding-reads.Post
+colliding κs a r₁ r₂ s₁ s₂ p q = heard-same r₁ r₂ [] [] (p [] ∙ sym (q [])) .0
 
 pub is-last-request-to-us : Determined is-last-request-to-us-reads.Post
 is-last-request-to-us κs a r₁ r₂ s₁ s₂ p q = p ∙ sym q

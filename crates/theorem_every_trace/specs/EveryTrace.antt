@@ -12,7 +12,7 @@ use lib.Pow.{high, low}
 use lib.Dec.{eqb}
 use Rattle.station.specs.Whole.{Station}
 use Rattle.trace_headers.specs.Headers.{headerLength}
-use Rattle.theorem_sound.specs.Unchanged.{poll-unchanged, passive-unchanged, online-refusal, offline-refusal}
+use Rattle.theorem_sound.specs.Unchanged.{poll-unchanged, online-refusal, offline-refusal, passive-refusal}
 use Rattle.trace.specs.Trace.{TraceStart, Accepted, Refused, startOf, answered, runOf, ranOf, replayOn, replayOf, numberOf, written, bufferOf}
 use Rattle.trace.specs.Entries.{entryOf}
 use Rattle.trace.specs.Laws.{precededBy, replay-refused, run-none, run-more}
@@ -39,7 +39,7 @@ refused-entry-changes-nothing s kind bytes n =
     (λ a. cases (eqb kind 1)
     (λ b. absurd (n (rw (a, b) (offline-refusal s))))
     (λ b. cases (eqb kind 2)
-    (λ d. rw (a, b, d) (passive-unchanged s))
+    (λ d. absurd (n (rw (a, b, d) (passive-refusal s))))
     (λ d. rw (a, b, d) (poll-unchanged s bytes (λ z. n (rw (a, b, d) z))))))
 
 -- the run over a longer trace begins with the run over a part of it that ends at an entry: the same answers, then those of the rest, from

@@ -25,11 +25,13 @@ use Rattle.codec_answers.specs.declared.Answer.{Answer}
 use Rattle.codec_answers.specs.declared.Sent.{Sent}
 use Rattle.codec_answers.specs.declared.Sent.the-variants as sent
 use Rattle.codec_answers.specs.Answers.{answerWord}
+use Rattle.station.specs.declared.ConnectivityState.the-variants as connectivity
 use Rattle.station.specs.declared.OptionAddress.the-variants as optionAddress
 use Rattle.station.specs.declared.Activity.{Activity}
 use Rattle.station.specs.declared.Activity.the-variants as activity
 use Rattle.station.specs.declared.PassTokenAttempt.the-variants.{First}
 use Rattle.station.specs.declared.State.the-variants.{Offline, ListenToken, PassToken}
+use Rattle.station.specs.declared.Counts.{Counts}
 use Rattle.station.specs.Whole.{Station}
 use Rattle.station.specs.Parts.{withGap, zeroTime}
 use Rattle.station_answer.specs.Answer.{Polled}
@@ -156,19 +158,24 @@ example12 =
 abbrev pub example9 : TraceParts
 example9 = record { header = example12 .header; entries = example12 .entries ++ (pollEntry (pollRecord 7664 []) ∷ []) }
 
+-- what a station has counted: claims, removals, meetings
+abbrev pub countsOf : ℕ → ℕ → ℕ → Counts
+countsOf claimed removed met = record { claims = claimed; removals = removed; meetings = met }
+
 abbrev pub aloneStation : Station
 aloneStation =
     record {
       state = PassToken true First;
-      core = record { «last_token_time» = record { 0 = 7532 }; «end_token_hold_time» = record { 0 = 64872 }; «last_bus_activity» = activity.At (record { 0 = 7598 }); «gap_state» = Waiting 0; «pending_bytes» = 0; «next_application» = 0; online = true };
+      core = record { «last_token_time» = record { 0 = 7532 }; «end_token_hold_time» = record { 0 = 64872 }; «last_bus_activity» = activity.At (record { 0 = 7598 }); «gap_state» = Waiting 0; «pending_bytes» = 0; «next_application» = 0; «connectivity_state» = connectivity.Online };
       «token_ring» = record { links = linksOf (among (5 ∷ [])); own = 5; laps = 0; ready = true };
       p = example 10;
+      counts = countsOf 1 0 0;
       applications = 1;
     }
 
 -- it with another gap state (for example 8; a walk begins at our own address when the count has come to 11)
 abbrev pub withGapState : Station → GapState → Station
-withGapState s x = record { state = s .state; core = withGap (s .core) x; «token_ring» = s .«token_ring»; p = s .p; applications = s .applications }
+withGapState s x = record { state = s .state; core = withGap (s .core) x; «token_ring» = s .«token_ring»; p = s .p; counts = s .counts; applications = s .applications }
 
 -- Example 10's trace: a token from 9 to us is heard, then nothing; the token is claimed, sent twice and used. The station has the
 -- neighbour 9 and starts a token pass.
@@ -180,9 +187,10 @@ abbrev pub neighbourStation : Station
 neighbourStation =
     record {
       state = PassToken true First;
-      core = record { «last_token_time» = record { 0 = 7700 }; «end_token_hold_time» = record { 0 = 64872 }; «last_bus_activity» = activity.At (record { 0 = 7766 }); «gap_state» = Waiting 0; «pending_bytes» = 0; «next_application» = 0; online = true };
+      core = record { «last_token_time» = record { 0 = 7700 }; «end_token_hold_time» = record { 0 = 64872 }; «last_bus_activity» = activity.At (record { 0 = 7766 }); «gap_state» = Waiting 0; «pending_bytes» = 0; «next_application» = 0; «connectivity_state» = connectivity.Online };
       «token_ring» = record { links = linksOf (among (5 ∷ 9 ∷ [])); own = 5; laps = 1; ready = true };
       p = example 10;
+      counts = countsOf 1 0 0;
       applications = 1;
     }
 
@@ -205,25 +213,29 @@ example11 =
           ∷ [];
     }
 
--- the station of example 11 before the poll: in ListenToken after one collision, and in nothing as a fresh one
+-- the station of example 11 before the poll: in ListenToken after one collision, and in nothing as a fresh one. It has claimed once and
+-- met its own address three times
 abbrev pub collidedOnce : Station
 collidedOnce =
     record {
       state = ListenToken optionAddress.None 1;
-      core = record { «last_token_time» = record { 0 = 9400 }; «end_token_hold_time» = record { 0 = 72672 }; «last_bus_activity» = activity.At (record { 0 = 10200 }); «gap_state» = DoPoll 6; «pending_bytes» = 7; «next_application» = 1; online = true };
+      core = record { «last_token_time» = record { 0 = 9400 }; «end_token_hold_time» = record { 0 = 72672 }; «last_bus_activity» = activity.At (record { 0 = 10200 }); «gap_state» = DoPoll 6; «pending_bytes» = 7; «next_application» = 1; «connectivity_state» = connectivity.Online };
       «token_ring» = record { links = linksOf (among (5 ∷ 9 ∷ 12 ∷ [])); own = 5; laps = 2; ready = true };
       p = example 1;
+      counts = countsOf 1 0 3;
       applications = 2;
     }
 
--- and after it: a fresh station, as document 01 has it, with this activity
+-- and after it: a fresh station, as document 01 has it, but for this activity and for what was counted (document 02, P6): one collision
+-- more. The telegram behind it is not counted
 abbrev pub freshBut : Activity → Station
 freshBut last =
     record {
       state = Offline;
-      core = record { «last_token_time» = zeroTime; «end_token_hold_time» = zeroTime; «last_bus_activity» = last; «gap_state» = Waiting 0; «pending_bytes» = 0; «next_application» = 0; online = false };
+      core = record { «last_token_time» = zeroTime; «end_token_hold_time» = zeroTime; «last_bus_activity» = last; «gap_state» = Waiting 0; «pending_bytes» = 0; «next_application» = 0; «connectivity_state» = connectivity.Offline };
       «token_ring» = record { links = linksOf (among (5 ∷ [])); own = 5; laps = 0; ready = false };
       p = example 1;
+      counts = countsOf 1 0 4;
       applications = 2;
     }
 

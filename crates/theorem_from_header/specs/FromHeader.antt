@@ -22,7 +22,7 @@ use Rattle.station.specs.declared.State.the-variants.{PassToken}
 use Rattle.station.specs.Whole.{Station}
 use Rattle.station.specs.Parts.{freshStation}
 use Rattle.station_answer.specs.Answer.{polledOf, refusedPoll}
-use Rattle.station_command.specs.Command.{onlineOf, offlineOf, passiveOf}
+use Rattle.station_command.specs.Command.{connectOf, onlineOf, offlineOf, passiveOf}
 use Rattle.station_poll.specs.Poll.{acceptedAfter, acceptedPoll, pollOf}
 use Rattle.trace_headers.specs.declared.Header.{Header}
 use Rattle.trace_headers.specs.Headers.{headerOf, headerRefusal}
@@ -127,7 +127,7 @@ unfolding pollOf acceptedPoll acceptedAfter polledOf refusedPoll
 poll-applications s bytes = cases (eqb (recordRefusal bytes (s .applications)) 0) (λ e. rw e) (λ e. rw e)
 
 after-applications : (s : Station) (c : Call) → after s c .applications ≡ s .applications
-unfolding after onlineOf offlineOf passiveOf polledOf refusedPoll
+unfolding after onlineOf offlineOf passiveOf connectOf polledOf
 after-applications s (poll bytes) = poll-applications s bytes
 after-applications s online = refl
 after-applications s offline = refl
@@ -187,7 +187,7 @@ run-from-header trace fresh bytes room e =
 pub start-in-trace :
     (trace : List ℕ) (fresh : Station) (es : List Entry)
     → startOf trace ≡ Accepted fresh
-    → silence.online (along fresh es .station) ≡ true
+    → silence.Online (along fresh es .station)
     → (gap : Bool)
     → along fresh es .station .state ≡ PassToken gap First
     → gapDue (along fresh es .station .p) (along fresh es .station .core) (along fresh es .station .«token_ring») gap ≡ false
@@ -198,7 +198,7 @@ start-in-trace trace fresh es e on gap state due = start-of-calls (along fresh e
 pub silence-inside :
     (trace : List ℕ) (fresh : Station) (es : List Entry) (records : List (List ℕ))
     → startOf trace ≡ Accepted fresh
-    → silence.online (along fresh es .station) ≡ true
+    → silence.Online (along fresh es .station)
     → (gap : Bool)
     → along fresh es .station .state ≡ PassToken gap First
     → gapDue (along fresh es .station .p) (along fresh es .station .core) (along fresh es .station .«token_ring») gap ≡ false

@@ -27,7 +27,7 @@ use Rattle.codec_answers.specs.declared.Sent.the-variants.{Token}
 use Rattle.station.specs.declared.PassTokenAttempt.the-variants.{First}
 use Rattle.station.specs.declared.State.the-variants.{PassToken}
 use Rattle.station.specs.Whole.{Station}
-use Rattle.station.specs.Parts.{freshStation, freshCore, withActivity, withGap, withPending, withTokenTimes, withNextApplication, withOnline}
+use Rattle.station.specs.Parts.{freshStation, freshCore, withActivity, withGap, withPending, withTokenTimes, withNextApplication, withConnectivity, isOffline}
 use Rattle.station.specs.Steps as steps
 use Rattle.station_hear_listen.specs.HearListen as hear
 use Rattle.station_listen.specs.Listen as listening
@@ -35,13 +35,14 @@ use Rattle.station_hold.specs.Hold as holding
 use Rattle.station_pass.specs.Pass as passing
 use Rattle.station_check_pass.specs.CheckPass as checking
 use Rattle.station_claim.specs.Claim as claiming
+use Rattle.station_answer.specs.Counted.{raisedBy, countedOf}
 use Rattle.station_answer.specs.Answer as answering
 use Rattle.station_command.specs.Command as commands
 use Rattle.station_poll.specs.Poll as polling
 use Rattle.trace_headers.specs.Headers as headers
 use Rattle.trace.specs.Entries as entries
 use Rattle.trace.specs.Trace.{settingsOf, settingsAt, Accepted, startedWith, startOf, replayOf, bufferOf}
-use Rattle.theorem_silence.specs.Silence.{AllQuiet, online, gapDue, slotAfter, counted, countedIn, tokens}
+use Rattle.theorem_silence.specs.Silence.{AllQuiet, Online, gapDue, slotAfter, counted, countedIn, tokens}
 use Rattle.theorem_silence.specs.Shown.{withRing, ring-is, ring-nine, claimed-nine}
 use Rattle.theorem_silence.specs.SilentRecords.{silentAt, silent-quiet}
 use Rattle.theorem_every_trace.specs.Statement.{Entry, Whole, laid, along}
@@ -110,7 +111,7 @@ reached = along (freshStation settings 1) earlier .station
 
 record Reached : Type 0 where
   pub whole : Whole earlier
-  pub on : online reached ≡ true
+  pub on : Online reached
   pub state : reached .state ≡ PassToken true First
   pub due : gapDue (reached .p) (reached .core) (reached .«token_ring») true ≡ false
   pub neighbour : others (reached .«token_ring») ≡ 9 ∷ []
@@ -118,7 +119,7 @@ record Reached : Type 0 where
 
 -- its ring, which heard a token from 9 and was claimed twice
 reached-ring : reached .«token_ring» ≡ claimOf (claimOf (witnessOf (freshOf 5) 9 5))
-unfolding entries.recordLength entries.entryOf fieldOf beFrom loadOf rounded timeOf slotTimeOf tokenLostOf rotationTimeOf prevOf freshStation freshCore withActivity withGap withPending withTokenTimes withNextApplication withOnline zerosOr14 decisions.lengthRefusal words.responseStateOf decisions.decisionRefusal words.telegramRefusal words.telegramOf decisions.decisionOf records.headOf records.telegramAt records.decisionAt records.entryRefusal records.wordsRefusal records.recordRefusal steps.knownAt steps.elapsedOf steps.markedAt steps.busyOf steps.ongoingOf steps.waitedOf steps.pauseOf steps.sentAt steps.busActivityOf steps.rxOf steps.slotExpiredOf steps.tokenLostWaitOf steps.doneOf steps.transmitOf steps.heardOf hear.listenHeard hear.listenTelegram listening.heardTelegram listening.heardAll listening.receivedAll listening.consumedAll listening.listenTokenOn listening.handleLostToken listening.listenTokenOf polling.connectedOf polling.dispatchOf polling.pollOnline polling.pollInner answering.polledOf polling.acceptedAfter polling.acceptedPoll polling.pollOf commands.onlineOf claiming.claimNext claiming.claimTokenOf steps.withTokenTime holding.declinesOn holding.declinesAt holding.usePassOf holding.appTransmitOf holding.firstOr holding.turnOf holding.askedFrom holding.askedOf holding.holdLess holding.capped holding.endOf holding.holdEndOf holding.holdsOf holding.useAppsAfter holding.useAppsOf holding.useTokenTimed holding.useTokenOf passing.gapAdvanced gapDue passing.passSentOn passing.passSend passing.passPollOn passing.passPoll passing.passTokenOf checking.resendOf checking.checkReceived checking.checkTokenPassOf counted countedIn slotAfter answering.stepAnswer
+unfolding entries.recordLength entries.entryOf fieldOf beFrom loadOf rounded timeOf slotTimeOf tokenLostOf rotationTimeOf prevOf freshStation freshCore withActivity withGap withPending withTokenTimes withNextApplication withConnectivity isOffline zerosOr14 decisions.lengthRefusal words.responseStateOf decisions.decisionRefusal words.telegramRefusal words.telegramOf decisions.decisionOf records.headOf records.telegramAt records.decisionAt records.entryRefusal records.wordsRefusal records.recordRefusal steps.knownAt steps.elapsedOf steps.markedAt steps.busyOf steps.ongoingOf steps.waitedOf steps.pauseOf steps.sentAt steps.busActivityOf steps.rxOf steps.slotExpiredOf steps.tokenLostWaitOf steps.doneOf steps.transmitOf steps.withEvent steps.heardOf hear.sentByUs hear.notedOf hear.witnessedOf hear.overheardOf steps.collisionOf hear.listenHeard hear.listenTelegram listening.heardTelegram listening.heardAll listening.receivedAll listening.metToo listening.metIn listening.meetingsOf listening.consumedAll listening.listenTokenOn listening.handleLostToken listening.listenTokenOf polling.connectedOf polling.enteredOf polling.dispatchOf polling.pollOnline polling.pollInner raisedBy countedOf answering.polledOf polling.acceptedAfter polling.acceptedPoll polling.pollOf commands.onlineOf commands.connectOf claiming.claimNext claiming.claimTokenOf steps.withTokenTime holding.declinesOn holding.declinesAt holding.usePassOf holding.appTransmitOf holding.firstOr holding.turnOf holding.askedFrom holding.askedOf holding.holdLess holding.capped holding.endOf holding.holdEndOf holding.holdsOf holding.useAppsAfter holding.useAppsOf holding.useTokenTimed holding.useTokenOf passing.gapAdvanced gapDue passing.passSentOn passing.passSend passing.passPollOn passing.passPoll passing.passTokenOf checking.removalOf checking.resendOf checking.checkReceived checking.checkTokenPassOf counted countedIn slotAfter answering.stepAnswer
 reached-ring = refl
 
 reached-is : reached ≡ withRing reached ring-nine
@@ -126,7 +127,7 @@ reached-is = ring-is reached ring-nine (reached-ring ∙ claimed-nine)
 
 -- worked out from the definitions
 worked : Reached
-unfolding entries.recordLength entries.entryOf fieldOf beFrom loadOf rounded timeOf slotTimeOf tokenLostOf rotationTimeOf walk nearest betweenOf roundOf lapsOf listed afterOf beforeOf linkAt tab linksOf linkOf unlinkOf behindOf insertOf sweepOf relinkOf followsOf confirmsOf rings.counted has make others freshOf witnessOf claimOf nextOf prevOf freshStation freshCore withActivity withGap withPending withTokenTimes withNextApplication withOnline zerosOr14 decisions.lengthRefusal words.responseStateOf decisions.decisionRefusal words.telegramRefusal words.telegramOf decisions.decisionOf records.headOf records.telegramAt records.decisionAt records.entryRefusal records.wordsRefusal records.recordRefusal steps.knownAt steps.elapsedOf steps.markedAt steps.busyOf steps.ongoingOf steps.waitedOf steps.pauseOf steps.sentAt steps.busActivityOf steps.rxOf steps.slotExpiredOf steps.tokenLostWaitOf steps.doneOf steps.transmitOf steps.heardOf hear.listenHeard hear.listenTelegram listening.heardTelegram listening.heardAll listening.receivedAll listening.consumedAll listening.listenTokenOn listening.handleLostToken listening.listenTokenOf polling.connectedOf polling.dispatchOf polling.pollOnline polling.pollInner answering.polledOf polling.acceptedAfter polling.acceptedPoll polling.pollOf commands.onlineOf claiming.claimNext claiming.claimTokenOf steps.withTokenTime holding.declinesOn holding.declinesAt holding.usePassOf holding.appTransmitOf holding.firstOr holding.turnOf holding.askedFrom holding.askedOf holding.holdLess holding.capped holding.endOf holding.holdEndOf holding.holdsOf holding.useAppsAfter holding.useAppsOf holding.useTokenTimed holding.useTokenOf passing.gapAdvanced gapDue passing.passSentOn passing.passSend passing.passPollOn passing.passPoll passing.passTokenOf checking.resendOf checking.checkReceived checking.checkTokenPassOf removeOf counted countedIn slotAfter answering.stepAnswer
+unfolding entries.recordLength entries.entryOf fieldOf beFrom loadOf rounded timeOf slotTimeOf tokenLostOf rotationTimeOf walk nearest betweenOf roundOf lapsOf listed afterOf beforeOf linkAt tab linksOf linkOf unlinkOf behindOf insertOf sweepOf relinkOf followsOf confirmsOf rings.counted has make others freshOf witnessOf claimOf nextOf prevOf freshStation freshCore withActivity withGap withPending withTokenTimes withNextApplication withConnectivity isOffline zerosOr14 decisions.lengthRefusal words.responseStateOf decisions.decisionRefusal words.telegramRefusal words.telegramOf decisions.decisionOf records.headOf records.telegramAt records.decisionAt records.entryRefusal records.wordsRefusal records.recordRefusal steps.knownAt steps.elapsedOf steps.markedAt steps.busyOf steps.ongoingOf steps.waitedOf steps.pauseOf steps.sentAt steps.busActivityOf steps.rxOf steps.slotExpiredOf steps.tokenLostWaitOf steps.doneOf steps.transmitOf steps.withEvent steps.heardOf hear.sentByUs hear.notedOf hear.witnessedOf hear.overheardOf steps.collisionOf hear.listenHeard hear.listenTelegram listening.heardTelegram listening.heardAll listening.receivedAll listening.metToo listening.metIn listening.meetingsOf listening.consumedAll listening.listenTokenOn listening.handleLostToken listening.listenTokenOf polling.connectedOf polling.enteredOf polling.dispatchOf polling.pollOnline polling.pollInner raisedBy countedOf answering.polledOf polling.acceptedAfter polling.acceptedPoll polling.pollOf commands.onlineOf commands.connectOf claiming.claimNext claiming.claimTokenOf steps.withTokenTime holding.declinesOn holding.declinesAt holding.usePassOf holding.appTransmitOf holding.firstOr holding.turnOf holding.askedFrom holding.askedOf holding.holdLess holding.capped holding.endOf holding.holdEndOf holding.holdsOf holding.useAppsAfter holding.useAppsOf holding.useTokenTimed holding.useTokenOf passing.gapAdvanced gapDue passing.passSentOn passing.passSend passing.passPollOn passing.passPoll passing.passTokenOf checking.removalOf checking.resendOf checking.checkReceived checking.checkTokenPassOf removeOf counted countedIn slotAfter answering.stepAnswer
 worked =
     record {
       whole = (refl, (refl, (refl, (refl, (refl, (refl, tt))))));

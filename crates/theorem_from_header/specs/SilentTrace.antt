@@ -26,7 +26,7 @@ use Rattle.station.specs.declared.State.the-variants.{PassToken}
 use Rattle.station.specs.Whole.{Station}
 use Rattle.trace_headers.specs.Headers.{headerLength, headerOf}
 use Rattle.trace.specs.Trace.{Accepted, startOf, replayOf, bufferOf}
-use Rattle.theorem_silence.specs.Silence.{online, gapDue, AllQuiet, until, told, countedIn, tokens}
+use Rattle.theorem_silence.specs.Silence.{Online, gapDue, AllQuiet, until, told, countedIn, tokens}
 use Rattle.theorem_every_trace.specs.Statement.{Entry, Whole, laid, along}
 use Rattle.theorem_from_header.specs.AnswersRead.{wordAt}
 
@@ -90,7 +90,7 @@ pub record SilentTrace (trace before : List ℕ) : Type 0 where
   pub fresh : Station
   pub starts : startOf trace ≡ Accepted fresh
   -- the station that the entries leave is online, in PassToken at its first attempt, and no gap question is due
-  pub not-offline : online (along fresh earlier .station) ≡ true
+  pub not-offline : Online (along fresh earlier .station)
   pub gap : Bool
   pub passing : along fresh earlier .station .state ≡ PassToken gap First
   pub no-question : gapDue (along fresh earlier .station .p) (along fresh earlier .station .core) (along fresh earlier .station .«token_ring») gap ≡ false

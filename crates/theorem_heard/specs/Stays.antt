@@ -9,11 +9,10 @@ use borrow.Table.Steps.{cases}
 use lib.ListN.{length, length-append}
 use lib.Dec.{ltb}
 use Rattle.codec_fields.specs.Fields.{upTo}
-use Rattle.codec_answers.specs.Answers.{refusedAnswer}
 use Rattle.station.specs.Whole.{Station}
 use Rattle.station.specs.Steps.{doneOf}
-use Rattle.station_answer.specs.Answer.{stepAnswer, polledOf, refusedPoll}
-use Rattle.station_command.specs.Command.{onlineOf, offlineOf, passiveOf}
+use Rattle.station_answer.specs.Answer.{stepAnswer, polledOf}
+use Rattle.station_command.specs.Command.{connectOf, onlineOf, offlineOf, passiveOf}
 use Rattle.heard.specs.declared.AddressEntry.{AddressEntry}
 use Rattle.heard.specs.declared.Found.{Found}
 use Rattle.heard.specs.declared.Found.the-variants.{Heard, Never, Refused}
@@ -68,7 +67,7 @@ heard-stays hs more address e known is =
 
 -- a command consumes nothing, so it changes nothing of what was heard: online, offline, passive
 pub command-unheard : (s : Station) (bytes : List ℕ) (n : ℕ) → (consumedIn bytes n (entryOf s 0 bytes .answer .consumed) ≡ []) × (consumedIn bytes n (entryOf s 1 bytes .answer .consumed) ≡ []) × (consumedIn bytes n (entryOf s 2 bytes .answer .consumed) ≡ [])
-unfolding entryOf onlineOf offlineOf passiveOf polledOf refusedPoll stepAnswer doneOf refusedAnswer consumedIn
+unfolding entryOf onlineOf offlineOf passiveOf connectOf polledOf stepAnswer doneOf consumedIn
 command-unheard s bytes n = (refl, refl, refl)
 
 -- what more entries consume comes after what was consumed

@@ -22,7 +22,7 @@ use Rattle.theorem_every_trace.specs.Theorem.{Taken, taken, along-length}
 use Rattle.theorem_heard.specs.Statement.{consumedBy, Summarized, Theorem}
 
 -- an entry has a byte at least
-laid-long : (es : List Entry) → length es ≤ length (laid es)
+pub laid-long : (es : List Entry) → length es ≤ length (laid es)
 laid-long [] = omega arith
 laid-long (e ∷ es) = rw (length-append (e .bytes) (laid es)) (omega (arith, laid-long es))
 
@@ -43,7 +43,7 @@ laid-consumed n (e ∷ es) rest (a ∷ answers) whole many =
     ∙ ap (λ (l : List Hearing). consumedIn (e .bytes) n (a .consumed) ++ l) (laid-consumed n es rest answers (whole .1) (omega (arith, many)))
 
 -- with room for every answer a run ends where no byte is left, or inside an entry
-enough : (room : ℕ) (rest : List ℕ) (ending : ℕ) → 8 * length rest ≤ room → Stops room rest ending → ((rest ≡ []) × (ending ≡ 0)) ⊎ (Cut rest × (ending ≡ 17))
+pub enough : (room : ℕ) (rest : List ℕ) (ending : ℕ) → 8 * length rest ≤ room → Stops room rest ending → ((rest ≡ []) × (ending ≡ 0)) ⊎ (Cut rest × (ending ≡ 17))
 enough room rest ending h empty = inl (refl, refl)
 enough room rest ending h (cut kind bytes c) = inr (c, refl)
 enough room rest ending h (full kind bytes c f) = absurd (omega (arith, h, f))

@@ -24,6 +24,7 @@ use Rattle.station.specs.declared.PassTokenAttempt.the-variants.{First}
 use Rattle.station.specs.declared.UseTokenData.{UseTokenData}
 use Rattle.station.specs.declared.State.{State}
 use Rattle.station.specs.declared.Core.{Core}
+use Rattle.station.specs.declared.Counts.{Counts}
 use Rattle.station.specs.Whole.{Station, RingStep}
 use Rattle.station.specs.declared.Step.{Step}
 use Rattle.station.specs.Parts.{withActivity, withTokenTimes, withNextApplication, stateNumber}
@@ -31,6 +32,7 @@ use Rattle.station.specs.Steps.{withTokenTime, toUseToken, markedAt, busyOf, wa
 use Rattle.station_hold.specs.declared.Asked.{Asked}
 use Rattle.station_hold.specs.Hold.{declinesAt, usePassOf, appTransmitOf, askedFrom, askedOf, holdEndOf, holdsOf, useAppsAfter, useAppsOf, useTokenTimed, useTokenOf}
 use Rattle.station_poll.specs.Poll.{dispatchOf, pollOf}
+use Rattle.station_answer.specs.Counted.{countedOf}
 use Rattle.station_answer.specs.Answer.{Polled, polledOf, stepAnswer}
 use Rattle.theorem_silence.specs.Silence.{AllQuiet, told, sentUntil, countedIn, slotAfter, tokens}
 use Rattle.theorem_silence.specs.Times.{Slotted, slotted, counted-free, counted-paused}
@@ -85,7 +87,7 @@ asks-step now bytes n turn high end x h g =
 
 -- the end of hold is set: all that is looked at here stays
 record Same (c d : Core) : Type 0 where
-  pub same-on : d .online ≡ c .online
+  pub same-on : d .«connectivity_state» ≡ c .«connectivity_state»
   pub same-next : d .«next_application» ≡ c .«next_application»
   pub same-activity : d .«last_bus_activity» ≡ c .«last_bus_activity»
 
@@ -114,7 +116,7 @@ unfolding pauseOf waitedOf
 pause-by p c d now e = rw e
 
 -- waiting for it leaves the station online or not
-paused-on : (p : Parameters) (c : Core) (now : Micros) → pauseOf p c now .core .online ≡ c .online
+paused-on : (p : Parameters) (c : Core) (now : Micros) → pauseOf p c now .core .«connectivity_state» ≡ c .«connectivity_state»
 unfolding pauseOf waitedOf withActivity
 paused-on p c now = refl
 
@@ -136,7 +138,7 @@ module _ (os : List ℕ) (p : Parameters) (w : Slotted p) (s : State) (c : Core)
   dispatch-use = ap (λ (x : State). dispatchOf p x c r now bytes n 0) (a .1 .held)
 
   -- with the token still held and as online as before the station is still at the last place
-  still : (x : State) (d : Core) → d .online ≡ c .online → x ≡ toUseToken (a .1 .since) → At (holding os) p x d r
+  still : (x : State) (d : Core) → d .«connectivity_state» ≡ c .«connectivity_state» → x ≡ toUseToken (a .1 .since) → At (holding os) p x d r
   still x d on held = (record { on = on ∙ a .0 .on; ring-good = a .0 .ring-good; are = a .0 .are }, record { since = a .1 .since; held = held })
 
   -- the station with the end of hold set
@@ -161,7 +163,7 @@ module _ (os : List ℕ) (p : Parameters) (w : Slotted p) (s : State) (c : Core)
       let same = hold-same p c (a .1 .since) in
       let is = timed-use ∙ use-waits p timed now (a .1 .since) bytes n e in
       waiting (not-counted counts (pauseOf p c now .over) (counted-paused p w c now) (sym known-pause ∙ e)) (ap (λ (x : Step). x .sent) is)
-      (still (used .state) (used .core) (ap (λ (x : Step). x .core .online) is ∙ paused-on p timed now ∙ same .same-on) (ap (λ (x : Step). x .state) is))
+      (still (used .state) (used .core) (ap (λ (x : Step). x .core .«connectivity_state») is ∙ paused-on p timed now ∙ same .same-on) (ap (λ (x : Step). x .state) is))
 
   hold-turn : HoldTurn os p n c now bytes counts (quietStep p s c r now bytes n)
   unfolding quietStep doneOf withActivity
@@ -181,33 +183,33 @@ pub record Found (p : Parameters) (out : List Sent) (os : List ℕ) (s : Station
   pub asks : Asks (afterPolls s before) asking
 
 -- it is found in what follows a first poll
-polls-on : (p : Parameters) (n : ℕ) (s : State) (c : Core) (r : Ring) (bytes : List ℕ) (later : List (List ℕ)) (x : RingStep) → pollOf (stationOf p n s c r) bytes ≡ polledOf p n x → afterPolls (stationOf p n s c r) (bytes ∷ later) ≡ afterPolls (stationOf p n (x .step .state) (x .step .core) (x .ring)) later
+polls-on : (p : Parameters) (n : ℕ) (ks : Counts) (s : State) (c : Core) (r : Ring) (bytes : List ℕ) (later : List (List ℕ)) (x : RingStep) → pollOf (stationOf p n ks s c r) bytes ≡ polledOf p n ks x → afterPolls (stationOf p n ks s c r) (bytes ∷ later) ≡ afterPolls (stationOf p n (countedOf ks (x .step .event)) (x .step .state) (x .step .core) (x .ring)) later
 unfolding afterPolls polledOf
-polls-on p n s c r bytes later x is = ap (λ (y : Polled). afterPolls (y .station) later) is
+polls-on p n ks s c r bytes later x is = ap (λ (y : Polled). afterPolls (y .station) later) is
 
-sent-in-on : (p : Parameters) (n : ℕ) (s : State) (c : Core) (r : Ring) (bytes : List ℕ) (later : List (List ℕ)) (x : RingStep) → pollOf (stationOf p n s c r) bytes ≡ polledOf p n x → sentIn (stationOf p n s c r) (bytes ∷ later) ≡ told (x .step .sent) ++ sentIn (stationOf p n (x .step .state) (x .step .core) (x .ring)) later
+sent-in-on : (p : Parameters) (n : ℕ) (ks : Counts) (s : State) (c : Core) (r : Ring) (bytes : List ℕ) (later : List (List ℕ)) (x : RingStep) → pollOf (stationOf p n ks s c r) bytes ≡ polledOf p n ks x → sentIn (stationOf p n ks s c r) (bytes ∷ later) ≡ told (x .step .sent) ++ sentIn (stationOf p n (countedOf ks (x .step .event)) (x .step .state) (x .step .core) (x .ring)) later
 unfolding sentIn polledOf stepAnswer
-sent-in-on p n s c r bytes later x is = ap (λ (y : Polled). told (y .answer .sent) ++ sentIn (y .station) later) is
+sent-in-on p n ks s c r bytes later x is = ap (λ (y : Polled). told (y .answer .sent) ++ sentIn (y .station) later) is
 
-pub found-later : (p : Parameters) (n : ℕ) (s : State) (c : Core) (r : Ring) (bytes : List ℕ) (later : List (List ℕ)) (x : RingStep) (out : List Sent) (os : List ℕ) → pollOf (stationOf p n s c r) bytes ≡ polledOf p n x → Found p out os (stationOf p n (x .step .state) (x .step .core) (x .ring)) later → Found p (told (x .step .sent) ++ out) os (stationOf p n s c r) (bytes ∷ later)
-found-later p n s c r bytes later x out os is f =
-    let on = sym (polls-on p n s c r bytes (f .before) x is) in
+pub found-later : (p : Parameters) (n : ℕ) (ks : Counts) (s : State) (c : Core) (r : Ring) (bytes : List ℕ) (later : List (List ℕ)) (x : RingStep) (out : List Sent) (os : List ℕ) → pollOf (stationOf p n ks s c r) bytes ≡ polledOf p n ks x → Found p out os (stationOf p n (countedOf ks (x .step .event)) (x .step .state) (x .step .core) (x .ring)) later → Found p (told (x .step .sent) ++ out) os (stationOf p n ks s c r) (bytes ∷ later)
+found-later p n ks s c r bytes later x out os is f =
+    let on = sym (polls-on p n ks s c r bytes (f .before) x is) in
     record {
       before = bytes ∷ f .before;
       asking = f .asking;
       rest = f .rest;
       are = ap (λ (l : List (List ℕ)). bytes ∷ l) (f .are);
-      sent = sent-in-on p n s c r bytes (f .before) x is ∙ ap (λ (l : List Sent). told (x .step .sent) ++ l) (f .sent);
+      sent = sent-in-on p n ks s c r bytes (f .before) x is ∙ ap (λ (l : List Sent). told (x .step .sent) ++ l) (f .sent);
       place = subst (λ (y : Station). At (holding os) p (y .state) (y .core) (y .«token_ring»)) on (f .place);
       asks = subst (λ (y : Station). Asks y (f .asking)) on (f .asks);
     }
 
 -- a poll that leads to a step that asks is one that asks
-asks-now : (os : List ℕ) (p : Parameters) (n : ℕ) (s : State) (c : Core) (r : Ring) (bytes : List ℕ) (x : RingStep) → At (holding os) p s c r → pollOf (stationOf p n s c r) bytes ≡ polledOf p n x → AsksStep (clockOf bytes) bytes n (c .«next_application») (x .step) → Asks (stationOf p n s c r) bytes
+asks-now : (os : List ℕ) (p : Parameters) (n : ℕ) (ks : Counts) (s : State) (c : Core) (r : Ring) (bytes : List ℕ) (x : RingStep) → At (holding os) p s c r → pollOf (stationOf p n ks s c r) bytes ≡ polledOf p n ks x → AsksStep (clockOf bytes) bytes n (c .«next_application») (x .step) → Asks (stationOf p n ks s c r) bytes
 unfolding polledOf stepAnswer
-asks-now os p n s c r bytes x a is g =
+asks-now os p n ks s c r bytes x a is g =
     let sent = ap (λ (y : Polled). y .answer .sent) is in
-    let in-hold : inHoldTime (stationOf p n s c r) bytes ≡ holdsOf (clockOf bytes) (x .step .core .«end_token_hold_time») = ap (λ (y : Polled). holdsOf (clockOf bytes) (y .station .core .«end_token_hold_time»)) is in
+    let in-hold : inHoldTime (stationOf p n ks s c r) bytes ≡ holdsOf (clockOf bytes) (x .step .core .«end_token_hold_time») = ap (λ (y : Polled). holdsOf (clockOf bytes) (y .station .core .«end_token_hold_time»)) is in
     record {
       since = a .1 .since;
       holds = a .1 .held;
@@ -218,9 +220,9 @@ asks-now os p n s c r bytes x a is g =
     }
 
 -- or it is the first
-found-now : (os : List ℕ) (p : Parameters) (n : ℕ) (s : State) (c : Core) (r : Ring) (bytes : List ℕ) (later : List (List ℕ)) (x : RingStep) → At (holding os) p s c r → pollOf (stationOf p n s c r) bytes ≡ polledOf p n x → AsksStep (clockOf bytes) bytes n (c .«next_application») (x .step) → Found p [] os (stationOf p n s c r) (bytes ∷ later)
+found-now : (os : List ℕ) (p : Parameters) (n : ℕ) (ks : Counts) (s : State) (c : Core) (r : Ring) (bytes : List ℕ) (later : List (List ℕ)) (x : RingStep) → At (holding os) p s c r → pollOf (stationOf p n ks s c r) bytes ≡ polledOf p n ks x → AsksStep (clockOf bytes) bytes n (c .«next_application») (x .step) → Found p [] os (stationOf p n ks s c r) (bytes ∷ later)
 unfolding afterPolls sentIn
-found-now os p n s c r bytes later x a is g =
+found-now os p n ks s c r bytes later x a is g =
     record {
       before = [];
       asking = bytes;
@@ -228,7 +230,7 @@ found-now os p n s c r bytes later x a is g =
       are = refl;
       sent = refl;
       place = a;
-      asks = asks-now os p n s c r bytes x a is g;
+      asks = asks-now os p n ks s c r bytes x a is g;
     }
 
 -- a poll that is not counted leaves as many to come
@@ -241,52 +243,52 @@ abbrev countsAt : Parameters → Core → List ℕ → Bool
 countsAt p c bytes = slotAfter (c .«last_bus_activity») (headOf bytes .clock) (slotTimeOf p .0)
 
 -- one poll of a station that holds a new token, and what is found from where it leads
-held-poll : (os : List ℕ) (p : Parameters) (n : ℕ) (s : State) (c : Core) (r : Ring) (bytes : List ℕ) (later : List (List ℕ)) (x : RingStep) → At (holding os) p s c r → pollOf (stationOf p n s c r) bytes ≡ polledOf p n x → HoldTurn os p n c (clockOf bytes) bytes (countsAt p c bytes) x → 1 ≤ countedIn (stationOf p n s c r) (bytes ∷ later) → ((y : State) (d : Core) (t : Ring) → At (holding os) p y d t → 1 ≤ countedIn (stationOf p n y d t) later → Found p [] os (stationOf p n y d t) later) → Found p [] os (stationOf p n s c r) (bytes ∷ later)
-held-poll os p n s c r bytes later x a is (asking g) l then = found-now os p n s c r bytes later x a is g
-held-poll os p n s c r bytes later x a is (waiting f e to) l then =
-    let left = uncounted (countsAt p c bytes) 1 _ f (rw (counted-on p n s c r bytes later x is) at l) in
-    subst (λ (y : Sent). Found p (told y ++ []) os (stationOf p n s c r) (bytes ∷ later)) e
-    (found-later p n s c r bytes later x [] os is (then (x .step .state) (x .step .core) (x .ring) to left))
+held-poll : (os : List ℕ) (p : Parameters) (n : ℕ) (ks : Counts) (s : State) (c : Core) (r : Ring) (bytes : List ℕ) (later : List (List ℕ)) (x : RingStep) → At (holding os) p s c r → pollOf (stationOf p n ks s c r) bytes ≡ polledOf p n ks x → HoldTurn os p n c (clockOf bytes) bytes (countsAt p c bytes) x → 1 ≤ countedIn (stationOf p n ks s c r) (bytes ∷ later) → ((ms : Counts) (y : State) (d : Core) (t : Ring) → At (holding os) p y d t → 1 ≤ countedIn (stationOf p n ms y d t) later → Found p [] os (stationOf p n ms y d t) later) → Found p [] os (stationOf p n ks s c r) (bytes ∷ later)
+held-poll os p n ks s c r bytes later x a is (asking g) l then = found-now os p n ks s c r bytes later x a is g
+held-poll os p n ks s c r bytes later x a is (waiting f e to) l then =
+    let left = uncounted (countsAt p c bytes) 1 _ f (rw (counted-on p n ks s c r bytes later x is) at l) in
+    subst (λ (y : Sent). Found p (told y ++ []) os (stationOf p n ks s c r) (bytes ∷ later)) e
+    (found-later p n ks s c r bytes later x [] os is (then (countedOf ks (x .step .event)) (x .step .state) (x .step .core) (x .ring) to left))
 
 -- from a held token: asked by the next counted poll
-found-holding : (records : List (List ℕ)) (os : List ℕ) (p : Parameters) → Slotted p → (n : ℕ) → AllQuiet n records → (s : State) (c : Core) (r : Ring) → At (holding os) p s c r → 1 ≤ countedIn (stationOf p n s c r) records → Found p [] os (stationOf p n s c r) records
+found-holding : (records : List (List ℕ)) (os : List ℕ) (p : Parameters) → Slotted p → (n : ℕ) → AllQuiet n records → (ks : Counts) (s : State) (c : Core) (r : Ring) → At (holding os) p s c r → 1 ≤ countedIn (stationOf p n ks s c r) records → Found p [] os (stationOf p n ks s c r) records
 unfolding countedIn
-found-holding [] os p w n q s c r a l = absurd (omega arith)
-found-holding (bytes ∷ later) os p w n q s c r a l =
-    held-poll os p n s c r bytes later (quietStep p s c r (clockOf bytes) bytes n) a (poll-at (holding os) p n s c r bytes (q .0) a)
-    (hold-turn os p w s c r (clockOf bytes) bytes n a) l (λ y d t b k. found-holding later os p w n (q .1) y d t b k)
+found-holding [] os p w n q ks s c r a l = absurd (omega arith)
+found-holding (bytes ∷ later) os p w n q ks s c r a l =
+    held-poll os p n ks s c r bytes later (quietStep p s c r (clockOf bytes) bytes n) a (poll-at (holding os) p n ks s c r bytes (q .0) a)
+    (hold-turn os p w s c r (clockOf bytes) bytes n a) l (λ ms y d t b k. found-holding later os p w n (q .1) ms y d t b k)
 
 -- from a place, with what is found: all that was to be sent is sent before
-abbrev FoundAt : Parameters → ℕ → Phase → State → Core → Ring → List (List ℕ) → Type 0
-FoundAt p n ph s c r records = suc (length (todo (p .address) ph)) ≤ countedIn (stationOf p n s c r) records → Found p (todo (p .address) ph) (endRing ph) (stationOf p n s c r) records
+abbrev FoundAt : Parameters → ℕ → Phase → Counts → State → Core → Ring → List (List ℕ) → Type 0
+FoundAt p n ph ks s c r records = suc (length (todo (p .address) ph)) ≤ countedIn (stationOf p n ks s c r) records → Found p (todo (p .address) ph) (endRing ph) (stationOf p n ks s c r) records
 
 -- from any place: what is still to be sent is sent first
-turned : (ph : Phase) (p : Parameters) (n : ℕ) (s : State) (c : Core) (r : Ring) (bytes : List ℕ) (later : List (List ℕ)) (x : RingStep) → Under ph → pollOf (stationOf p n s c r) bytes ≡ polledOf p n x → Turn p (clockOf bytes) ph (countsAt p c bytes) x → ((to : Phase) (y : State) (d : Core) (t : Ring) → At to p y d t → FoundAt p n to y d t later) → FoundAt p n ph s c r (bytes ∷ later)
-turned ph p n s c r bytes later x u is (sends g) then l =
+turned : (ph : Phase) (p : Parameters) (n : ℕ) (ks : Counts) (s : State) (c : Core) (r : Ring) (bytes : List ℕ) (later : List (List ℕ)) (x : RingStep) → Under ph → pollOf (stationOf p n ks s c r) bytes ≡ polledOf p n ks x → Turn p (clockOf bytes) ph (countsAt p c bytes) x → ((to : Phase) (ms : Counts) (y : State) (d : Core) (t : Ring) → At to p y d t → FoundAt p n to ms y d t later) → FoundAt p n ph ks s c r (bytes ∷ later)
+turned ph p n ks s c r bytes later x u is (sends g) then l =
     let own = p .address in
     let head = todo-next own ph u in
-    let s₀ = stationOf p n s c r in
-    let left = one-less (countsAt p c bytes) (suc (length (todo own (next ph)))) _ (rw (head, counted-on p n s c r bytes later x is) at l) in
+    let s₀ = stationOf p n ks s c r in
+    let left = one-less (countsAt p c bytes) (suc (length (todo own (next ph)))) _ (rw (head, counted-on p n ks s c r bytes later x is) at l) in
     let one : told (x .step .sent) ++ todo own (next ph) ≡ todo own ph = ap (λ (y : Sent). told y ++ todo own (next ph)) (g .telegram) ∙ ap (λ (y : List Sent). y ++ todo own (next ph)) (told-next own ph) ∙ sym head in
     subst (λ (y : List Sent). Found p y (endRing ph) s₀ (bytes ∷ later)) one
     (subst (λ (os : List ℕ). Found p (told (x .step .sent) ++ todo own (next ph)) os s₀ (bytes ∷ later)) (end-next ph)
-    (found-later p n s c r bytes later x _ _ is (then (next ph) (x .step .state) (x .step .core) (x .ring) (g .place) left)))
-turned ph p n s c r bytes later x u is (stays f g) then l =
-    let left = uncounted (countsAt p c bytes) _ _ f (rw (counted-on p n s c r bytes later x is) at l) in
-    subst (λ (y : Sent). Found p (told y ++ todo (p .address) ph) (endRing ph) (stationOf p n s c r) (bytes ∷ later)) (g .nothing)
-    (found-later p n s c r bytes later x _ _ is (then ph (x .step .state) (x .step .core) (x .ring) (g .place) left))
+    (found-later p n ks s c r bytes later x _ _ is (then (next ph) (countedOf ks (x .step .event)) (x .step .state) (x .step .core) (x .ring) (g .place) left)))
+turned ph p n ks s c r bytes later x u is (stays f g) then l =
+    let left = uncounted (countsAt p c bytes) _ _ f (rw (counted-on p n ks s c r bytes later x is) at l) in
+    subst (λ (y : Sent). Found p (told y ++ todo (p .address) ph) (endRing ph) (stationOf p n ks s c r) (bytes ∷ later)) (g .nothing)
+    (found-later p n ks s c r bytes later x _ _ is (then ph (countedOf ks (x .step .event)) (x .step .state) (x .step .core) (x .ring) (g .place) left))
 
-found-on : (ph : Phase) (p : Parameters) → Slotted p → (n : ℕ) (bytes : List ℕ) (later : List (List ℕ)) → AllQuiet n (bytes ∷ later) → ((to : Phase) (y : State) (d : Core) (t : Ring) → At to p y d t → FoundAt p n to y d t later) → (s : State) (c : Core) (r : Ring) → At ph p s c r → FoundAt p n ph s c r (bytes ∷ later)
-found-on ph p w n bytes later q then s c r a = go (under-or-held ph) a
+found-on : (ph : Phase) (p : Parameters) → Slotted p → (n : ℕ) (bytes : List ℕ) (later : List (List ℕ)) → AllQuiet n (bytes ∷ later) → ((to : Phase) (ms : Counts) (y : State) (d : Core) (t : Ring) → At to p y d t → FoundAt p n to ms y d t later) → (ks : Counts) (s : State) (c : Core) (r : Ring) → At ph p s c r → FoundAt p n ph ks s c r (bytes ∷ later)
+found-on ph p w n bytes later q then ks s c r a = go (under-or-held ph) a
   where
-    go : Under ph ⊎ (ph ≡ holding (endRing ph)) → At ph p s c r → FoundAt p n ph s c r (bytes ∷ later)
-    go (inl u) = λ a. turned ph p n s c r bytes later _ u (poll-at ph p n s c r bytes (q .0) a) (turn p w s c r (clockOf bytes) bytes n ph u a) then
-    go (inr e) = subst (λ (x : Phase). At x p s c r → FoundAt p n x s c r (bytes ∷ later)) (sym e) (λ a l. found-holding (bytes ∷ later) (endRing ph) p w n q s c r a l)
+    go : Under ph ⊎ (ph ≡ holding (endRing ph)) → At ph p s c r → FoundAt p n ph ks s c r (bytes ∷ later)
+    go (inl u) = λ a. turned ph p n ks s c r bytes later _ u (poll-at ph p n ks s c r bytes (q .0) a) (turn p w s c r (clockOf bytes) bytes n ph u a) then
+    go (inr e) = subst (λ (x : Phase). At x p s c r → FoundAt p n x ks s c r (bytes ∷ later)) (sym e) (λ a l. found-holding (bytes ∷ later) (endRing ph) p w n q ks s c r a l)
 
-pub found : (records : List (List ℕ)) (p : Parameters) → Slotted p → (n : ℕ) → AllQuiet n records → (ph : Phase) (s : State) (c : Core) (r : Ring) → At ph p s c r → FoundAt p n ph s c r records
+pub found : (records : List (List ℕ)) (p : Parameters) → Slotted p → (n : ℕ) → AllQuiet n records → (ph : Phase) (ks : Counts) (s : State) (c : Core) (r : Ring) → At ph p s c r → FoundAt p n ph ks s c r records
 unfolding countedIn
-found [] p w n q ph s c r a l = absurd (omega arith)
-found (bytes ∷ later) p w n q ph s c r a l = found-on ph p w n bytes later q (λ to y d t b. found later p w n (q .1) to y d t b) s c r a l
+found [] p w n q ph ks s c r a l = absurd (omega arith)
+found (bytes ∷ later) p w n q ph ks s c r a l = found-on ph p w n bytes later q (λ to ms y d t b. found later p w n (q .1) to ms y d t b) ks s c r a l
 
 -- who was the only other is no member once the station is alone
 gone-from : (p : Parameters) (s : State) (c : Core) (r : Ring) (x : ℕ) → At (holding []) p s c r → x < 126 → (x ≡ p .address → ⊥) → has r x ≡ false
@@ -313,7 +315,7 @@ the-letter s x records h one q =
             gone = gone-from p _ _ _ x (run-of s records h q .held-at held) (other .low) not-own;
           };
       by-five = λ l.
-          let f = found records p (slotted p (h .settings)) (s .applications) q (starting First (others r)) (s .state) (s .core) r (started s h) (omega (arith, tokens-length (others r) (p .address))) in
+          let f = found records p (slotted p (h .settings)) (s .applications) q (starting First (others r)) (s .counts) (s .state) (s .core) r (started s h) (omega (arith, tokens-length (others r) (p .address))) in
           record {
             before = f .before;
             asking = f .asking;

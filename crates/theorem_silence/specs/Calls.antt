@@ -13,7 +13,7 @@ use Rattle.station.specs.Whole.{Station}
 use Rattle.station.specs.Parts.{freshStation}
 use Rattle.theorem_sound.specs.Sound.{Call, run, SoundStation, every-station-sound}
 use Rattle.theorem_sound.specs.Unchanged.{made-settings}
-use Rattle.theorem_silence.specs.Silence.{Start, online, gapDue}
+use Rattle.theorem_silence.specs.Silence.{Start, Online, gapDue}
 
 -- a station that any list of polls and commands makes of a new one with accepted settings and an accepted number of applications
 pub record ByCalls (s : Station) : Type 0 where
@@ -37,6 +37,6 @@ sound-of-calls s b =
     (every-station-sound (b .settings) (b .applications) (b .calls) (address-low (b .settings) (b .accepted)) (b .number-accepted))
 
 -- so it meets the premises of Silence as soon as it is online, in PassToken at its first attempt, with no gap question due
-pub start-of-calls : (s : Station) → ByCalls s → online s ≡ true → (gap : Bool) → s .state ≡ PassToken gap First → gapDue (s .p) (s .core) (s .«token_ring») gap ≡ false → Start s
+pub start-of-calls : (s : Station) → ByCalls s → Online s → (gap : Bool) → s .state ≡ PassToken gap First → gapDue (s .p) (s .core) (s .«token_ring») gap ≡ false → Start s
 start-of-calls s b on gap state due =
     record { settings = settings-of-calls s b; sound = sound-of-calls s b; not-offline = on; gap = gap; passing = state; no-question = due }

@@ -23,13 +23,14 @@ use Rattle.codec_telegrams.specs.Words as words
 use Rattle.codec_decisions.specs.Decisions as decisions
 use Rattle.codec_records.specs.declared.Head.{Head}
 use Rattle.codec_records.specs.Records as records
+use Rattle.station.specs.declared.ConnectivityState.the-variants as connectivity
 use Rattle.station.specs.declared.Activity.the-variants as activity
 use Rattle.station.specs.declared.PassTokenAttempt.the-variants.{First}
 use Rattle.station.specs.declared.State.{State}
 use Rattle.station.specs.declared.State.the-variants.{PassToken, AwaitStatusResponse}
 use Rattle.station.specs.declared.Core.{Core}
 use Rattle.station.specs.Whole.{Station}
-use Rattle.station.specs.Parts.{freshStation, freshCore, withActivity, withGap, withPending, withTokenTimes, withNextApplication, withOnline}
+use Rattle.station.specs.Parts.{freshStation, freshCore, withActivity, withGap, withPending, withTokenTimes, withNextApplication, withConnectivity, isOffline}
 use Rattle.station.specs.Steps as steps
 use Rattle.station_hear_listen.specs.HearListen as hear
 use Rattle.station_hear_active.specs.HearActive as active
@@ -39,6 +40,7 @@ use Rattle.station_pass.specs.Pass as passing
 use Rattle.station_await_status.specs.AwaitStatus as status
 use Rattle.station_claim.specs.Claim as claiming
 use Rattle.station_answer.specs.Answer.{Polled}
+use Rattle.station_answer.specs.Counted.{raisedBy, countedOf}
 use Rattle.station_answer.specs.Answer as answering
 use Rattle.station_command.specs.Command as commands
 use Rattle.station_poll.specs.Poll as polling
@@ -47,41 +49,41 @@ use Rattle.theorem_silence.specs.Theorem.{stationOf}
 use Rattle.theorem_silence.specs.Rings.{members-of}
 use Rattle.theorem_silence.specs.Scripts.{token, declines, recordOf, responseOf1, pollHearing, pollSilent, lowest, hears-all, claims, begins-look, begins-question}
 
--- the station with this state, core and ring
-abbrev pub lowestWith : State → Core → Ring → Station
-lowestWith s c r = stationOf lowest 1 s c r
+-- the station with this state, core and ring, which claimed and met its own address so often and removed nobody
+abbrev pub lowestWith : ℕ → ℕ → State → Core → Ring → Station
+lowestWith claimed met s c r = stationOf lowest 1 (record { claims = claimed; removals = 0; meetings = met }) s c r
 
 -- an online core: the last token time, the end of hold, last activity, gap state
 abbrev pub coreAt : ℕ → ℕ → ℕ → GapState → Core
 coreAt token hold last gap =
-    record { «last_token_time» = record { 0 = token }; «end_token_hold_time» = record { 0 = hold }; «last_bus_activity» = activity.At (record { 0 = last }); «gap_state» = gap; «pending_bytes» = 0; «next_application» = 0; online = true }
+    record { «last_token_time» = record { 0 = token }; «end_token_hold_time» = record { 0 = hold }; «last_bus_activity» = activity.At (record { 0 = last }); «gap_state» = gap; «pending_bytes» = 0; «next_application» = 0; «connectivity_state» = connectivity.Online }
 
 -- The stations on the way, each with any ring.
 
 -- to a pass with the look at the gap: it listens, its last activity at this time; then it starts the pass
 abbrev pub listens-look : ℕ → Ring → Station
-listens-look last r = lowestWith steps.toListenToken (coreAt 0 0 last (Waiting 0)) r
+listens-look last r = lowestWith 0 0 steps.toListenToken (coreAt 0 0 last (Waiting 0)) r
 
 abbrev pub pass-look : Ring → Station
-pass-look r = lowestWith (PassToken true First) (coreAt 3500 64872 3566 (Waiting 0)) r
+pass-look r = lowestWith 1 0 (PassToken true First) (coreAt 3500 64872 3566 (Waiting 0)) r
 
 -- to a pass after a gap question: it listens, the gap count at 2; it starts a pass, in which the question is due; it awaits the answer
 -- of 1; it has it and starts the pass
 abbrev pub listens-question : ℕ → Ring → Station
-listens-question last r = lowestWith steps.toListenToken (coreAt 3400 67872 last (Waiting 2)) r
+listens-question last r = lowestWith 1 2 steps.toListenToken (coreAt 3400 67872 last (Waiting 2)) r
 
 abbrev pub pass-question : Ring → Station
-pass-question r = lowestWith (PassToken true First) (coreAt 7600 68272 7666 (Waiting 2)) r
+pass-question r = lowestWith 2 2 (PassToken true First) (coreAt 7600 68272 7666 (Waiting 2)) r
 
 abbrev pub awaits-one : Ring → Station
-awaits-one r = lowestWith (AwaitStatusResponse 1) (coreAt 7600 68272 8132 (DoPoll 1)) r
+awaits-one r = lowestWith 2 2 (AwaitStatusResponse 1) (coreAt 7600 68272 8132 (DoPoll 1)) r
 
 abbrev pub pass-answered : Ring → Station
-pass-answered r = lowestWith (PassToken false First) (coreAt 7600 68272 8300 (DoPoll 1)) r
+pass-answered r = lowestWith 2 2 (PassToken false First) (coreAt 7600 68272 8300 (DoPoll 1)) r
 
 -- a station by its state, its core and whatever ring it has
-by-parts : (s : Station) (x : State) (c : Core) → s .state ≡ x → s .core ≡ c → s .p ≡ lowest → s .applications ≡ 1 → s ≡ lowestWith x c (s .«token_ring»)
-by-parts s x c state core p applications = λ i. record { state = state i; core = core i; «token_ring» = s .«token_ring»; p = p i; applications = applications i }
+by-parts : (s : Station) (claimed met : ℕ) (x : State) (c : Core) → s .state ≡ x → s .core ≡ c → s .p ≡ lowest → s .counts ≡ record { claims = claimed; removals = 0; meetings = met } → s .applications ≡ 1 → s ≡ lowestWith claimed met x c (s .«token_ring»)
+by-parts s claimed met x c state core p counts applications = λ i. record { state = state i; core = core i; «token_ring» = s .«token_ring»; p = p i; counts = counts i; applications = applications i }
 
 -- no call changes nothing, and a run goes on where the one before it ended
 pub calls-none : (s : Station) → run s [] ≡ s
@@ -120,13 +122,13 @@ pub record FirstRuns : Type 0 where
   pub heard-but-one : run begun-question (hears-all 4200 2 6) ≡ listens-question 4900 ring-but-one
 
 pub first-runs : FirstRuns
-unfolding walk nearest betweenOf sameSet roundOf lapsOf listed afterOf beforeOf linkAt tab linksOf linkOf unlinkOf behindOf insertOf sweepOf relinkOf followsOf confirmsOf counted has make freshOf witnessOf claimOf others nextOf rounded timeOf slotTimeOf tokenLostOf rotationTimeOf withActivity withGap withPending withTokenTimes withNextApplication withOnline after run fieldOf beFrom loadOf zerosOr14 words.responseStateOf words.telegramRefusal words.telegramOf decisions.lengthRefusal decisions.decisionRefusal decisions.decisionOf records.headOf records.telegramAt records.decisionAt records.entryRefusal records.wordsRefusal records.recordRefusal steps.knownAt steps.elapsedOf steps.waitedOf steps.markedAt steps.busyOf steps.ongoingOf steps.busActivityOf steps.doneOf polling.connectedOf polling.dispatchOf polling.pollOnline polling.pollInner polling.acceptedAfter polling.acceptedPoll polling.pollOf answering.polledOf steps.rxOf steps.tokenLostWaitOf steps.heardOf hear.listenHeard hear.listenTelegram listening.heardTelegram listening.heardAll listening.receivedAll listening.consumedAll listening.listenTokenOn listening.handleLostToken listening.listenTokenOf steps.pauseOf steps.sentAt steps.transmitOf steps.withTokenTime claiming.claimNext claiming.claimTokenOf holding.declinesOn holding.declinesAt holding.usePassOf holding.appTransmitOf holding.firstOr holding.turnOf holding.askedFrom holding.askedOf holding.holdLess holding.capped holding.endOf holding.holdEndOf holding.holdsOf holding.useAppsAfter holding.useAppsOf holding.useTokenTimed holding.useTokenOf passing.gapAdvanced passing.passSentOn passing.passSend passing.passPollOn passing.passPoll passing.passTokenOf freshStation freshCore commands.onlineOf holding.validResponse holding.receivedOf holding.awaitDataOf listening.activeIdleOn listening.activeIdleOf active.activeCollided active.tokenHeard active.activeHeard active.handleTelegram
+unfolding walk nearest betweenOf sameSet roundOf lapsOf listed afterOf beforeOf linkAt tab linksOf linkOf unlinkOf behindOf insertOf sweepOf relinkOf followsOf confirmsOf counted has make freshOf witnessOf claimOf others nextOf rounded timeOf slotTimeOf tokenLostOf rotationTimeOf withActivity withGap withPending withTokenTimes withNextApplication withConnectivity isOffline after run fieldOf beFrom loadOf zerosOr14 words.responseStateOf words.telegramRefusal words.telegramOf decisions.lengthRefusal decisions.decisionRefusal decisions.decisionOf records.headOf records.telegramAt records.decisionAt records.entryRefusal records.wordsRefusal records.recordRefusal steps.knownAt steps.elapsedOf steps.waitedOf steps.markedAt steps.busyOf steps.ongoingOf steps.busActivityOf steps.doneOf polling.connectedOf polling.enteredOf polling.dispatchOf polling.pollOnline polling.pollInner polling.acceptedAfter polling.acceptedPoll polling.pollOf raisedBy countedOf answering.polledOf steps.rxOf steps.tokenLostWaitOf steps.heardOf hear.sentByUs hear.notedOf hear.witnessedOf hear.overheardOf steps.collisionOf hear.listenHeard hear.listenTelegram listening.heardTelegram listening.heardAll listening.receivedAll listening.metToo listening.metIn listening.meetingsOf listening.consumedAll listening.listenTokenOn listening.handleLostToken listening.listenTokenOf steps.pauseOf steps.sentAt steps.transmitOf steps.withEvent steps.withTokenTime claiming.claimNext claiming.claimTokenOf holding.declinesOn holding.declinesAt holding.usePassOf holding.appTransmitOf holding.firstOr holding.turnOf holding.askedFrom holding.askedOf holding.holdLess holding.capped holding.endOf holding.holdEndOf holding.holdsOf holding.useAppsAfter holding.useAppsOf holding.useTokenTimed holding.useTokenOf passing.gapAdvanced passing.passSentOn passing.passSend passing.passPollOn passing.passPoll passing.passTokenOf freshStation freshCore commands.onlineOf commands.connectOf holding.validResponse holding.receivedOf holding.awaitDataOf listening.activeIdleOn listening.activeIdleOf active.activeCollided active.tokenHeard active.activeHeard active.handleTelegram
 first-runs =
     record {
       look = refl;
-      heard-all = by-parts (run begun-look (hears-all 100 1 7)) _ _ refl refl refl refl;
-      question = by-parts (run (freshStation lowest 1) begins-question) _ _ refl refl refl refl;
-      heard-but-one = by-parts (run begun-question (hears-all 4200 2 6)) _ _ refl refl refl refl;
+      heard-all = by-parts (run begun-look (hears-all 100 1 7)) _ _ _ _ refl refl refl refl refl;
+      question = by-parts (run (freshStation lowest 1) begins-question) _ _ _ _ refl refl refl refl refl;
+      heard-but-one = by-parts (run begun-question (hears-all 4200 2 6)) _ _ _ _ refl refl refl refl refl;
     }
 
 -- and their rings: after the passes that were heard
@@ -139,7 +141,7 @@ record Witnessed : Type 0 where
   pub but-one : ring-but-one ≡ witnessAll ring-alone (passesFrom 2 62)
 
 witnessed : Witnessed
-unfolding rounded timeOf slotTimeOf tokenLostOf rotationTimeOf withActivity withGap withPending withTokenTimes withNextApplication withOnline after run fieldOf beFrom loadOf zerosOr14 words.responseStateOf words.telegramRefusal words.telegramOf decisions.lengthRefusal decisions.decisionRefusal decisions.decisionOf records.headOf records.telegramAt records.decisionAt records.entryRefusal records.wordsRefusal records.recordRefusal steps.knownAt steps.elapsedOf steps.waitedOf steps.markedAt steps.busyOf steps.ongoingOf steps.busActivityOf steps.doneOf polling.connectedOf polling.dispatchOf polling.pollOnline polling.pollInner polling.acceptedAfter polling.acceptedPoll polling.pollOf answering.polledOf steps.rxOf steps.tokenLostWaitOf steps.heardOf hear.listenHeard hear.listenTelegram listening.heardTelegram listening.heardAll listening.receivedAll listening.consumedAll listening.listenTokenOn listening.handleLostToken listening.listenTokenOf steps.pauseOf steps.sentAt steps.transmitOf steps.withTokenTime claiming.claimNext claiming.claimTokenOf holding.declinesOn holding.declinesAt holding.usePassOf holding.appTransmitOf holding.firstOr holding.turnOf holding.askedFrom holding.askedOf holding.holdLess holding.capped holding.endOf holding.holdEndOf holding.holdsOf holding.useAppsAfter holding.useAppsOf holding.useTokenTimed holding.useTokenOf passing.gapAdvanced passing.passSentOn passing.passSend passing.passPollOn passing.passPoll passing.passTokenOf freshStation freshCore commands.onlineOf holding.validResponse holding.receivedOf holding.awaitDataOf listening.activeIdleOn listening.activeIdleOf active.activeCollided active.tokenHeard active.activeHeard active.handleTelegram
+unfolding rounded timeOf slotTimeOf tokenLostOf rotationTimeOf withActivity withGap withPending withTokenTimes withNextApplication withConnectivity isOffline after run fieldOf beFrom loadOf zerosOr14 words.responseStateOf words.telegramRefusal words.telegramOf decisions.lengthRefusal decisions.decisionRefusal decisions.decisionOf records.headOf records.telegramAt records.decisionAt records.entryRefusal records.wordsRefusal records.recordRefusal steps.knownAt steps.elapsedOf steps.waitedOf steps.markedAt steps.busyOf steps.ongoingOf steps.busActivityOf steps.doneOf polling.connectedOf polling.enteredOf polling.dispatchOf polling.pollOnline polling.pollInner polling.acceptedAfter polling.acceptedPoll polling.pollOf raisedBy countedOf answering.polledOf steps.rxOf steps.tokenLostWaitOf steps.heardOf hear.sentByUs hear.notedOf hear.witnessedOf hear.overheardOf steps.collisionOf hear.listenHeard hear.listenTelegram listening.heardTelegram listening.heardAll listening.receivedAll listening.metToo listening.metIn listening.meetingsOf listening.consumedAll listening.listenTokenOn listening.handleLostToken listening.listenTokenOf steps.pauseOf steps.sentAt steps.transmitOf steps.withEvent steps.withTokenTime claiming.claimNext claiming.claimTokenOf holding.declinesOn holding.declinesAt holding.usePassOf holding.appTransmitOf holding.firstOr holding.turnOf holding.askedFrom holding.askedOf holding.holdLess holding.capped holding.endOf holding.holdEndOf holding.holdsOf holding.useAppsAfter holding.useAppsOf holding.useTokenTimed holding.useTokenOf passing.gapAdvanced passing.passSentOn passing.passSend passing.passPollOn passing.passPoll passing.passTokenOf freshStation freshCore commands.onlineOf commands.connectOf holding.validResponse holding.receivedOf holding.awaitDataOf listening.activeIdleOn listening.activeIdleOf active.activeCollided active.tokenHeard active.activeHeard active.handleTelegram
 witnessed = record { all = refl; but-one = refl }
 
 -- whom these passes keep, and the members of the ring that heard nobody
@@ -152,7 +154,7 @@ record Tested : Type 0 where
   pub own-alone : ring-alone .own ≡ 0
 
 tested : Tested
-unfolding walk nearest betweenOf keeps sameSet roundOf lapsOf listed afterOf beforeOf linkAt tab linksOf linkOf unlinkOf behindOf insertOf sweepOf relinkOf followsOf confirmsOf counted has make freshOf witnessOf claimOf others nextOf rounded timeOf slotTimeOf tokenLostOf rotationTimeOf withActivity withGap withPending withTokenTimes withNextApplication withOnline after run fieldOf beFrom loadOf zerosOr14 words.responseStateOf words.telegramRefusal words.telegramOf decisions.lengthRefusal decisions.decisionRefusal decisions.decisionOf records.headOf records.telegramAt records.decisionAt records.entryRefusal records.wordsRefusal records.recordRefusal steps.knownAt steps.elapsedOf steps.waitedOf steps.markedAt steps.busyOf steps.ongoingOf steps.busActivityOf steps.doneOf polling.connectedOf polling.dispatchOf polling.pollOnline polling.pollInner polling.acceptedAfter polling.acceptedPoll polling.pollOf answering.polledOf steps.rxOf steps.tokenLostWaitOf steps.heardOf hear.listenHeard hear.listenTelegram listening.heardTelegram listening.heardAll listening.receivedAll listening.consumedAll listening.listenTokenOn listening.handleLostToken listening.listenTokenOf steps.pauseOf steps.sentAt steps.transmitOf steps.withTokenTime claiming.claimNext claiming.claimTokenOf holding.declinesOn holding.declinesAt holding.usePassOf holding.appTransmitOf holding.firstOr holding.turnOf holding.askedFrom holding.askedOf holding.holdLess holding.capped holding.endOf holding.holdEndOf holding.holdsOf holding.useAppsAfter holding.useAppsOf holding.useTokenTimed holding.useTokenOf passing.gapAdvanced passing.passSentOn passing.passSend passing.passPollOn passing.passPoll passing.passTokenOf freshStation freshCore commands.onlineOf holding.validResponse holding.receivedOf holding.awaitDataOf listening.activeIdleOn listening.activeIdleOf active.activeCollided active.tokenHeard active.activeHeard active.handleTelegram
+unfolding walk nearest betweenOf keeps sameSet roundOf lapsOf listed afterOf beforeOf linkAt tab linksOf linkOf unlinkOf behindOf insertOf sweepOf relinkOf followsOf confirmsOf counted has make freshOf witnessOf claimOf others nextOf rounded timeOf slotTimeOf tokenLostOf rotationTimeOf withActivity withGap withPending withTokenTimes withNextApplication withConnectivity isOffline after run fieldOf beFrom loadOf zerosOr14 words.responseStateOf words.telegramRefusal words.telegramOf decisions.lengthRefusal decisions.decisionRefusal decisions.decisionOf records.headOf records.telegramAt records.decisionAt records.entryRefusal records.wordsRefusal records.recordRefusal steps.knownAt steps.elapsedOf steps.waitedOf steps.markedAt steps.busyOf steps.ongoingOf steps.busActivityOf steps.doneOf polling.connectedOf polling.enteredOf polling.dispatchOf polling.pollOnline polling.pollInner polling.acceptedAfter polling.acceptedPoll polling.pollOf raisedBy countedOf answering.polledOf steps.rxOf steps.tokenLostWaitOf steps.heardOf hear.sentByUs hear.notedOf hear.witnessedOf hear.overheardOf steps.collisionOf hear.listenHeard hear.listenTelegram listening.heardTelegram listening.heardAll listening.receivedAll listening.metToo listening.metIn listening.meetingsOf listening.consumedAll listening.listenTokenOn listening.handleLostToken listening.listenTokenOf steps.pauseOf steps.sentAt steps.transmitOf steps.withEvent steps.withTokenTime claiming.claimNext claiming.claimTokenOf holding.declinesOn holding.declinesAt holding.usePassOf holding.appTransmitOf holding.firstOr holding.turnOf holding.askedFrom holding.askedOf holding.holdLess holding.capped holding.endOf holding.holdEndOf holding.holdsOf holding.useAppsAfter holding.useAppsOf holding.useTokenTimed holding.useTokenOf passing.gapAdvanced passing.passSentOn passing.passSend passing.passPollOn passing.passPoll passing.passTokenOf freshStation freshCore commands.onlineOf commands.connectOf holding.validResponse holding.receivedOf holding.awaitDataOf listening.activeIdleOn listening.activeIdleOf active.activeCollided active.tokenHeard active.activeHeard active.handleTelegram
 tested = record { all = refl; all-low = refl; but-one = refl; but-one-low = refl; alone = refl; own-alone = refl }
 
 pub record Members : Type 0 where
@@ -211,10 +213,10 @@ unfolding polling.pollOf polling.acceptedPoll
 by-head s bytes head e h = rw e (ap (polling.acceptedAfter s bytes) h)
 
 -- it is witnessed, and else only the last activity changes
-pub cut-heard : (bytes : List ℕ) (clock k : ℕ) → SaysToken bytes clock k → 1 ≤ k → (time hold last : ℕ) (gap : GapState) (r : Ring) → last < clock → clock < last + 2400 → run (lowestWith steps.toListenToken (coreAt time hold last gap) r) (poll bytes ∷ []) ≡ lowestWith steps.toListenToken (coreAt time hold clock gap) (witnessOf r k 0)
-unfolding rounded timeOf slotTimeOf tokenLostOf rotationTimeOf withActivity withGap withPending withTokenTimes withNextApplication withOnline after run steps.knownAt steps.elapsedOf steps.waitedOf steps.markedAt steps.busyOf steps.ongoingOf steps.busActivityOf steps.doneOf polling.connectedOf polling.dispatchOf polling.pollOnline polling.pollInner polling.acceptedAfter polling.acceptedPoll polling.pollOf answering.polledOf steps.rxOf steps.tokenLostWaitOf steps.heardOf hear.listenHeard hear.listenTelegram listening.heardTelegram listening.heardAll listening.receivedAll listening.consumedAll listening.listenTokenOn listening.handleLostToken listening.listenTokenOf
-cut-heard bytes clock k said l time hold last gap r later soon =
-    let s = lowestWith steps.toListenToken (coreAt time hold last gap) r in
+pub cut-heard : (bytes : List ℕ) (clock k : ℕ) → SaysToken bytes clock k → 1 ≤ k → (claimed met time hold last : ℕ) (gap : GapState) (r : Ring) → last < clock → clock < last + 2400 → run (lowestWith claimed met steps.toListenToken (coreAt time hold last gap) r) (poll bytes ∷ []) ≡ lowestWith claimed met steps.toListenToken (coreAt time hold clock gap) (witnessOf r k 0)
+unfolding rounded timeOf slotTimeOf tokenLostOf rotationTimeOf withActivity withGap withPending withTokenTimes withNextApplication withConnectivity isOffline after run steps.knownAt steps.elapsedOf steps.waitedOf steps.markedAt steps.busyOf steps.ongoingOf steps.busActivityOf steps.doneOf polling.connectedOf polling.enteredOf polling.dispatchOf polling.pollOnline polling.pollInner polling.acceptedAfter polling.acceptedPoll polling.pollOf raisedBy countedOf answering.polledOf steps.rxOf steps.tokenLostWaitOf steps.heardOf steps.collisionOf hear.sentByUs hear.notedOf hear.witnessedOf hear.overheardOf hear.listenHeard hear.listenTelegram listening.heardTelegram listening.heardAll listening.receivedAll listening.metToo listening.metIn listening.meetingsOf listening.consumedAll listening.listenTokenOn listening.handleLostToken listening.listenTokenOf
+cut-heard bytes clock k said l claimed met time hold last gap r later soon =
+    let s = lowestWith claimed met steps.toListenToken (coreAt time hold last gap) r in
     ap (λ (x : Polled). x .station) (by-head s bytes _ (said .accepted) (said .head))
     ∙ rw (lt-leb clock last later, lt-leb (last + 2400) clock soon, said .telegram, ne-eqb k 0 (λ e. omega arith), lt-ltb last clock later)
 
@@ -228,12 +230,12 @@ pub record Claimed (r : Ring) : Type 0 where
   pub question-heard : run (listens-question 5000 r) (claims 7400) ≡ pass-question (claimOf (claimOf r))
 
 pub claimed : (r : Ring) → Claimed r
-unfolding rounded timeOf slotTimeOf tokenLostOf rotationTimeOf withActivity withGap withPending withTokenTimes withNextApplication withOnline after run fieldOf beFrom loadOf zerosOr14 words.responseStateOf words.telegramRefusal words.telegramOf decisions.lengthRefusal decisions.decisionRefusal decisions.decisionOf records.headOf records.telegramAt records.decisionAt records.entryRefusal records.wordsRefusal records.recordRefusal steps.knownAt steps.elapsedOf steps.waitedOf steps.markedAt steps.busyOf steps.ongoingOf steps.busActivityOf steps.doneOf polling.connectedOf polling.dispatchOf polling.pollOnline polling.pollInner polling.acceptedAfter polling.acceptedPoll polling.pollOf answering.polledOf steps.rxOf steps.tokenLostWaitOf steps.heardOf hear.listenHeard hear.listenTelegram listening.heardTelegram listening.heardAll listening.receivedAll listening.consumedAll listening.listenTokenOn listening.handleLostToken listening.listenTokenOf steps.pauseOf steps.sentAt steps.transmitOf steps.withTokenTime claiming.claimNext claiming.claimTokenOf holding.declinesOn holding.declinesAt holding.usePassOf holding.appTransmitOf holding.firstOr holding.turnOf holding.askedFrom holding.askedOf holding.holdLess holding.capped holding.endOf holding.holdEndOf holding.holdsOf holding.useAppsAfter holding.useAppsOf holding.useTokenTimed holding.useTokenOf
+unfolding rounded timeOf slotTimeOf tokenLostOf rotationTimeOf withActivity withGap withPending withTokenTimes withNextApplication withConnectivity isOffline after run fieldOf beFrom loadOf zerosOr14 words.responseStateOf words.telegramRefusal words.telegramOf decisions.lengthRefusal decisions.decisionRefusal decisions.decisionOf records.headOf records.telegramAt records.decisionAt records.entryRefusal records.wordsRefusal records.recordRefusal steps.knownAt steps.elapsedOf steps.waitedOf steps.markedAt steps.busyOf steps.ongoingOf steps.busActivityOf steps.doneOf polling.connectedOf polling.enteredOf polling.dispatchOf polling.pollOnline polling.pollInner polling.acceptedAfter polling.acceptedPoll polling.pollOf raisedBy countedOf answering.polledOf steps.rxOf steps.tokenLostWaitOf steps.heardOf hear.sentByUs hear.notedOf hear.witnessedOf hear.overheardOf steps.collisionOf hear.listenHeard hear.listenTelegram listening.heardTelegram listening.heardAll listening.receivedAll listening.metToo listening.metIn listening.meetingsOf listening.consumedAll listening.listenTokenOn listening.handleLostToken listening.listenTokenOf steps.pauseOf steps.sentAt steps.transmitOf steps.withEvent steps.withTokenTime claiming.claimNext claiming.claimTokenOf holding.declinesOn holding.declinesAt holding.usePassOf holding.appTransmitOf holding.firstOr holding.turnOf holding.askedFrom holding.askedOf holding.holdLess holding.capped holding.endOf holding.holdEndOf holding.holdsOf holding.useAppsAfter holding.useAppsOf holding.useTokenTimed holding.useTokenOf
 claimed r = record { look-none = refl; look-heard = refl; question-none = refl; question-heard = refl }
 
 -- 1 is asked, where the ring has it polled; and it answers: in the ring, or not ready
 pub one-gets-asked : (r : Ring) → polls r 1 ≡ true → run (pass-question r) (pollSilent 8000 ∷ []) ≡ awaits-one r
-unfolding rounded timeOf slotTimeOf tokenLostOf rotationTimeOf withActivity withGap withPending withTokenTimes withNextApplication withOnline after run fieldOf beFrom loadOf zerosOr14 words.responseStateOf words.telegramRefusal words.telegramOf decisions.lengthRefusal decisions.decisionRefusal decisions.decisionOf records.headOf records.telegramAt records.decisionAt records.entryRefusal records.wordsRefusal records.recordRefusal steps.knownAt steps.elapsedOf steps.waitedOf steps.markedAt steps.busyOf steps.ongoingOf steps.busActivityOf steps.doneOf polling.connectedOf polling.dispatchOf polling.pollOnline polling.pollInner polling.acceptedAfter polling.acceptedPoll polling.pollOf answering.polledOf steps.pauseOf steps.sentAt steps.transmitOf steps.withTokenTime claiming.claimNext claiming.claimTokenOf passing.gapAdvanced passing.passSentOn passing.passSend passing.passPollOn passing.passPoll passing.passTokenOf gapOf candidateOf status.statusRingOn status.statusRing status.statusAnswered status.statusReceived status.awaitStatusOf
+unfolding rounded timeOf slotTimeOf tokenLostOf rotationTimeOf withActivity withGap withPending withTokenTimes withNextApplication withConnectivity isOffline after run fieldOf beFrom loadOf zerosOr14 words.responseStateOf words.telegramRefusal words.telegramOf decisions.lengthRefusal decisions.decisionRefusal decisions.decisionOf records.headOf records.telegramAt records.decisionAt records.entryRefusal records.wordsRefusal records.recordRefusal steps.knownAt steps.elapsedOf steps.waitedOf steps.markedAt steps.busyOf steps.ongoingOf steps.busActivityOf steps.doneOf polling.connectedOf polling.enteredOf polling.dispatchOf polling.pollOnline polling.pollInner polling.acceptedAfter polling.acceptedPoll polling.pollOf raisedBy countedOf answering.polledOf steps.pauseOf steps.sentAt steps.transmitOf steps.withEvent steps.withTokenTime claiming.claimNext claiming.claimTokenOf passing.gapAdvanced passing.passSentOn passing.passSend passing.passPollOn passing.passPoll passing.passTokenOf gapOf candidateOf status.statusRingOn status.statusRing status.statusAnswered status.statusReceived status.awaitStatusOf
 one-gets-asked r e = rw e
 
 pub record OneAnswers (r : Ring) : Type 0 where
@@ -241,5 +243,5 @@ pub record OneAnswers (r : Ring) : Type 0 where
   pub not-ready : run (awaits-one r) (pollHearing 8300 (responseOf1 1 ∷ []) ∷ []) ≡ pass-answered r
 
 pub one-answers : (r : Ring) → OneAnswers r
-unfolding rounded timeOf slotTimeOf tokenLostOf rotationTimeOf withActivity withGap withPending withTokenTimes withNextApplication withOnline after run fieldOf beFrom loadOf zerosOr14 words.responseStateOf words.telegramRefusal words.telegramOf decisions.lengthRefusal decisions.decisionRefusal decisions.decisionOf records.headOf records.telegramAt records.decisionAt records.entryRefusal records.wordsRefusal records.recordRefusal steps.knownAt steps.elapsedOf steps.waitedOf steps.markedAt steps.busyOf steps.ongoingOf steps.busActivityOf steps.doneOf polling.connectedOf polling.dispatchOf polling.pollOnline polling.pollInner polling.acceptedAfter polling.acceptedPoll polling.pollOf answering.polledOf steps.rxOf gapOf candidateOf status.statusRingOn status.statusRing status.statusAnswered status.statusReceived status.awaitStatusOf
+unfolding rounded timeOf slotTimeOf tokenLostOf rotationTimeOf withActivity withGap withPending withTokenTimes withNextApplication withConnectivity isOffline after run fieldOf beFrom loadOf zerosOr14 words.responseStateOf words.telegramRefusal words.telegramOf decisions.lengthRefusal decisions.decisionRefusal decisions.decisionOf records.headOf records.telegramAt records.decisionAt records.entryRefusal records.wordsRefusal records.recordRefusal steps.knownAt steps.elapsedOf steps.waitedOf steps.markedAt steps.busyOf steps.ongoingOf steps.busActivityOf steps.doneOf polling.connectedOf polling.enteredOf polling.dispatchOf polling.pollOnline polling.pollInner polling.acceptedAfter polling.acceptedPoll polling.pollOf raisedBy countedOf answering.polledOf steps.rxOf gapOf candidateOf status.statusRingOn status.statusRing status.statusAnswered status.statusReceived status.awaitStatusOf
 one-answers r = record { in-ring = refl; not-ready = refl }

@@ -17,15 +17,17 @@ use Rattle.codec_answers.specs.declared.Outcome.the-variants as outcome
 use Rattle.codec_answers.specs.declared.Sent.{Sent}
 use Rattle.codec_answers.specs.declared.Sent.the-variants as sent
 use Rattle.codec_answers.specs.Answers.{sentBytes}
+use Rattle.station.specs.declared.ConnectivityState.the-variants as connectivity
 use Rattle.station.specs.declared.Activity.{Activity}
 use Rattle.station.specs.declared.PassTokenAttempt.{PassTokenAttempt}
 use Rattle.station.specs.declared.PassTokenAttempt.the-variants.{First, Second, Third}
 use Rattle.station.specs.declared.State.{State}
 use Rattle.station.specs.declared.State.the-variants.{ClaimToken, PassToken, CheckTokenPass, AwaitStatusResponse}
 use Rattle.station.specs.declared.Core.{Core}
+use Rattle.station.specs.declared.Event.{Event}
 use Rattle.station.specs.Whole.{RingStep}
 use Rattle.station.specs.Parts.{withActivity, withGap}
-use Rattle.station.specs.Steps.{toUseToken, markedAt, sentAt, busyOf, waitedOf, pauseOf, slotExpiredOf, doneOf, transmitOf, ringStepOf}
+use Rattle.station.specs.Steps.{toUseToken, markedAt, sentAt, busyOf, waitedOf, pauseOf, slotExpiredOf, doneOf, transmitOf, withEvent, ringStepOf}
 use Rattle.station_claim.specs.Claim.{claimNext, claimTokenOf}
 use Rattle.station_pass.specs.Pass.{gapAdvanced, destinationOf, passSentOn, passSend, passPollOn, passPoll, passTokenOf}
 use Rattle.station_pass.specs.Laws.{destination-is, removed-alone}
@@ -39,7 +41,7 @@ use Rattle.theorem_silence.specs.Phases.{Phase, asking, awaiting, starti
 
 -- what holds at every place: online, a sound ring with the settings' address for its own, and these others
 pub record Ready (p : Parameters) (c : Core) (r : Ring) (os : List ℕ) : Type 0 where
-  pub on : c .online ≡ true
+  pub on : c .«connectivity_state» ≡ connectivity.Online
   pub ring-good : RingGood p r
   pub are : others r ≡ os
 
@@ -248,11 +250,16 @@ without-first p c r (x ∷ more) w =
 taken-out : (p : Parameters) (c : Core) (r : Ring) (os : List ℕ) → Ready p c r os → Ready p c (removeOf r (destinationOf (p .address) (nextOf r))) (behind os)
 taken-out p c r os w = record { on = w .on; ring-good = remove-good p r _ (w .ring-good); are = without-first p c r os w }
 
+-- what is counted of a step changes nothing of what it sends and where it leads
+pub counted-too : {p : Parameters} {now : Micros} {out : Sent} {ph : Phase} (x : RingStep) (e : Event) → Sends p now out ph x → Sends p now out ph (withEvent x e)
+unfolding withEvent
+counted-too x e g = record { telegram = g .telegram; marks = g .marks; place = g .place }
+
 pub resent : (k : PassTokenAttempt) (p : Parameters) (c : Core) (r : Ring) (now : Micros) (os : List ℕ) → Ready p c r os → pauseOf p c now .over ≡ true → Sends p now (nextSent (p .address) (checking k os)) (next (checking k os)) (resendOf p c r now k)
 unfolding resendOf
 resent First p c r now os w e = again p c r now Second os w e
 resent Second p c r now os w e = again p c r now Third os w e
-resent Third p c r now os w e = again p c _ now First (behind os) (taken-out p c r os w) e
+resent Third p c r now os w e = counted-too _ _ (again p c _ now First (behind os) (taken-out p c r os w) e)
 
 -- What a silent poll comes to.
 

@@ -19,7 +19,7 @@ use Rattle.station.specs.Steps.{pauseOf, transmitOf}
 use Rattle.station_pass.specs.Pass.{passPollOn, passTokenOf}
 use Rattle.station_answer.specs.Answer.{Polled, polledOf, stepAnswer}
 use Rattle.station_poll.specs.Poll.{pollOf}
-use Rattle.theorem_silence.specs.Silence.{gapDue, online, Quiet, slotAfter, counted}
+use Rattle.theorem_silence.specs.Silence.{gapDue, Online, Quiet, slotAfter, counted}
 use Rattle.theorem_silence.specs.Times.{Slotted, slotted, counted-free, counted-paused}
 use Rattle.theorem_silence.specs.OnePoll.{quietStep, dispatch-pass, asked-step, due-whom}
 use Rattle.theorem_silence.specs.Theorem.{clockOf, poll-is, connected-pass}
@@ -37,13 +37,13 @@ unfolding quietStep
 pass-step p w s c r now bytes n gap state e = rw (counted-free p w c now e) (dispatch-pass p s c r now bytes n gap First state)
 
 -- with a question due, a counted poll sends a status request
-pub question-first : (s : Station) (bytes : List ℕ) (gap : Bool) → firstRefusal (plainOf (s .p)) ≡ 0 → online s ≡ true → s .state ≡ PassToken gap First → gapDue (s .p) (s .core) (s .«token_ring») gap ≡ true → Quiet (s .applications) bytes → counted s bytes ≡ true → (a : ℕ) × (pollOf s bytes .answer .sent ≡ StatusRequest a)
+pub question-first : (s : Station) (bytes : List ℕ) (gap : Bool) → firstRefusal (plainOf (s .p)) ≡ 0 → Online s → s .state ≡ PassToken gap First → gapDue (s .p) (s .core) (s .«token_ring») gap ≡ true → Quiet (s .applications) bytes → counted s bytes ≡ true → (a : ℕ) × (pollOf s bytes .answer .sent ≡ StatusRequest a)
 unfolding counted polledOf stepAnswer
 question-first s bytes gap settings on state due q e =
     let c = s .core in
     let r = s .«token_ring» in
     let w = slotted (s .p) settings in
-    let polled = poll-is (s .p) (s .applications) (s .state) c r bytes q on (connected-pass (s .state) gap First state) in
+    let polled = poll-is (s .p) (s .applications) (s .counts) (s .state) c r bytes q on (connected-pass (s .state) gap First state) in
     let step = pass-step (s .p) w (s .state) c r (clockOf bytes) bytes (s .applications) gap state e in
     let asked = asked-over (s .p) c r (clockOf bytes) gap First due (counted-paused (s .p) w c (clockOf bytes) e) in
     (asked .0, ap (λ (y : Polled). y .answer .sent) polled ∙ ap (λ (x : RingStep). x .step .sent) step ∙ asked .1)

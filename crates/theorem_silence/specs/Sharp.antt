@@ -23,8 +23,10 @@ use Rattle.station.specs.declared.Activity.the-variants as activity
 use Rattle.station.specs.declared.PassTokenAttempt.the-variants.{First}
 use Rattle.station.specs.declared.State.{State}
 use Rattle.station.specs.declared.Core.{Core}
+use Rattle.station.specs.declared.Counts.{Counts}
 use Rattle.station.specs.Whole.{Station, RingStep}
 use Rattle.station.specs.Steps.{sentAt}
+use Rattle.station_answer.specs.Counted.{countedOf}
 use Rattle.station_answer.specs.Answer.{Polled, polledOf}
 use Rattle.station_poll.specs.Poll.{pollOf}
 use Rattle.theorem_silence.specs.Silence.{Start, AllQuiet, holdsToken, until, told, sentUntil, counted, countedIn, slotAfter}
@@ -108,7 +110,7 @@ next-after p a now clock bytes most wait step e l is room =
     rw is (le-leb (now + bytesTime p bytes + wait) (clock + step) (omega arith))
 
 -- one poll of such a run, and the run from where it leads
-module _ (ph : Phase) (p : Parameters) (w : Slotted p) (time : Parameters → Micros) (n step : ℕ) (s : State) (c : Core) (r : Ring) (clock : ℕ) (u : Under ph) (g : At ph p s c r) (long : slotTimeOf p .0 ≤ time p .0) (room : bytesTime p (longest ph) + time p .0 ≤ step) (on-time : slotAfter (c .«last_bus_activity») clock (time p .0) ≡ true) (low : clock < 2 ^ 48) (later : List (List ℕ)) where
+module _ (ph : Phase) (p : Parameters) (w : Slotted p) (time : Parameters → Micros) (n step : ℕ) (ks : Counts) (s : State) (c : Core) (r : Ring) (clock : ℕ) (u : Under ph) (g : At ph p s c r) (long : slotTimeOf p .0 ≤ time p .0) (room : bytesTime p (longest ph) + time p .0 ≤ step) (on-time : slotAfter (c .«last_bus_activity») clock (time p .0) ≡ true) (low : clock < 2 ^ 48) (later : List (List ℕ)) where
   abbrev the-bytes : List ℕ
   the-bytes = silentAt n clock
 
@@ -126,12 +128,12 @@ module _ (ph : Phase) (p : Parameters) (w : Slotted p) (time : Parameters → Mi
   is-next : slotAfter (the-step .step .core .«last_bus_activity») (clock + step) (time p .0) ≡ true
   is-next = next-after p (the-step .step .core .«last_bus_activity») (headOf the-bytes .clock) clock _ (longest ph) (time p .0) step (silent-clock n clock low) (omega (arith, longest-now (p .address) ph)) (is-sent .marks) room
 
-  evenly-on : ((y : State) (d : Core) (t : Ring) → At (next ph) p y d t → slotAfter (d .«last_bus_activity») (clock + step) (time p .0) ≡ true → AllAfter time (stationOf p n y d t) later) → AllAfter time (stationOf p n s c r) (the-bytes ∷ later)
+  evenly-on : ((ms : Counts) (y : State) (d : Core) (t : Ring) → At (next ph) p y d t → slotAfter (d .«last_bus_activity») (clock + step) (time p .0) ≡ true → AllAfter time (stationOf p n ms y d t) later) → AllAfter time (stationOf p n ks s c r) (the-bytes ∷ later)
   unfolding polledOf
   evenly-on then = (
     is-after,
-    subst (λ (y : Polled). AllAfter time (y .station) later) (sym (poll-at ph p n s c r the-bytes (silent-quiet n clock low) g))
-        (then (the-step .step .state) (the-step .step .core) (the-step .ring) (is-sent .place) is-next),
+    subst (λ (y : Polled). AllAfter time (y .station) later) (sym (poll-at ph p n ks s c r the-bytes (silent-quiet n clock low) g))
+        (then (countedOf ks (the-step .step .event)) (the-step .step .state) (the-step .step .core) (the-step .ring) (is-sent .place) is-next),
   )
 
 -- while there are m telegrams to send, m polls all come late enough if they are as far apart as the longest telegram and the wait
@@ -143,12 +145,12 @@ step-room p ph wait step l =
     let shorter = time-grows (byteBits * longest (next ph)) (byteBits * longest ph) (p .baudrate) (omega (arith, longest-next ph)) in
     omega arith
 
-pub evenly-after : (m : ℕ) (ph : Phase) (p : Parameters) → Slotted p → (time : Parameters → Micros) (n step : ℕ) (s : State) (c : Core) (r : Ring) (clock : ℕ) → At ph p s c r → m ≤ length (todo (p .address) ph) → slotTimeOf p .0 ≤ time p .0 → bytesTime p (longest ph) + time p .0 ≤ step → slotAfter (c .«last_bus_activity») clock (time p .0) ≡ true → clock + m * step < 2 ^ 48 → AllAfter time (stationOf p n s c r) (evenly n step m clock)
+pub evenly-after : (m : ℕ) (ph : Phase) (p : Parameters) → Slotted p → (time : Parameters → Micros) (n step : ℕ) (ks : Counts) (s : State) (c : Core) (r : Ring) (clock : ℕ) → At ph p s c r → m ≤ length (todo (p .address) ph) → slotTimeOf p .0 ≤ time p .0 → bytesTime p (longest ph) + time p .0 ≤ step → slotAfter (c .«last_bus_activity») clock (time p .0) ≡ true → clock + m * step < 2 ^ 48 → AllAfter time (stationOf p n ks s c r) (evenly n step m clock)
 unfolding evenly
-evenly-after zero ph p w time n step s c r clock g l long far a room = tt
-evenly-after (suc m) ph p w time n step s c r clock g l long far a room =
-    evenly-on ph p w time n step s c r clock (some-under (p .address) ph (omega arith)) g long far a (room-here (suc m) step clock room) (evenly n step m (clock + step))
-    (λ y d t to b. evenly-after m (next ph) p w time n step y d t (clock + step) to (next-room (p .address) m ph l) long (step-room p ph (time p .0) step far) b (room-on m step clock room))
+evenly-after zero ph p w time n step ks s c r clock g l long far a room = tt
+evenly-after (suc m) ph p w time n step ks s c r clock g l long far a room =
+    evenly-on ph p w time n step ks s c r clock (some-under (p .address) ph (omega arith)) g long far a (room-here (suc m) step clock room) (evenly n step m (clock + step))
+    (λ ms y d t to b. evenly-after m (next ph) p w time n step ms y d t (clock + step) to (next-room (p .address) m ph l) long (step-room p ph (time p .0) step far) b (room-on m step clock room))
 
 -- The bound of Silence.
 
@@ -178,7 +180,7 @@ counted-run s last m h a l room =
     let slot = slotTimeOf (s .p) .0 in
     let clock = last .0 + slot in
     let run = evenly (s .applications) (turnTime (s .p)) m clock in
-    let late = evenly-after m (starting First os) (s .p) (slotted (s .p) (h .settings)) slotTimeOf (s .applications) (turnTime (s .p)) (s .state) (s .core) (s .«token_ring») clock (started s h) (omega (arith, tokens-length os (s .p .address))) (omega arith) (omega arith) (rw a (le-leb clock clock (omega arith))) room in
+    let late = evenly-after m (starting First os) (s .p) (slotted (s .p) (h .settings)) slotTimeOf (s .applications) (turnTime (s .p)) (s .counts) (s .state) (s .core) (s .«token_ring») clock (started s h) (omega (arith, tokens-length os (s .p .address))) (omega arith) (omega arith) (rw a (le-leb clock clock (omega arith))) room in
     record {
       records = run;
       quiet = evenly-quiet m (s .applications) (turnTime (s .p)) clock room;

@@ -32,7 +32,7 @@ use Rattle.codec_answers.specs.declared.Sent.the-variants.{Token, Application}
 use Rattle.station.specs.declared.PassTokenAttempt.the-variants.{First}
 use Rattle.station.specs.declared.State.the-variants.{PassToken}
 use Rattle.station.specs.Whole.{Station}
-use Rattle.station.specs.Parts.{freshStation, freshCore, withActivity, withGap, withPending, withTokenTimes, withNextApplication, withOnline}
+use Rattle.station.specs.Parts.{freshStation, freshCore, withActivity, withGap, withPending, withTokenTimes, withNextApplication, withConnectivity, isOffline}
 use Rattle.station.specs.Steps as steps
 use Rattle.station_hear_listen.specs.HearListen as hear
 use Rattle.station_listen.specs.Listen as listening
@@ -40,6 +40,7 @@ use Rattle.station_hold.specs.Hold as holding
 use Rattle.station_pass.specs.Pass as passing
 use Rattle.station_check_pass.specs.CheckPass as checking
 use Rattle.station_claim.specs.Claim as claiming
+use Rattle.station_answer.specs.Counted.{raisedBy, countedOf}
 use Rattle.station_answer.specs.Answer as answering
 use Rattle.station_command.specs.Command as commands
 use Rattle.station_poll.specs.Poll as polling
@@ -73,9 +74,9 @@ unfolding slotTimeOf timeOf rounded
 room k last h l = omega arith
 
 -- a core that starts a token pass, and a ring with the members 0, 1, .. k: the premises are met
-met-by : (k : ℕ) (gap : Bool) (time hold last : ℕ) (turn : GapState) (r : Ring) (cs : List Call) → k ≤ 125 → last ≤ 9000 → run (freshStation lowest 1) cs ≡ lowestWith (PassToken gap First) (coreAt time hold last turn) r → gapDue lowest (coreAt time hold last turn) r gap ≡ false → r .own ≡ 0 → UpTo r k → Met k gap
-met-by k gap time hold last turn r cs h l makes due own members =
-    let s = lowestWith (PassToken gap First) (coreAt time hold last turn) r in
+met-by : (k : ℕ) (gap : Bool) (claimed met time hold last : ℕ) (turn : GapState) (r : Ring) (cs : List Call) → k ≤ 125 → last ≤ 9000 → run (freshStation lowest 1) cs ≡ lowestWith claimed met (PassToken gap First) (coreAt time hold last turn) r → gapDue lowest (coreAt time hold last turn) r gap ≡ false → r .own ≡ 0 → UpTo r k → Met k gap
+met-by k gap claimed met time hold last turn r cs h l makes due own members =
+    let s = lowestWith claimed met (PassToken gap First) (coreAt time hold last turn) r in
     let calls = made-by lowest cs s lowest-accepted makes in
     let starts = start-of-calls s calls refl gap refl due in
     let size = others-up-to r k own h members in
@@ -134,7 +135,7 @@ made-listens k l = calls-on begins-look (others-look k) (freshStation lowest 1) 
         let cut = hears-cut 900 (suc k) ∷ [] in
         calls-on (hears-all 100 1 7) cut begun-look
         ∙ ap (λ (s : Station). run s cut) (first-runs .heard-all)
-        ∙ cut-heard _ 900 (suc k) (says-token (suc k) (omega arith) .0) (omega arith) 0 0 800 (Waiting 0) ring-all (omega arith) (omega arith)
+        ∙ cut-heard _ 900 (suc k) (says-token (suc k) (omega arith) .0) (omega arith) 0 0 0 0 800 (Waiting 0) ring-all (omega arith) (omega arith)
 
 -- and more calls go on from there
 pub made-on : (k : ℕ) → k ≤ 125 → (cs : List Call) → run (freshStation lowest 1) ((begins-look ++ others-look k) ++ cs) ≡ run (listens-look (heard-at k) (ring-of k)) cs
@@ -156,7 +157,7 @@ no-question r = refl
 met-look : (k : ℕ) → k ≤ 125 → Met k true
 met-look k l =
     let r = claimOf (claimOf (ring-of k)) in
-    met-by k true 3500 64872 3566 (Waiting 0) r (callsFor k true) l (omega arith) (made-look k l) (no-question r) (claimed-own (ring-of k) ∙ own-of k)
+    met-by k true 1 0 3500 64872 3566 (Waiting 0) r (callsFor k true) l (omega arith) (made-look k l) (no-question r) (claimed-own (ring-of k) ∙ own-of k)
     (λ x m. claimed-has (ring-of k) x ∙ members-look k l x m)
 
 -- Without it: after a gap question.
@@ -217,7 +218,7 @@ claims-due (suc (suc k)) l =
     ap (λ (s : Station). run s (claims 7400))
     (calls-on (hears-all 4200 2 6) cut begun-question
     ∙ ap (λ (s : Station). run s cut) (first-runs .heard-but-one)
-    ∙ cut-heard _ 5000 (suc (suc k)) (says-token (suc (suc k)) (omega arith) .1) (omega arith) 3400 67872 4900 (Waiting 2) ring-but-one (omega arith) (omega arith))
+    ∙ cut-heard _ 5000 (suc (suc k)) (says-token (suc (suc k)) (omega arith) .1) (omega arith) 1 2 3400 67872 4900 (Waiting 2) ring-but-one (omega arith) (omega arith))
     ∙ claimed (witnessOf ring-but-one (suc (suc k)) 0) .question-heard
 
 pub made-due : (k : ℕ) → k ≤ 125 → (cs : List Call) → run (freshStation lowest 1) (begins-question ++ (others-question k ++ (claims 7400 ++ cs))) ≡ run (pass-question (claimOf (claimOf (before-one k)))) cs
@@ -246,7 +247,7 @@ made-question k l =
     answered-for (suc k) = one-answers (claimOf (claimOf (before-one (suc k)))) .in-ring
 
 met-question : (k : ℕ) → k ≤ 125 → Met k false
-met-question k l = met-by k false 7600 68272 8300 (DoPoll 1) (after-one k) (callsFor k false) l (omega arith) (made-question k l) (no-gap lowest (pass-answered (after-one k) .core) (after-one k)) (own-after k) (members-question k l)
+met-question k l = met-by k false 2 2 7600 68272 8300 (DoPoll 1) (after-one k) (callsFor k false) l (omega arith) (made-question k l) (no-gap lowest (pass-answered (after-one k) .core) (after-one k)) (own-after k) (members-question k l)
 
 -- for both flags
 pub premises-met : PremisesMet
@@ -293,7 +294,7 @@ here-accepted = refl
 
 -- the same station with another ring, and with its own
 abbrev pub withRing : Station → Ring → Station
-withRing s r = record { state = s .state; core = s .core; «token_ring» = r; p = s .p; applications = s .applications }
+withRing s r = record { state = s .state; core = s .core; «token_ring» = r; p = s .p; counts = s .counts; applications = s .applications }
 
 pub ring-is : (s : Station) (r : Ring) → s .«token_ring» ≡ r → s ≡ withRing s r
 ring-is s r e = ap (withRing s) e
@@ -307,7 +308,7 @@ unfolding make claimOf
 claimed-nine = ap (λ (r : Ring). claimOf (claimOf r)) heard-nine
 
 letter-ring : letterStation .«token_ring» ≡ claimOf (claimOf (witnessOf (freshOf 5) 9 5))
-unfolding fieldOf beFrom loadOf rounded timeOf slotTimeOf tokenLostOf rotationTimeOf prevOf freshStation freshCore withActivity withGap withPending withTokenTimes withNextApplication withOnline after run zerosOr14 decisions.lengthRefusal words.responseStateOf decisions.decisionRefusal words.telegramRefusal words.telegramOf decisions.decisionOf records.headOf records.telegramAt records.decisionAt records.entryRefusal records.wordsRefusal records.recordRefusal steps.knownAt steps.elapsedOf steps.waitedOf steps.markedAt steps.busyOf steps.ongoingOf steps.pauseOf steps.sentAt steps.busActivityOf steps.rxOf steps.slotExpiredOf steps.tokenLostWaitOf steps.doneOf steps.transmitOf steps.heardOf hear.listenHeard hear.listenTelegram listening.heardTelegram listening.heardAll listening.receivedAll listening.consumedAll listening.listenTokenOn listening.handleLostToken listening.listenTokenOf polling.connectedOf polling.dispatchOf polling.pollOnline polling.pollInner answering.polledOf polling.acceptedAfter polling.acceptedPoll polling.pollOf commands.onlineOf claiming.claimNext claiming.claimTokenOf steps.withTokenTime holding.declinesOn holding.declinesAt holding.usePassOf holding.appTransmitOf holding.firstOr holding.turnOf holding.askedFrom holding.askedOf holding.holdLess holding.capped holding.endOf holding.holdEndOf holding.holdsOf holding.useAppsAfter holding.useAppsOf holding.useTokenTimed holding.useTokenOf passing.gapAdvanced passing.passSentOn passing.passSend passing.passPollOn passing.passPoll passing.passTokenOf checking.resendOf checking.checkReceived checking.checkTokenPassOf counted countedIn slotAfter sentIn answering.stepAnswer gapDue
+unfolding fieldOf beFrom loadOf rounded timeOf slotTimeOf tokenLostOf rotationTimeOf prevOf freshStation freshCore withActivity withGap withPending withTokenTimes withNextApplication withConnectivity isOffline after run zerosOr14 decisions.lengthRefusal words.responseStateOf decisions.decisionRefusal words.telegramRefusal words.telegramOf decisions.decisionOf records.headOf records.telegramAt records.decisionAt records.entryRefusal records.wordsRefusal records.recordRefusal steps.knownAt steps.elapsedOf steps.waitedOf steps.markedAt steps.busyOf steps.ongoingOf steps.pauseOf steps.sentAt steps.busActivityOf steps.rxOf steps.slotExpiredOf steps.tokenLostWaitOf steps.doneOf steps.transmitOf steps.withEvent steps.heardOf hear.sentByUs hear.notedOf hear.witnessedOf hear.overheardOf steps.collisionOf hear.listenHeard hear.listenTelegram listening.heardTelegram listening.heardAll listening.receivedAll listening.metToo listening.metIn listening.meetingsOf listening.consumedAll listening.listenTokenOn listening.handleLostToken listening.listenTokenOf polling.connectedOf polling.enteredOf polling.dispatchOf polling.pollOnline polling.pollInner raisedBy countedOf answering.polledOf polling.acceptedAfter polling.acceptedPoll polling.pollOf commands.onlineOf commands.connectOf claiming.claimNext claiming.claimTokenOf steps.withTokenTime holding.declinesOn holding.declinesAt holding.usePassOf holding.appTransmitOf holding.firstOr holding.turnOf holding.askedFrom holding.askedOf holding.holdLess holding.capped holding.endOf holding.holdEndOf holding.holdsOf holding.useAppsAfter holding.useAppsOf holding.useTokenTimed holding.useTokenOf passing.gapAdvanced passing.passSentOn passing.passSend passing.passPollOn passing.passPoll passing.passTokenOf checking.removalOf checking.resendOf checking.checkReceived checking.checkTokenPassOf counted countedIn slotAfter sentIn answering.stepAnswer gapDue
 letter-ring = refl
 
 letter-is : letterStation ≡ withRing letterStation ring-nine
@@ -315,7 +316,7 @@ letter-is = ring-is letterStation ring-nine (letter-ring ∙ claimed-nine)
 
 -- worked out from the definitions
 pub letter-run : LetterRun
-unfolding fieldOf beFrom loadOf rounded timeOf slotTimeOf tokenLostOf rotationTimeOf walk nearest betweenOf roundOf lapsOf listed afterOf beforeOf linkAt tab linksOf linkOf unlinkOf behindOf insertOf sweepOf relinkOf followsOf confirmsOf rings.counted has make others freshOf witnessOf claimOf nextOf prevOf freshStation freshCore withActivity withGap withPending withTokenTimes withNextApplication withOnline after run zerosOr14 decisions.lengthRefusal words.responseStateOf decisions.decisionRefusal words.telegramRefusal words.telegramOf decisions.decisionOf records.headOf records.telegramAt records.decisionAt records.entryRefusal records.wordsRefusal records.recordRefusal steps.knownAt steps.elapsedOf steps.waitedOf steps.markedAt steps.busyOf steps.ongoingOf steps.pauseOf steps.sentAt steps.busActivityOf steps.rxOf steps.slotExpiredOf steps.tokenLostWaitOf steps.doneOf steps.transmitOf steps.heardOf hear.listenHeard hear.listenTelegram listening.heardTelegram listening.heardAll listening.receivedAll listening.consumedAll listening.listenTokenOn listening.handleLostToken listening.listenTokenOf polling.connectedOf polling.dispatchOf polling.pollOnline polling.pollInner answering.polledOf polling.acceptedAfter polling.acceptedPoll polling.pollOf commands.onlineOf claiming.claimNext claiming.claimTokenOf steps.withTokenTime holding.declinesOn holding.declinesAt holding.usePassOf holding.appTransmitOf holding.firstOr holding.turnOf holding.askedFrom holding.askedOf holding.holdLess holding.capped holding.endOf holding.holdEndOf holding.holdsOf holding.useAppsAfter holding.useAppsOf holding.useTokenTimed holding.useTokenOf passing.gapAdvanced passing.passSentOn passing.passSend passing.passPollOn passing.passPoll passing.passTokenOf checking.resendOf checking.checkReceived checking.checkTokenPassOf removeOf counted countedIn slotAfter sentIn answering.stepAnswer gapDue
+unfolding fieldOf beFrom loadOf rounded timeOf slotTimeOf tokenLostOf rotationTimeOf walk nearest betweenOf roundOf lapsOf listed afterOf beforeOf linkAt tab linksOf linkOf unlinkOf behindOf insertOf sweepOf relinkOf followsOf confirmsOf rings.counted has make others freshOf witnessOf claimOf nextOf prevOf freshStation freshCore withActivity withGap withPending withTokenTimes withNextApplication withConnectivity isOffline after run zerosOr14 decisions.lengthRefusal words.responseStateOf decisions.decisionRefusal words.telegramRefusal words.telegramOf decisions.decisionOf records.headOf records.telegramAt records.decisionAt records.entryRefusal records.wordsRefusal records.recordRefusal steps.knownAt steps.elapsedOf steps.waitedOf steps.markedAt steps.busyOf steps.ongoingOf steps.pauseOf steps.sentAt steps.busActivityOf steps.rxOf steps.slotExpiredOf steps.tokenLostWaitOf steps.doneOf steps.transmitOf steps.withEvent steps.heardOf hear.sentByUs hear.notedOf hear.witnessedOf hear.overheardOf steps.collisionOf hear.listenHeard hear.listenTelegram listening.heardTelegram listening.heardAll listening.receivedAll listening.metToo listening.metIn listening.meetingsOf listening.consumedAll listening.listenTokenOn listening.handleLostToken listening.listenTokenOf polling.connectedOf polling.enteredOf polling.dispatchOf polling.pollOnline polling.pollInner raisedBy countedOf answering.polledOf polling.acceptedAfter polling.acceptedPoll polling.pollOf commands.onlineOf commands.connectOf claiming.claimNext claiming.claimTokenOf steps.withTokenTime holding.declinesOn holding.declinesAt holding.usePassOf holding.appTransmitOf holding.firstOr holding.turnOf holding.askedFrom holding.askedOf holding.holdLess holding.capped holding.endOf holding.holdEndOf holding.holdsOf holding.useAppsAfter holding.useAppsOf holding.useTokenTimed holding.useTokenOf passing.gapAdvanced passing.passSentOn passing.passSend passing.passPollOn passing.passPoll passing.passTokenOf checking.removalOf checking.resendOf checking.checkReceived checking.checkTokenPassOf removeOf counted countedIn slotAfter sentIn answering.stepAnswer gapDue
 letter-run =
     record {
       starts = start-of-calls letterStation (made-by here letterCalls letterStation here-accepted refl) refl true refl refl;

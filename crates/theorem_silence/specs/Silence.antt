@@ -25,6 +25,7 @@ use Rattle.ring.specs.Ring.{Ring, others}
 use Rattle.codec_records.specs.Records.{headOf, recordRefusal}
 use Rattle.codec_answers.specs.declared.Sent.{Sent}
 use Rattle.codec_answers.specs.declared.Sent.the-variants.{Nothing, Token, StatusRequest, StatusResponse, Application}
+use Rattle.station.specs.declared.ConnectivityState.the-variants as connectivity
 use Rattle.station.specs.declared.Activity.{Activity}
 use Rattle.station.specs.declared.Activity.the-variants as activity
 use Rattle.station.specs.declared.PassTokenAttempt.the-variants.{First}
@@ -49,8 +50,8 @@ unfoldable pub gapDue : Parameters → Core → Ring → Bool → Bool
 gapDue p c ring gap = cond gap (asksOn (gapAdvanced p ring (c .«gap_state»))) false
 
 -- the station is online
-abbrev pub online : Station → Bool
-online s = s .core .online
+abbrev pub Online : Station → Type 0
+Online s = s .core .«connectivity_state» ≡ connectivity.Online
 
 -- "a station that is not offline starts a token pass on its first attempt, no gap question due"
 pub record Start (s : Station) : Type 0 where
@@ -59,7 +60,7 @@ pub record Start (s : Station) : Type 0 where
   -- it is a station as the calls make it (`sound`: every station that calls make is such)
   pub sound : SoundStation s
   -- it is not offline
-  pub not-offline : online s ≡ true
+  pub not-offline : Online s
   -- it is in PassToken, at its first attempt, with or without a look at the gap
   pub gap : Bool
   pub passing : s .state ≡ PassToken gap First

@@ -17,7 +17,7 @@ use Rattle.codec_decisions.specs.Decisions as decisions
 use Rattle.codec_records.specs.Records as records
 use Rattle.codec_answers.specs.declared.Sent.the-variants.{Application}
 use Rattle.station.specs.Whole.{Station}
-use Rattle.station.specs.Parts.{freshStation, freshCore, withActivity, withGap, withPending, withTokenTimes, withNextApplication, withOnline}
+use Rattle.station.specs.Parts.{freshStation, freshCore, withActivity, withGap, withPending, withTokenTimes, withNextApplication, withConnectivity, isOffline}
 use Rattle.station.specs.Steps as steps
 use Rattle.station_hear_listen.specs.HearListen as hear
 use Rattle.station_listen.specs.Listen as listening
@@ -26,6 +26,7 @@ use Rattle.station_pass.specs.Pass as passing
 use Rattle.station_await_status.specs.AwaitStatus as awaiting
 use Rattle.station_check_pass.specs.CheckPass as checking
 use Rattle.station_claim.specs.Claim as claiming
+use Rattle.station_answer.specs.Counted.{raisedBy, countedOf}
 use Rattle.station_answer.specs.Answer as answering
 use Rattle.station_command.specs.Command as commands
 use Rattle.station_poll.specs.Poll as polling
@@ -59,5 +60,5 @@ pub record SiteRun : Type 0 where
 
 -- worked out from the definitions
 pub site-run : SiteRun
-unfolding fieldOf beFrom loadOf rounded timeOf slotTimeOf tokenLostOf rotationTimeOf walk nearest betweenOf roundOf lapsOf listed afterOf beforeOf linkAt tab linksOf linkOf unlinkOf behindOf insertOf sweepOf relinkOf followsOf confirmsOf counted has make others freshOf witnessOf claimOf nextOf prevOf freshStation freshCore withActivity withGap withPending withTokenTimes withNextApplication withOnline after run zerosOr14 decisions.lengthRefusal words.responseStateOf decisions.decisionRefusal words.telegramRefusal words.telegramOf decisions.decisionOf records.headOf records.telegramAt records.decisionAt records.entryRefusal records.wordsRefusal records.recordRefusal steps.knownAt steps.elapsedOf steps.waitedOf steps.markedAt steps.busyOf steps.ongoingOf steps.pauseOf steps.sentAt steps.busActivityOf steps.rxOf steps.slotExpiredOf steps.tokenLostWaitOf steps.doneOf steps.transmitOf steps.heardOf hear.listenHeard hear.listenTelegram listening.heardTelegram listening.heardAll listening.receivedAll listening.consumedAll listening.listenTokenOn listening.handleLostToken listening.listenTokenOf polling.connectedOf polling.dispatchOf polling.pollOnline polling.pollInner answering.polledOf polling.acceptedAfter polling.acceptedPoll polling.pollOf commands.onlineOf claiming.claimNext claiming.claimTokenOf steps.withTokenTime holding.declinesOn holding.declinesAt holding.usePassOf holding.appTransmitOf holding.firstOr holding.turnOf holding.askedFrom holding.askedOf holding.holdLess holding.capped holding.endOf holding.holdEndOf holding.holdsOf holding.useAppsAfter holding.useAppsOf holding.useTokenTimed holding.useTokenOf passing.gapAdvanced passing.passSentOn passing.passSend passing.passPollOn passing.passPoll passing.passTokenOf checking.resendOf checking.checkReceived checking.checkTokenPassOf removeOf polls gapOf candidateOf answering.stepAnswer awaiting.awaitStatusOf
+unfolding fieldOf beFrom loadOf rounded timeOf slotTimeOf tokenLostOf rotationTimeOf walk nearest betweenOf roundOf lapsOf listed afterOf beforeOf linkAt tab linksOf linkOf unlinkOf behindOf insertOf sweepOf relinkOf followsOf confirmsOf counted has make others freshOf witnessOf claimOf nextOf prevOf freshStation freshCore withActivity withGap withPending withTokenTimes withNextApplication withConnectivity isOffline after run zerosOr14 decisions.lengthRefusal words.responseStateOf decisions.decisionRefusal words.telegramRefusal words.telegramOf decisions.decisionOf records.headOf records.telegramAt records.decisionAt records.entryRefusal records.wordsRefusal records.recordRefusal steps.knownAt steps.elapsedOf steps.waitedOf steps.markedAt steps.busyOf steps.ongoingOf steps.pauseOf steps.sentAt steps.busActivityOf steps.rxOf steps.slotExpiredOf steps.tokenLostWaitOf steps.doneOf steps.transmitOf steps.withEvent steps.heardOf hear.sentByUs hear.notedOf hear.witnessedOf hear.overheardOf steps.collisionOf hear.listenHeard hear.listenTelegram listening.heardTelegram listening.heardAll listening.receivedAll listening.metToo listening.metIn listening.meetingsOf listening.consumedAll listening.listenTokenOn listening.handleLostToken listening.listenTokenOf polling.connectedOf polling.enteredOf polling.dispatchOf polling.pollOnline polling.pollInner raisedBy countedOf answering.polledOf polling.acceptedAfter polling.acceptedPoll polling.pollOf commands.onlineOf commands.connectOf claiming.claimNext claiming.claimTokenOf steps.withTokenTime holding.declinesOn holding.declinesAt holding.usePassOf holding.appTransmitOf holding.firstOr holding.turnOf holding.askedFrom holding.askedOf holding.holdLess holding.capped holding.endOf holding.holdEndOf holding.holdsOf holding.useAppsAfter holding.useAppsOf holding.useTokenTimed holding.useTokenOf passing.gapAdvanced passing.passSentOn passing.passSend passing.passPollOn passing.passPoll passing.passTokenOf checking.removalOf checking.resendOf checking.checkReceived checking.checkTokenPassOf removeOf polls gapOf candidateOf answering.stepAnswer awaiting.awaitStatusOf
 site-run = record { polled = refl; token-before = refl; hold-ends = refl; sent = refl }

@@ -18,15 +18,19 @@ use Rattle.codec_records.specs.Records.{headOf}
 use Rattle.codec_answers.specs.declared.Outcome.the-variants as outcome
 use Rattle.codec_answers.specs.declared.Sent.{Sent}
 use Rattle.codec_answers.specs.declared.Sent.the-variants as sent
+use Rattle.station.specs.declared.ConnectivityState.{ConnectivityState}
+use Rattle.station.specs.declared.ConnectivityState.the-variants as connectivity
 use Rattle.station.specs.declared.PassTokenAttempt.{PassTokenAttempt}
 use Rattle.station.specs.declared.PassTokenAttempt.the-variants.{First}
 use Rattle.station.specs.declared.State.{State}
 use Rattle.station.specs.declared.State.the-variants.{PassToken}
 use Rattle.station.specs.declared.Core.{Core}
+use Rattle.station.specs.declared.Counts.{Counts}
 use Rattle.station.specs.Whole.{Station, RingStep}
-use Rattle.station.specs.Parts.{stateNumber}
+use Rattle.station.specs.Parts.{isOffline, stateNumber}
 use Rattle.station.specs.Steps.{ongoingOf, busActivityOf, doneOf, ringStepOf}
-use Rattle.station_poll.specs.Poll.{connectedOf, pollOnline, pollInner, acceptedAfter, acceptedPoll, pollOf}
+use Rattle.station_poll.specs.Poll.{connectedOf, enteredOf, pollOnline, pollInner, acceptedAfter, acceptedPoll, pollOf}
+use Rattle.station_answer.specs.Counted.{countedOf}
 use Rattle.station_answer.specs.Answer.{Polled, polledOf, stepAnswer}
 use Rattle.theorem_silence.specs.Silence.{Start, Quiet, AllQuiet, holdsToken, until, told, sentUntil, counted, countedIn, slotAfter, Theorem}
 use Rattle.theorem_silence.specs.Times.{Slotted, slotted}
@@ -34,34 +38,34 @@ use Rattle.theorem_silence.specs.Phases.{Phase, asking, awaiting, starti
 use Rattle.theorem_silence.specs.OnePoll.{At, ready-at, Sends, Turn, sends, stays, quietStep, turn}
 
 -- the station of these parts
-abbrev pub stationOf : Parameters → ℕ → State → Core → Ring → Station
-stationOf p n s c r = record { state = s; core = c; «token_ring» = r; p = p; applications = n }
+abbrev pub stationOf : Parameters → ℕ → Counts → State → Core → Ring → Station
+stationOf p n ks s c r = record { state = s; core = c; «token_ring» = r; p = p; counts = ks; applications = n }
 
 -- a poll record's clock
 abbrev pub clockOf : List ℕ → Micros
 clockOf bytes = record { 0 = headOf bytes .clock }
 
--- an online station leaves Offline first
-pub inner-online : (p : Parameters) (s : State) (c : Core) (r : Ring) (now : Micros) (transmitting : Bool) (pending : ℕ) (bytes : List ℕ) (n count : ℕ) → c .online ≡ true → pollInner p s c r now transmitting pending bytes n count ≡ pollOnline p (connectedOf s) c r now transmitting pending bytes n count
-unfolding pollInner
+-- an online station leaves Offline and PassiveIdle first
+pub inner-online : (p : Parameters) (s : State) (c : Core) (r : Ring) (now : Micros) (transmitting : Bool) (pending : ℕ) (bytes : List ℕ) (n count : ℕ) → c .«connectivity_state» ≡ connectivity.Online → pollInner p s c r now transmitting pending bytes n count ≡ pollOnline p (connectedOf s) c r now transmitting pending bytes n count
+unfolding pollInner isOffline enteredOf
 inner-online p s c r now transmitting pending bytes n count on =
-    ap (λ (b : Bool). cond b (pollOnline p (connectedOf s) c r now transmitting pending bytes n count) (ringStepOf (doneOf s c outcome.Offline) r)) on
+    ap (λ (v : ConnectivityState). cond (isOffline v) (ringStepOf (doneOf s c outcome.Offline) r) (pollOnline p (enteredOf v s) c r now transmitting pending bytes n count)) on
 
 -- a silent poll of an online station is the silent step
 online-quiet : (p : Parameters) (s : State) (c : Core) (r : Ring) (now : Micros) (bytes : List ℕ) (n : ℕ) → pollOnline p s c r now false 0 bytes n 0 ≡ quietStep p s c r now bytes n
 unfolding pollOnline busActivityOf ongoingOf quietStep
 online-quiet p s c r now bytes n = rw (le-ltb (c .«pending_bytes») 0 (omega arith))
 
-inner-quiet : (p : Parameters) (s : State) (c : Core) (r : Ring) (now : Micros) (bytes : List ℕ) (n : ℕ) → c .online ≡ true → pollInner p s c r now false 0 bytes n 0 ≡ quietStep p (connectedOf s) c r now bytes n
+inner-quiet : (p : Parameters) (s : State) (c : Core) (r : Ring) (now : Micros) (bytes : List ℕ) (n : ℕ) → c .«connectivity_state» ≡ connectivity.Online → pollInner p s c r now false 0 bytes n 0 ≡ quietStep p (connectedOf s) c r now bytes n
 inner-quiet p s c r now bytes n on = inner-online p s c r now false 0 bytes n 0 on ∙ online-quiet p (connectedOf s) c r now bytes n
 
-pub poll-quiet : (p : Parameters) (n : ℕ) (s : State) (c : Core) (r : Ring) (bytes : List ℕ) → Quiet n bytes → c .online ≡ true → pollOf (stationOf p n s c r) bytes ≡ polledOf p n (quietStep p (connectedOf s) c r (clockOf bytes) bytes n)
+pub poll-quiet : (p : Parameters) (n : ℕ) (ks : Counts) (s : State) (c : Core) (r : Ring) (bytes : List ℕ) → Quiet n bytes → c .«connectivity_state» ≡ connectivity.Online → pollOf (stationOf p n ks s c r) bytes ≡ polledOf p n ks (quietStep p (connectedOf s) c r (clockOf bytes) bytes n)
 unfolding pollOf acceptedPoll acceptedAfter
-poll-quiet p n s c r bytes q on =
-    rw (eq-eqb _ _ (q .accepted), q .no-telegram, q .no-pending, q .no-transmission) (ap (polledOf p n) (inner-quiet p s c r (clockOf bytes) bytes n on))
+poll-quiet p n ks s c r bytes q on =
+    rw (eq-eqb _ _ (q .accepted), q .no-telegram, q .no-pending, q .no-transmission) (ap (polledOf p n ks) (inner-quiet p s c r (clockOf bytes) bytes n on))
 
-pub poll-is : (p : Parameters) (n : ℕ) (s : State) (c : Core) (r : Ring) (bytes : List ℕ) → Quiet n bytes → c .online ≡ true → connectedOf s ≡ s → pollOf (stationOf p n s c r) bytes ≡ polledOf p n (quietStep p s c r (clockOf bytes) bytes n)
-poll-is p n s c r bytes q on out = poll-quiet p n s c r bytes q on ∙ ap (λ (x : State). polledOf p n (quietStep p x c r (clockOf bytes) bytes n)) out
+pub poll-is : (p : Parameters) (n : ℕ) (ks : Counts) (s : State) (c : Core) (r : Ring) (bytes : List ℕ) → Quiet n bytes → c .«connectivity_state» ≡ connectivity.Online → connectedOf s ≡ s → pollOf (stationOf p n ks s c r) bytes ≡ polledOf p n ks (quietStep p s c r (clockOf bytes) bytes n)
+poll-is p n ks s c r bytes q on out = poll-quiet p n ks s c r bytes q on ∙ ap (λ (x : State). polledOf p n ks (quietStep p x c r (clockOf bytes) bytes n)) out
 
 -- the states of all places have left Offline
 pub connected-pass : (s : State) (gap : Bool) (k : PassTokenAttempt) → s ≡ PassToken gap k → connectedOf s ≡ s
@@ -78,8 +82,8 @@ connected-at (claiming first os) p s c r g = ap connectedOf (g .1) ∙ sym (g .1
 connected-at (holding os) p s c r g = ap connectedOf (g .1 .held) ∙ sym (g .1 .held)
 
 -- a silent poll of a station at a place, told by the silent step
-pub poll-at : (ph : Phase) (p : Parameters) (n : ℕ) (s : State) (c : Core) (r : Ring) (bytes : List ℕ) → Quiet n bytes → At ph p s c r → pollOf (stationOf p n s c r) bytes ≡ polledOf p n (quietStep p s c r (clockOf bytes) bytes n)
-poll-at ph p n s c r bytes q g = poll-is p n s c r bytes q (ready-at ph p s c r g .on) (connected-at ph p s c r g)
+pub poll-at : (ph : Phase) (p : Parameters) (n : ℕ) (ks : Counts) (s : State) (c : Core) (r : Ring) (bytes : List ℕ) → Quiet n bytes → At ph p s c r → pollOf (stationOf p n ks s c r) bytes ≡ polledOf p n ks (quietStep p s c r (clockOf bytes) bytes n)
+poll-at ph p n ks s c r bytes q g = poll-is p n ks s c r bytes q (ready-at ph p s c r g .on) (connected-at ph p s c r g)
 
 -- a turn that is counted sends
 pub counted-sends : (p : Parameters) (bytes : List ℕ) (ph : Phase) (counts : Bool) (x : RingStep) → counts ≡ true → Turn p (clockOf bytes) ph counts x → Sends p (clockOf bytes) (nextSent (p .address) ph) (next ph) x
@@ -92,7 +96,7 @@ unfolding counted polledOf
 counted-moves ph s bytes w q u g e =
     let p = s .p in
     let moved = counted-sends p bytes ph _ _ e (turn p w (s .state) (s .core) (s .«token_ring») (clockOf bytes) bytes (s .applications) ph u g) in
-    subst (λ (y : Polled). At (next ph) p (y .station .state) (y .station .core) (y .station .«token_ring»)) (sym (poll-at ph p (s .applications) (s .state) (s .core) (s .«token_ring») bytes q g)) (moved .place)
+    subst (λ (y : Polled). At (next ph) p (y .station .state) (y .station .core) (y .station .«token_ring»)) (sym (poll-at ph p (s .applications) (s .counts) (s .state) (s .core) (s .«token_ring») bytes q g)) (moved .place)
 
 -- a station holds the token exactly at the last place
 number-not-three : (ph : Phase) (p : Parameters) (s : State) (c : Core) (r : Ring) → Under ph → At ph p s c r → eqb (stateNumber s) 3 ≡ false
@@ -103,26 +107,26 @@ number-not-three (checking k os) p s c r u g = ap (λ (x : State). eqb (stateNum
 number-not-three (claiming first os) p s c r u g = ap (λ (x : State). eqb (stateNumber x) 3) (g .1)
 number-not-three (holding os) p s c r u g = absurd u
 
-not-holding : (ph : Phase) (p : Parameters) (n : ℕ) (s : State) (c : Core) (r : Ring) → Under ph → At ph p s c r → holdsToken (stationOf p n s c r) ≡ false
+not-holding : (ph : Phase) (p : Parameters) (n : ℕ) (ks : Counts) (s : State) (c : Core) (r : Ring) → Under ph → At ph p s c r → holdsToken (stationOf p n ks s c r) ≡ false
 unfolding holdsToken
-not-holding ph p n s c r u g = number-not-three ph p s c r u g
+not-holding ph p n ks s c r u g = number-not-three ph p s c r u g
 
-pub is-holding : (os : List ℕ) (p : Parameters) (n : ℕ) (s : State) (c : Core) (r : Ring) → At (holding os) p s c r → holdsToken (stationOf p n s c r) ≡ true
+pub is-holding : (os : List ℕ) (p : Parameters) (n : ℕ) (ks : Counts) (s : State) (c : Core) (r : Ring) → At (holding os) p s c r → holdsToken (stationOf p n ks s c r) ≡ true
 unfolding holdsToken
-is-holding os p n s c r a = ap (λ (x : State). eqb (stateNumber x) 3) (a .1 .held)
+is-holding os p n ks s c r a = ap (λ (x : State). eqb (stateNumber x) 3) (a .1 .held)
 
 -- a poll of a run counts or not
-pub counted-on : (p : Parameters) (n : ℕ) (s : State) (c : Core) (r : Ring) (bytes : List ℕ) (later : List (List ℕ)) (x : RingStep) → pollOf (stationOf p n s c r) bytes ≡ polledOf p n x → countedIn (stationOf p n s c r) (bytes ∷ later) ≡ cond (slotAfter (c .«last_bus_activity») (headOf bytes .clock) (slotTimeOf p .0)) 1 0 + countedIn (stationOf p n (x .step .state) (x .step .core) (x .ring)) later
+pub counted-on : (p : Parameters) (n : ℕ) (ks : Counts) (s : State) (c : Core) (r : Ring) (bytes : List ℕ) (later : List (List ℕ)) (x : RingStep) → pollOf (stationOf p n ks s c r) bytes ≡ polledOf p n ks x → countedIn (stationOf p n ks s c r) (bytes ∷ later) ≡ cond (slotAfter (c .«last_bus_activity») (headOf bytes .clock) (slotTimeOf p .0)) 1 0 + countedIn (stationOf p n (countedOf ks (x .step .event)) (x .step .state) (x .step .core) (x .ring)) later
 unfolding countedIn counted polledOf
-counted-on p n s c r bytes later x is = rw is
+counted-on p n ks s c r bytes later x is = rw is
 
 -- a run that does not start with the token held goes on with its first poll
-module _ (p : Parameters) (n : ℕ) (s : State) (c : Core) (r : Ring) (bytes : List ℕ) (later : List (List ℕ)) (x : RingStep) (out : holdsToken (stationOf p n s c r) ≡ false) (is : pollOf (stationOf p n s c r) bytes ≡ polledOf p n x) where
-  pub until-on : until (stationOf p n s c r) (bytes ∷ later) ≡ until (stationOf p n (x .step .state) (x .step .core) (x .ring)) later
+module _ (p : Parameters) (n : ℕ) (ks : Counts) (s : State) (c : Core) (r : Ring) (bytes : List ℕ) (later : List (List ℕ)) (x : RingStep) (out : holdsToken (stationOf p n ks s c r) ≡ false) (is : pollOf (stationOf p n ks s c r) bytes ≡ polledOf p n ks x) where
+  pub until-on : until (stationOf p n ks s c r) (bytes ∷ later) ≡ until (stationOf p n (countedOf ks (x .step .event)) (x .step .state) (x .step .core) (x .ring)) later
   unfolding until polledOf
   until-on = rw (out, is)
 
-  pub sent-on : sentUntil (stationOf p n s c r) (bytes ∷ later) ≡ told (x .step .sent) ++ sentUntil (stationOf p n (x .step .state) (x .step .core) (x .ring)) later
+  pub sent-on : sentUntil (stationOf p n ks s c r) (bytes ∷ later) ≡ told (x .step .sent) ++ sentUntil (stationOf p n (countedOf ks (x .step .event)) (x .step .state) (x .step .core) (x .ring)) later
   unfolding sentUntil polledOf stepAnswer
   sent-on = rw (out, is)
 
@@ -154,24 +158,24 @@ record Ran (p : Parameters) (ph : Phase) (out : List Sent) (end : Station) (poll
   pub reached : At (advance (length out) ph) p (end .state) (end .core) (end .«token_ring»)
   pub so-far : out ++ todo (p .address) (advance (length out) ph) ≡ todo (p .address) ph
   pub in-time : length (todo (p .address) ph) ≤ polls → holdsToken end ≡ true
-  pub same-parts : end ≡ stationOf p (end .applications) (end .state) (end .core) (end .«token_ring»)
+  pub same-parts : end ≡ stationOf p (end .applications) (end .counts) (end .state) (end .core) (end .«token_ring»)
 
 -- the run of a list of records
 abbrev RanOn : Parameters → Phase → Station → List (List ℕ) → Type 0
 RanOn p ph s records = Ran p ph (sentUntil s records) (until s records) (countedIn s records)
 
-ran-holding : (os : List ℕ) (p : Parameters) (n : ℕ) (s : State) (c : Core) (r : Ring) (records : List (List ℕ)) → At (holding os) p s c r → RanOn p (holding os) (stationOf p n s c r) records
+ran-holding : (os : List ℕ) (p : Parameters) (n : ℕ) (ks : Counts) (s : State) (c : Core) (r : Ring) (records : List (List ℕ)) → At (holding os) p s c r → RanOn p (holding os) (stationOf p n ks s c r) records
 unfolding advance
-ran-holding os p n s c r records a =
-    let held = is-holding os p n s c r a in
-    let s₀ = stationOf p n s c r in
+ran-holding os p n ks s c r records a =
+    let held = is-holding os p n ks s c r a in
+    let s₀ = stationOf p n ks s c r in
     rw (until-held s₀ records held, sent-held s₀ records held)
     (record { reached = a; so-far = refl; in-time = λ l. held; same-parts = refl })
 
 -- no poll: nothing is sent
-ran-none : (ph : Phase) (p : Parameters) (n : ℕ) (s : State) (c : Core) (r : Ring) → Under ph → At ph p s c r → RanOn p ph (stationOf p n s c r) []
+ran-none : (ph : Phase) (p : Parameters) (n : ℕ) (ks : Counts) (s : State) (c : Core) (r : Ring) → Under ph → At ph p s c r → RanOn p ph (stationOf p n ks s c r) []
 unfolding advance sentUntil until countedIn
-ran-none ph p n s c r u a =
+ran-none ph p n ks s c r u a =
     record {
       reached = a;
       so-far = refl;
@@ -196,7 +200,7 @@ ran-sends p ph x out end counts polls u e g =
     })
 
 -- one poll, and a run from wherever it leads
-module _ (ph : Phase) (p : Parameters) (w : Slotted p) (n : ℕ) (s : State) (c : Core) (r : Ring) (bytes : List ℕ) (later : List (List ℕ)) (u : Under ph) (a : At ph p s c r) (q : Quiet n bytes) (then : (to : Phase) (y : State) (d : Core) (t : Ring) → At to p y d t → RanOn p to (stationOf p n y d t) later) where
+module _ (ph : Phase) (p : Parameters) (w : Slotted p) (n : ℕ) (ks : Counts) (s : State) (c : Core) (r : Ring) (bytes : List ℕ) (later : List (List ℕ)) (u : Under ph) (a : At ph p s c r) (q : Quiet n bytes) (then : (to : Phase) (ms : Counts) (y : State) (d : Core) (t : Ring) → At to p y d t → RanOn p to (stationOf p n ms y d t) later) where
   -- the step, and whether the poll is counted
   abbrev the-step : RingStep
   the-step = quietStep p s c r (clockOf bytes) bytes n
@@ -205,64 +209,64 @@ module _ (ph : Phase) (p : Parameters) (w : Slotted p) (n : ℕ) (s : State) (c 
   is-counted = slotAfter (c .«last_bus_activity») (headOf bytes .clock) (slotTimeOf p .0)
 
   abbrev after-it : Station
-  after-it = stationOf p n (the-step .step .state) (the-step .step .core) (the-step .ring)
+  after-it = stationOf p n (countedOf ks (the-step .step .event)) (the-step .step .state) (the-step .step .core) (the-step .ring)
 
   by-turn : Turn p (clockOf bytes) ph is-counted the-step → Ran p ph (told (the-step .step .sent) ++ sentUntil after-it later) (until after-it later) (cond is-counted 1 0 + countedIn after-it later)
-  by-turn (sends g) = ran-sends p ph _ _ _ is-counted _ u (g .telegram) (then (next ph) _ _ _ (g .place))
-  by-turn (stays f g) = ran-stays p ph _ _ _ is-counted _ (g .nothing) f (then ph _ _ _ (g .place))
+  by-turn (sends g) = ran-sends p ph _ _ _ is-counted _ u (g .telegram) (then (next ph) _ _ _ _ (g .place))
+  by-turn (stays f g) = ran-stays p ph _ _ _ is-counted _ (g .nothing) f (then ph _ _ _ _ (g .place))
 
-  ran-poll : RanOn p ph (stationOf p n s c r) (bytes ∷ later)
+  ran-poll : RanOn p ph (stationOf p n ks s c r) (bytes ∷ later)
   ran-poll =
-      let out = not-holding ph p n s c r u a in
-      let is = poll-at ph p n s c r bytes q a in
-      rw (sent-on p n s c r bytes later the-step out is, until-on p n s c r bytes later the-step out is, counted-on p n s c r bytes later the-step is)
+      let out = not-holding ph p n ks s c r u a in
+      let is = poll-at ph p n ks s c r bytes q a in
+      rw (sent-on p n ks s c r bytes later the-step out is, until-on p n ks s c r bytes later the-step out is, counted-on p n ks s c r bytes later the-step is)
       (by-turn (turn p w s c r (clockOf bytes) bytes n ph u a))
 
 -- once the token is held the run stays there
-ran-held : (ph : Phase) (os : List ℕ) → ph ≡ holding os → (p : Parameters) (n : ℕ) (s : State) (c : Core) (r : Ring) (records : List (List ℕ)) → At ph p s c r → RanOn p ph (stationOf p n s c r) records
-ran-held ph os e p n s c r records = subst (λ (x : Phase). At x p s c r → RanOn p x (stationOf p n s c r) records) (sym e) (ran-holding os p n s c r records)
+ran-held : (ph : Phase) (os : List ℕ) → ph ≡ holding os → (p : Parameters) (n : ℕ) (ks : Counts) (s : State) (c : Core) (r : Ring) (records : List (List ℕ)) → At ph p s c r → RanOn p ph (stationOf p n ks s c r) records
+ran-held ph os e p n ks s c r records = subst (λ (x : Phase). At x p s c r → RanOn p x (stationOf p n ks s c r) records) (sym e) (ran-holding os p n ks s c r records)
 
 -- from any place: no poll, and one poll with a run from wherever it leads
-ran-end : (ph : Phase) (p : Parameters) (n : ℕ) (s : State) (c : Core) (r : Ring) → At ph p s c r → RanOn p ph (stationOf p n s c r) []
-ran-end ph p n s c r a = go (under-or-held ph)
+ran-end : (ph : Phase) (p : Parameters) (n : ℕ) (ks : Counts) (s : State) (c : Core) (r : Ring) → At ph p s c r → RanOn p ph (stationOf p n ks s c r) []
+ran-end ph p n ks s c r a = go (under-or-held ph)
   where
-    go : Under ph ⊎ (ph ≡ holding (endRing ph)) → RanOn p ph (stationOf p n s c r) []
-    go (inl u) = ran-none ph p n s c r u a
-    go (inr e) = ran-held ph _ e p n s c r [] a
+    go : Under ph ⊎ (ph ≡ holding (endRing ph)) → RanOn p ph (stationOf p n ks s c r) []
+    go (inl u) = ran-none ph p n ks s c r u a
+    go (inr e) = ran-held ph _ e p n ks s c r [] a
 
-ran-on : (ph : Phase) (p : Parameters) → Slotted p → (n : ℕ) (s : State) (c : Core) (r : Ring) (bytes : List ℕ) (later : List (List ℕ)) → At ph p s c r → Quiet n bytes → ((to : Phase) (y : State) (d : Core) (t : Ring) → At to p y d t → RanOn p to (stationOf p n y d t) later) → RanOn p ph (stationOf p n s c r) (bytes ∷ later)
-ran-on ph p w n s c r bytes later a q then = go (under-or-held ph)
+ran-on : (ph : Phase) (p : Parameters) → Slotted p → (n : ℕ) (ks : Counts) (s : State) (c : Core) (r : Ring) (bytes : List ℕ) (later : List (List ℕ)) → At ph p s c r → Quiet n bytes → ((to : Phase) (ms : Counts) (y : State) (d : Core) (t : Ring) → At to p y d t → RanOn p to (stationOf p n ms y d t) later) → RanOn p ph (stationOf p n ks s c r) (bytes ∷ later)
+ran-on ph p w n ks s c r bytes later a q then = go (under-or-held ph)
   where
-    go : Under ph ⊎ (ph ≡ holding (endRing ph)) → RanOn p ph (stationOf p n s c r) (bytes ∷ later)
-    go (inl u) = ran-poll ph p w n s c r bytes later u a q then
-    go (inr e) = ran-held ph _ e p n s c r (bytes ∷ later) a
+    go : Under ph ⊎ (ph ≡ holding (endRing ph)) → RanOn p ph (stationOf p n ks s c r) (bytes ∷ later)
+    go (inl u) = ran-poll ph p w n ks s c r bytes later u a q then
+    go (inr e) = ran-held ph _ e p n ks s c r (bytes ∷ later) a
 
 -- any list of silent polls, from any place
-ran : (records : List (List ℕ)) (p : Parameters) → Slotted p → (n : ℕ) → AllQuiet n records → (ph : Phase) (s : State) (c : Core) (r : Ring) → At ph p s c r → RanOn p ph (stationOf p n s c r) records
-ran [] p w n q ph s c r a = ran-end ph p n s c r a
-ran (bytes ∷ later) p w n q ph s c r a = ran-on ph p w n s c r bytes later a (q .0) (λ to y d t b. ran later p w n (q .1) to y d t b)
+ran : (records : List (List ℕ)) (p : Parameters) → Slotted p → (n : ℕ) → AllQuiet n records → (ph : Phase) (ks : Counts) (s : State) (c : Core) (r : Ring) → At ph p s c r → RanOn p ph (stationOf p n ks s c r) records
+ran [] p w n q ph ks s c r a = ran-end ph p n ks s c r a
+ran (bytes ∷ later) p w n q ph ks s c r a = ran-on ph p w n ks s c r bytes later a (q .0) (λ to ms y d t b. ran later p w n (q .1) to ms y d t b)
 
 -- the token is held exactly where nothing is still to be sent, and then the station is at the last place
-module _ (ph : Phase) (p : Parameters) (n : ℕ) (s : State) (c : Core) (r : Ring) (a : At ph p s c r) where
-  held-there : holdsToken (stationOf p n s c r) ≡ true → ph ≡ holding (endRing ph)
+module _ (ph : Phase) (p : Parameters) (n : ℕ) (ks : Counts) (s : State) (c : Core) (r : Ring) (a : At ph p s c r) where
+  held-there : holdsToken (stationOf p n ks s c r) ≡ true → ph ≡ holding (endRing ph)
   held-there e = go (under-or-held ph)
     where
       go : Under ph ⊎ (ph ≡ holding (endRing ph)) → ph ≡ holding (endRing ph)
-      go (inl u) = absurd (true≢false (sym e ∙ not-holding ph p n s c r u a))
+      go (inl u) = absurd (true≢false (sym e ∙ not-holding ph p n ks s c r u a))
       go (inr i) = i
 
-  none-left : holdsToken (stationOf p n s c r) ≡ true → todo (p .address) ph ≡ []
+  none-left : holdsToken (stationOf p n ks s c r) ≡ true → todo (p .address) ph ≡ []
   none-left e = ap (todo (p .address)) (held-there e)
 
-  at-holding : holdsToken (stationOf p n s c r) ≡ true → At (holding (endRing ph)) p s c r
+  at-holding : holdsToken (stationOf p n ks s c r) ≡ true → At (holding (endRing ph)) p s c r
   at-holding e = subst (λ (x : Phase). At x p s c r) (held-there e) a
 
-  some-left-there : holdsToken (stationOf p n s c r) ≡ false → todo (p .address) ph ≡ [] → ⊥
+  some-left-there : holdsToken (stationOf p n ks s c r) ≡ false → todo (p .address) ph ≡ [] → ⊥
   some-left-there e = go (under-or-held ph)
     where
       go : Under ph ⊎ (ph ≡ holding (endRing ph)) → todo (p .address) ph ≡ [] → ⊥
       go (inl u) z = todo-some (p .address) ph u z
-      go (inr i) z = true≢false (sym (is-holding (endRing ph) p n s c r (subst (λ (x : Phase). At x p s c r) i a)) ∙ e)
+      go (inr i) z = true≢false (sym (is-holding (endRing ph) p n ks s c r (subst (λ (x : Phase). At x p s c r) i a)) ∙ e)
 
 -- What a run from any place comes to, by what it sends, the station at its end and the slots that are counted.
 pub record RunFrom (p : Parameters) (ph : Phase) (s : Station) (records : List (List ℕ)) : Type 0 where
@@ -281,19 +285,19 @@ pub record RunFrom (p : Parameters) (ph : Phase) (s : Station) (records : List (
 pub run-from : (ph : Phase) (s : Station) (records : List (List ℕ)) → Slotted (s .p) → AllQuiet (s .applications) records → At ph (s .p) (s .state) (s .core) (s .«token_ring») → RunFrom (s .p) ph s records
 run-from ph s records w q a =
     let p = s .p in
-    let g = ran records p w (s .applications) q ph (s .state) (s .core) (s .«token_ring») a in
+    let g = ran records p w (s .applications) q ph (s .counts) (s .state) (s .core) (s .«token_ring») a in
     let end = until s records in
     let to = advance (length (sentUntil s records)) ph in
-    let here : (b : Bool) → holdsToken end ≡ b → holdsToken (stationOf p (end .applications) (end .state) (end .core) (end .«token_ring»)) ≡ b = λ b. subst (λ (x : Station). holdsToken x ≡ b) (g .same-parts) in
+    let here : (b : Bool) → holdsToken end ≡ b → holdsToken (stationOf p (end .applications) (end .counts) (end .state) (end .core) (end .«token_ring»)) ≡ b = λ b. subst (λ (x : Station). holdsToken x ≡ b) (g .same-parts) in
     record {
       rest = todo (p .address) to;
       sends-of = g .so-far;
-      all-of = λ e. none-left to p (end .applications) (end .state) (end .core) (end .«token_ring») (g .reached) (here true e);
-      some-of = λ e. some-left-there to p (end .applications) (end .state) (end .core) (end .«token_ring») (g .reached) (here false e);
+      all-of = λ e. none-left to p (end .applications) (end .counts) (end .state) (end .core) (end .«token_ring») (g .reached) (here true e);
+      some-of = λ e. some-left-there to p (end .applications) (end .counts) (end .state) (end .core) (end .«token_ring») (g .reached) (here false e);
       bound-of = g .in-time;
       left-of = ready-at to p (end .state) (end .core) (end .«token_ring») (g .reached) .are;
       held-at = λ e. subst (λ (os : List ℕ). At (holding os) p (end .state) (end .core) (end .«token_ring»)) (end-advance (length (sentUntil s records)) ph)
-          (at-holding to p (end .applications) (end .state) (end .core) (end .«token_ring») (g .reached) (here true e));
+          (at-holding to p (end .applications) (end .counts) (end .state) (end .core) (end .«token_ring») (g .reached) (here true e));
     }
 
 -- a station that starts a token pass is at the first place of one

@@ -20,6 +20,7 @@ use Rattle.ring.specs.declared.NextStation.the-variants.{Nobody, Neighbour}
 use Rattle.ring.specs.Laws.{next-number-low}
 use Rattle.codec_decisions.specs.declared.Decision.{Decision}
 use Rattle.codec_decisions.specs.declared.Decision.the-variants as decision
+use Rattle.codec_telegrams.specs.declared.ResponseState.{ResponseState}
 use Rattle.codec_telegrams.specs.declared.Telegram.{Telegram}
 use Rattle.codec_telegrams.specs.declared.Telegram.the-variants as telegram
 use Rattle.codec_decisions.specs.Decisions.{DecisionFits, lengthRefusal, decisionRefusal}
@@ -39,24 +40,29 @@ use Rattle.station.specs.declared.OptionAddress.the-variants as optionAddress
 use Rattle.station.specs.declared.PassTokenAttempt.{PassTokenAttempt}
 use Rattle.station.specs.declared.PassTokenAttempt.the-variants.{First, Second, Third}
 use Rattle.station.specs.declared.UseTokenData.{UseTokenData}
+use Rattle.station.specs.declared.ConnectivityState.{ConnectivityState}
+use Rattle.station.specs.declared.ConnectivityState.the-variants as connectivity
 use Rattle.station.specs.declared.State.{State}
-use Rattle.station.specs.declared.State.the-variants.{Offline, ListenToken, ActiveIdle, UseToken, ClaimToken, AwaitDataResponse, PassToken, CheckTokenPass, AwaitStatusResponse}
+use Rattle.station.specs.declared.State.the-variants.{Offline, ListenToken, ActiveIdle, UseToken, ClaimToken, AwaitDataResponse, PassToken, CheckTokenPass, AwaitStatusResponse, PassiveIdle}
 use Rattle.station.specs.declared.Core.{Core}
+use Rattle.station.specs.declared.Counts.{Counts}
+use Rattle.station.specs.declared.Event.{Event}
 use Rattle.station.specs.Whole.{Station, RingStep, Heard}
 use Rattle.station.specs.declared.Step.{Step}
-use Rattle.station.specs.Parts.{withActivity, withGap, withNextApplication, withOnline, freshCore, stateNumber}
-use Rattle.station.specs.Steps.{ongoingOf, busActivityOf, waitedOf, pauseOf, slotExpiredOf, tokenLostWaitOf, doneOf, transmitOf, ringStepOf}
+use Rattle.station.specs.Parts.{withActivity, withGap, withNextApplication, withConnectivity, freshCore, isOffline, stateNumber}
+use Rattle.station.specs.Steps.{ongoingOf, busActivityOf, waitedOf, pauseOf, slotExpiredOf, tokenLostWaitOf, doneOf, transmitOf, withEvent, ringStepOf}
 use Rattle.station_claim.specs.Claim.{claimTokenOf}
 use Rattle.station_hold.specs.declared.Asked.{Asked}
 use Rattle.station_hold.specs.Hold.{validResponse, holdsOf, askedOf, appTransmitOf, usePassOf, useAppsAfter, useAppsOf, useTokenTimed, useTokenOf, receivedOf, withNotice, timeoutOf, awaitDataOf}
-use Rattle.station_listen.specs.Listen.{handleLostToken, listenResponse, consumedAll, listenTokenOn, listenTokenOf, activeResponse, activeIdleOn, activeIdleOf}
+use Rattle.station_listen.specs.Listen.{handleLostToken, respondOf, listenResponse, consumedAll, listenTokenOn, listenTokenOf, activeResponse, activeIdleOn, activeIdleOf}
+use Rattle.station_passive.specs.Passive.{passiveIdleOf}
 use Rattle.station_pass.specs.Pass.{passSentOn, passSend, passPollOn, passPoll, passTokenOf}
 use Rattle.station_pass.specs.Laws.{destination-low}
 use Rattle.station_await_status.specs.AwaitStatus.{statusAnswered, statusUnexpected, statusReceived, awaitStatusOf}
 use Rattle.station_check_pass.specs.CheckPass.{resendOf, checkReceived, checkTokenPassOf}
-use Rattle.station_poll.specs.Poll.{connectedOf, dispatchOf, pollOnline, pollInner, acceptedAfter, acceptedPoll, pollOf}
+use Rattle.station_poll.specs.Poll.{enteredOf, dispatchOf, pollOnline, pollInner, acceptedAfter, acceptedPoll, pollOf}
 use Rattle.station_answer.specs.Answer.{stepAnswer, polledOf, refusedPoll}
-use Rattle.station_command.specs.Command.{onlineOf, offlineOf, passiveOf}
+use Rattle.station_command.specs.Command.{connectOf, onlineOf, offlineOf, passiveOf}
 use Rattle.theorem_sound.specs.Moves.{Low, Clock, GapAddressed}
 use Rattle.theorem_sound.specs.Lines.{Addressed, SoundCore}
 use Rattle.theorem_sound.specs.Kept.{hold-next, moves-keep}
@@ -74,6 +80,11 @@ record StepFits (s : Step) : Type 0 where
 -- the same of a step with a ring
 record Fit (x : RingStep) : Type 0 where
   pub step-fits : StepFits (x .step)
+
+-- what is counted of a step stands in no answer
+event-fits : (x : RingStep) (e : Event) → Fit x → Fit (withEvent x e)
+unfolding withEvent
+event-fits x e f = record { step-fits = record { sent-fits = f .step-fits .sent-fits; consumed-fits = f .step-fits .consumed-fits; notice-fits = f .step-fits .notice-fits } }
 
 -- a step that sends and tells nothing, and one that sends
 done-fits : (x : State) (c : Core) (o : Outcome) → StepFits (doneOf x c o)
@@ -161,40 +172,41 @@ module _ (p : Parameters) (n : ℕ) (bytes : List ℕ) (count : ℕ) (now : Micr
   -- do_listen_token
   lost-fits : (c : Core) (r : Ring) (rest : Core → RingStep) → ((d : Core) → Fit (rest d)) → Fit (handleLostToken p c r now rest)
   unfolding handleLostToken
-  lost-fits c r rest f = either Fit (tokenLostWaitOf p c now .over) _ _ (claim-fits _ r true) (f _)
+  lost-fits c r rest f = either Fit (tokenLostWaitOf p c now .over) _ _ (event-fits _ _ (claim-fits _ r true)) (f _)
 
   all-fits : (h : Heard) → Fit (consumedAll h count)
   unfolding consumedAll
   all-fits h = record { step-fits = record { sent-fits = tt; consumed-fits = k .telegrams; notice-fits = tt } }
 
-  response-fits : (c : Core) (r : Ring) (source collisions : ℕ) → source < 128 → Fit (listenResponse p c r now source collisions)
-  unfolding listenResponse
-  response-fits c r source collisions l =
+  respond-fits : (x y : State) (c : Core) (r : Ring) (source : ℕ) (type : ResponseState) → source < 128 → Fit (respondOf p x y c r now source type)
+  unfolding respondOf
+  respond-fits x y c r source type l =
       either Fit (pauseOf p c now .over) _ _ (record { step-fits = transmit-fits p _ _ now _ l }) (record { step-fits = done-fits _ _ _ })
 
   listen-on-fits : (q : OptionAddress) (c : Core) (r : Ring) (collisions : ℕ) → Low q → Fit (listenTokenOn q p c r now collisions bytes n count)
-  unfolding listenTokenOn
+  unfolding listenTokenOn listenResponse
   listen-on-fits optionAddress.None c r collisions l = all-fits _
-  listen-on-fits (optionAddress.Some source) c r collisions l = response-fits c r source collisions l
+  listen-on-fits (optionAddress.Some source) c r collisions l = respond-fits _ _ c r source _ l
 
   listen-fits : (c : Core) (r : Ring) (q : OptionAddress) (collisions : ℕ) → Low q → Fit (listenTokenOf p c r now q collisions bytes n count)
   unfolding listenTokenOf
   listen-fits c r q collisions l = lost-fits c r _ (λ d. listen-on-fits q d r collisions l)
 
   -- do_active_idle
-  active-response-fits : (c : Core) (r : Ring) (source : ℕ) (m : OptionAddress) (collisions : ℕ) → source < 128 → Fit (activeResponse p c r now source m collisions)
-  unfolding activeResponse
-  active-response-fits c r source m collisions l =
-      either Fit (pauseOf p c now .over) _ _ (record { step-fits = transmit-fits p _ _ now _ l }) (record { step-fits = done-fits _ _ _ })
-
   active-on-fits : (q : OptionAddress) (c : Core) (r : Ring) (m : OptionAddress) (collisions : ℕ) → Low q → Fit (activeIdleOn q p c r now m collisions bytes n count)
-  unfolding activeIdleOn
+  unfolding activeIdleOn activeResponse
   active-on-fits optionAddress.None c r m collisions l = all-fits _
-  active-on-fits (optionAddress.Some source) c r m collisions l = active-response-fits c r source m collisions l
+  active-on-fits (optionAddress.Some source) c r m collisions l = respond-fits _ _ c r source _ l
 
   active-fits : (c : Core) (r : Ring) (q m : OptionAddress) (collisions : ℕ) → Low q → Fit (activeIdleOf p c r now q m collisions bytes n count)
   unfolding activeIdleOf
   active-fits c r q m collisions l = lost-fits c r _ (λ d. active-on-fits q d r m collisions l)
+
+  -- do_passive_idle
+  passive-fits-on : (q : OptionAddress) (c : Core) (r : Ring) → Low q → Fit (passiveIdleOf p c r now q bytes n count)
+  unfolding passiveIdleOf
+  passive-fits-on optionAddress.None c r l = all-fits _
+  passive-fits-on (optionAddress.Some source) c r l = respond-fits _ _ c r source _ l
 
   -- do_pass_token
   pass-sent-fits : (x : NextStation) (c : Core) (a : PassTokenAttempt) (to : ℕ) (r : Ring) → to < 126 → Fit (passSentOn x p c now a to r)
@@ -246,7 +258,7 @@ module _ (p : Parameters) (n : ℕ) (bytes : List ℕ) (count : ℕ) (now : Micr
   unfolding resendOf
   resend-fits c r First g = pass-fits _ r false Second g
   resend-fits c r Second g = pass-fits _ r false Third g
-  resend-fits c r Third g = pass-fits _ _ false First (remove-good p r _ g)
+  resend-fits c r Third g = event-fits _ _ (pass-fits _ _ false First (remove-good p r _ g))
 
   check-fits : (c : Core) (r : Ring) (a : PassTokenAttempt) → RingGood p r → Fit (checkTokenPassOf p c r now a bytes n count)
   unfolding checkTokenPassOf checkReceived
@@ -266,6 +278,7 @@ module _ (p : Parameters) (n : ℕ) (bytes : List ℕ) (count : ℕ) (now : Micr
   dispatch-fits (PassToken x a) c r l b g = pass-fits c r x a g
   dispatch-fits (CheckTokenPass a) c r l b g = check-fits c r a g
   dispatch-fits (AwaitStatusResponse a) c r l b g = await-status-fits c r a g
+  dispatch-fits (PassiveIdle q) c r l b g = passive-fits-on q c r l
 
   poll-online-fits : (x : State) (c : Core) (r : Ring) (t : Bool) (pending : ℕ) → SoundCore p n x (busActivityOf c now pending) → RingGood p r → Fit (pollOnline p x c r now t pending bytes n count)
   unfolding pollOnline
@@ -274,11 +287,11 @@ module _ (p : Parameters) (n : ℕ) (bytes : List ℕ) (count : ℕ) (now : Micr
 
   poll-inner-fits : (x : State) (c : Core) (r : Ring) (t : Bool) (pending : ℕ) → Clock now → SoundCore p n x c → RingGood p r → Fit (pollInner p x c r now t pending bytes n count)
   unfolding pollInner
-  poll-inner-fits x c r t pending l w g = go (c .online) refl
+  poll-inner-fits x c r t pending l w g = go (isOffline (c .«connectivity_state»)) refl
     where
-      go : (b : Bool) → c .online ≡ b → Fit (cond b (pollOnline p (connectedOf x) c r now t pending bytes n count) (ringStepOf (doneOf x c outcome.Offline) r))
-      go true o = poll-online-fits _ _ r t pending (dispatched p n now x c pending l o w) g
-      go false o = record { step-fits = done-fits _ _ _ }
+      go : (b : Bool) → isOffline (c .«connectivity_state») ≡ b → Fit (cond b (ringStepOf (doneOf x c outcome.Offline) r) (pollOnline p (enteredOf (c .«connectivity_state») x) c r now t pending bytes n count))
+      go true o = record { step-fits = done-fits _ _ _ }
+      go false o = poll-online-fits _ _ r t pending (dispatched p n now x c pending l o w) g
 
 -- a state's number is one of document 01's
 state-known : (x : State) → stateNumber x ≤ lastState
@@ -291,11 +304,12 @@ state-known (AwaitDataResponse a d) = lit≤ tt
 state-known (PassToken x a) = lit≤ tt
 state-known (CheckTokenPass a) = lit≤ tt
 state-known (AwaitStatusResponse a) = lit≤ tt
+state-known (PassiveIdle q) = lit≤ tt
 
 -- the answer of an entry that is not refused
-polled-fits : (p : Parameters) (n : ℕ) (x : RingStep) → n ≤ 8 → x .step .core .«next_application» < n → RingGood p (x .ring) → Fit x → Fits (polledOf p n x .answer)
+polled-fits : (p : Parameters) (n : ℕ) (k : Counts) (x : RingStep) → n ≤ 8 → x .step .core .«next_application» < n → RingGood p (x .ring) → Fit x → Fits (polledOf p n k x .answer)
 unfolding polledOf stepAnswer refusalKnown
-polled-fits p n x e l g f =
+polled-fits p n k x e l g f =
     record {
       refusal = refl;
       plain = λ z. absurd (z refl);
@@ -398,7 +412,7 @@ accepted-fits s bytes w z =
     let g = part-ring s w in
     let l = clock-fits bytes in
     let m = inner-made s bytes _ _ _ w in
-    polled-fits (s .p) (s .applications) _ (w .eight) (moves-keep l (m .made-step .moves) (w .core-sound) .next-one) (m .made-ring)
+    polled-fits (s .p) (s .applications) (s .counts) _ (w .eight) (moves-keep l (m .made-step .moves) (w .core-sound) .next-one) (m .made-ring)
     (poll-inner-fits (s .p) (s .applications) bytes _ _ (given s bytes w z) (s .state) (s .core) (s .«token_ring») _ _ l (w .core-sound) g)
 
 -- The theorem, call by call: the answers of a sound station fit.
@@ -409,19 +423,23 @@ poll-fits s bytes w =
     (λ e. rw e (accepted-fits s bytes w (eqb-true (recordRefusal bytes (s .applications)) 0 e)))
     (λ e. rw e (refused-poll-fits s (recordRefusal bytes (s .applications)) w (record-known bytes (s .applications))))
 
+connect-fits : (s : Station) (v : ConnectivityState) → SoundStation s → Fits (connectOf s v .answer)
+unfolding connectOf withConnectivity doneOf
+connect-fits s v w =
+    polled-fits (s .p) (s .applications) (s .counts) _ (w .eight) (w .core-sound .next-one) (part-ring s w) (record { step-fits = done-fits _ _ _ })
+
 pub online-fits : (s : Station) → SoundStation s → Fits (onlineOf s .answer)
-unfolding onlineOf withOnline doneOf
-online-fits s w =
-    polled-fits (s .p) (s .applications) _ (w .eight) (w .core-sound .next-one) (part-ring s w) (record { step-fits = done-fits _ _ _ })
+unfolding onlineOf
+online-fits s w = connect-fits s connectivity.Online w
 
 pub offline-fits : (s : Station) → SoundStation s → Fits (offlineOf s .answer)
 unfolding offlineOf freshCore doneOf
 offline-fits s w =
-    polled-fits (s .p) (s .applications) _ (w .eight) (omega (arith, w .some)) (again-good (s .p) (s .«token_ring») (part-ring s w)) (record { step-fits = done-fits _ _ _ })
+    polled-fits (s .p) (s .applications) (s .counts) _ (w .eight) (omega (arith, w .some)) (again-good (s .p) (s .«token_ring») (part-ring s w)) (record { step-fits = done-fits _ _ _ })
 
 pub passive-fits : (s : Station) → SoundStation s → Fits (passiveOf s .answer)
-unfolding passiveOf refusalKnown
-passive-fits s w = refused-poll-fits s 16 w refl
+unfolding passiveOf
+passive-fits s w = connect-fits s connectivity.Passive w
 
 -- the answer to a call
 abbrev pub answerTo : Station → Call → Answer

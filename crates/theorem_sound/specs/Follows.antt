@@ -14,11 +14,11 @@ use Rattle.settings.specs.declared.Parameters.{Parameters}
 use Rattle.settings.specs.Settings.{slotTimeOf}
 use Rattle.station.specs.declared.PassTokenAttempt.the-variants.{First}
 use Rattle.station.specs.declared.State.{State}
-use Rattle.station.specs.declared.State.the-variants.{Offline, ListenToken, ActiveIdle, UseToken, ClaimToken, AwaitDataResponse, PassToken, CheckTokenPass, AwaitStatusResponse}
+use Rattle.station.specs.declared.State.the-variants.{Offline, ListenToken, ActiveIdle, UseToken, ClaimToken, AwaitDataResponse, PassToken, CheckTokenPass, AwaitStatusResponse, PassiveIdle}
 use Rattle.station.specs.declared.Core.{Core}
 use Rattle.station.specs.Parts.{stateNumber}
 use Rattle.station.specs.Steps.{knownAt, elapsedOf, waitedOf, pauseOf, slotExpiredOf}
-use Rattle.theorem_sound.specs.Moves.{lists, listenTokenFrom, activeIdleFrom, useTokenFrom, claimTokenFrom, awaitDataResponseFrom, passTokenFrom, checkTokenPassFrom, awaitStatusResponseFrom}
+use Rattle.theorem_sound.specs.Moves.{lists, listenTokenFrom, activeIdleFrom, useTokenFrom, claimTokenFrom, awaitDataResponseFrom, passTokenFrom, checkTokenPassFrom, awaitStatusResponseFrom, passiveIdleFrom}
 use Rattle.bit_times.specs.Laws.{time-grows}
 
 -- For each state, the numbers of the states in which a poll can leave it.
@@ -26,17 +26,19 @@ use Rattle.bit_times.specs.Laws.{time-grows}
 -- an answer while ready, a lost token. ActiveIdle: a second collision, a token accepted, a lost token. UseToken: a reply awaited, or
 -- PassToken. ClaimToken: the second token. AwaitDataResponse: something else heard, a reply, or the timeout, after which the
 -- applications are asked at once. PassToken: the token back, the pass checked, a gap question. CheckTokenPass: as ActiveIdle does, or
--- the token sent again. AwaitStatusResponse: something else heard, an answer, or the token passed on at once.
+-- the token sent again. AwaitStatusResponse: something else heard, an answer, or the token passed on at once. PassiveIdle: it stays, or,
+-- put online, does as Offline does. A passive station goes from Offline, ListenToken and ActiveIdle to PassiveIdle.
 abbrev pub reached : State → List ℕ
-reached Offline = 0 ∷ 1 ∷ 4 ∷ []
-reached (ListenToken request collisions) = 0 ∷ 1 ∷ 2 ∷ 4 ∷ []
-reached (ActiveIdle request newPreviousStation collisions) = 1 ∷ 2 ∷ 3 ∷ 4 ∷ []
+reached Offline = 0 ∷ 1 ∷ 4 ∷ 9 ∷ []
+reached (ListenToken request collisions) = 0 ∷ 1 ∷ 2 ∷ 4 ∷ 9 ∷ []
+reached (ActiveIdle request newPreviousStation collisions) = 1 ∷ 2 ∷ 3 ∷ 4 ∷ 9 ∷ []
 reached (UseToken cycled held) = 3 ∷ 5 ∷ 6 ∷ []
 reached (ClaimToken first) = 3 ∷ 4 ∷ []
 reached (AwaitDataResponse address held) = 2 ∷ 3 ∷ 5 ∷ 6 ∷ []
 reached (PassToken gap attempt) = 3 ∷ 6 ∷ 7 ∷ 8 ∷ []
 reached (CheckTokenPass attempt) = 1 ∷ 2 ∷ 3 ∷ 7 ∷ []
 reached (AwaitStatusResponse address) = 2 ∷ 3 ∷ 6 ∷ 7 ∷ 8 ∷ []
+reached (PassiveIdle request) = 0 ∷ 1 ∷ 4 ∷ 9 ∷ []
 
 -- A token pass stands at its first attempt: the second and the third are sent in the poll that finds them due.
 abbrev pub FirstAttempt : State → Type 0
@@ -49,6 +51,7 @@ FirstAttempt (AwaitDataResponse address held) = Unit {0}
 FirstAttempt (PassToken gap attempt) = attempt ≡ First
 FirstAttempt (CheckTokenPass attempt) = Unit {0}
 FirstAttempt (AwaitStatusResponse address) = Unit {0}
+FirstAttempt (PassiveIdle request) = Unit {0}
 
 -- the slot is not shorter than the pause
 abbrev pub SlotCoversPause : Parameters → Type 0
@@ -75,7 +78,7 @@ covered p c now s e f =
 -- that its `debug_assert_state!` names, or is Offline by set_offline. By the numbers of the states: the ones a transition may start from.
 abbrev pub startsOf : List (List ℕ)
 startsOf =
-    (0 ∷ 1 ∷ []) ∷ listenTokenFrom ∷ activeIdleFrom ∷ useTokenFrom ∷ claimTokenFrom ∷ awaitDataResponseFrom ∷ passTokenFrom ∷ checkTokenPassFrom ∷ awaitStatusResponseFrom ∷ []
+    (0 ∷ 1 ∷ []) ∷ listenTokenFrom ∷ activeIdleFrom ∷ useTokenFrom ∷ claimTokenFrom ∷ awaitDataResponseFrom ∷ passTokenFrom ∷ checkTokenPassFrom ∷ awaitStatusResponseFrom ∷ passiveIdleFrom ∷ []
 
 -- one transition from the state with number x to that with number y
 abbrev pub oneStep : ℕ → ℕ → Bool
@@ -104,3 +107,4 @@ table-is-joined (AwaitDataResponse a d) = refl
 table-is-joined (PassToken g k) = refl
 table-is-joined (CheckTokenPass k) = refl
 table-is-joined (AwaitStatusResponse a) = refl
+table-is-joined (PassiveIdle q) = refl

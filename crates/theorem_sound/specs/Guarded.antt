@@ -8,6 +8,7 @@ use Rattle.bit_times.specs.declared.Micros.{Micros}
 use Rattle.bit_times.specs.Times.{pauseBits, timeOf}
 use Rattle.settings.specs.declared.Parameters.{Parameters}
 use Rattle.ring.specs.Ring.{Ring}
+use Rattle.codec_telegrams.specs.declared.ResponseState.{ResponseState}
 use Rattle.codec_telegrams.specs.declared.Telegram.{Telegram}
 use Rattle.codec_telegrams.specs.declared.Telegram.the-variants as telegram
 use Rattle.codec_answers.specs.declared.Outcome.{Outcome}
@@ -20,15 +21,17 @@ use Rattle.station.specs.declared.PassTokenAttempt.{PassTokenAttempt}
 use Rattle.station.specs.declared.PassTokenAttempt.the-variants.{First, Second, Third}
 use Rattle.station.specs.declared.UseTokenData.{UseTokenData}
 use Rattle.station.specs.declared.State.{State}
-use Rattle.station.specs.declared.State.the-variants.{Offline, ListenToken, ActiveIdle, UseToken, ClaimToken, AwaitDataResponse, PassToken, CheckTokenPass, AwaitStatusResponse}
+use Rattle.station.specs.declared.State.the-variants.{Offline, ListenToken, ActiveIdle, UseToken, ClaimToken, AwaitDataResponse, PassToken, CheckTokenPass, AwaitStatusResponse, PassiveIdle}
 use Rattle.station.specs.declared.Core.{Core}
+use Rattle.station.specs.declared.Event.{Event}
 use Rattle.station.specs.declared.Step.{Step}
 use Rattle.station.specs.Whole.{RingStep, Heard}
 use Rattle.station.specs.Parts.{withActivity, stateNumber}
-use Rattle.station.specs.Steps.{knownAt, elapsedOf, waitedOf, pauseOf, slotExpiredOf, tokenLostWaitOf, doneOf}
+use Rattle.station.specs.Steps.{knownAt, elapsedOf, waitedOf, pauseOf, slotExpiredOf, tokenLostWaitOf, doneOf, withEvent}
 use Rattle.station_claim.specs.Claim.{claimTokenOf}
 use Rattle.station_hold.specs.Hold.{validResponse, holdEndOf, useTokenTimed, useTokenOf, receivedOf, withNotice, timeoutOf, awaitDataOf}
-use Rattle.station_listen.specs.Listen.{handleLostToken, listenResponse, consumedAll, listenTokenOn, listenTokenOf, activeResponse, activeIdleOn, activeIdleOf}
+use Rattle.station_listen.specs.Listen.{handleLostToken, respondOf, listenResponse, consumedAll, listenTokenOn, listenTokenOf, activeResponse, activeIdleOn, activeIdleOf}
+use Rattle.station_passive.specs.Passive.{passiveIdleOf}
 use Rattle.station_pass.specs.Pass.{passTokenOf}
 use Rattle.station_await_status.specs.AwaitStatus.{statusAnswered, statusUnexpected, statusReceived, awaitStatusOf}
 use Rattle.station_check_pass.specs.CheckPass.{resendOf, checkReceived, checkTokenPassOf}
@@ -44,6 +47,11 @@ pub record Guarded (Q : Type 0) (s : Step) : Type 0 where
 
 pub weaken : {P Q : Type 0} {s : Step} → (P → Q) → Guarded P s → Guarded Q s
 weaken f g = record { guard = λ s. f (g .guard s) }
+
+-- what is counted of a step sends nothing
+event-guarded : (Q : Type 0) (x : RingStep) (e : Event) → Guarded Q (x .step) → Guarded Q (withEvent x e .step)
+unfolding withEvent
+event-guarded Q x e g = record { guard = g .guard }
 
 -- a step that sends nothing
 pub done-guarded : (Q : Type 0) (x : State) (c : Core) (o : Outcome) → Guarded Q (doneOf x c o)
@@ -100,13 +108,18 @@ module _ (p : Parameters) (now : Micros) where
   lost-guarded : (c : Core) (r : Ring) (rest : Core → RingStep) → ((d : Core) → Guarded (Pause d) (rest d .step)) → Guarded (Pause c) (handleLostToken p c r now rest .step)
   unfolding handleLostToken tokenLostWaitOf pauseOf waitedOf withActivity knownAt
   lost-guarded c r rest g =
-      either (λ (x : RingStep). Guarded (Pause c) (x .step)) (tokenLostWaitOf p c now .over) _ _ (claim-guarded _ r true) (g _)
+      either (λ (x : RingStep). Guarded (Pause c) (x .step)) (tokenLostWaitOf p c now .over) _ _ (event-guarded _ _ _ (claim-guarded _ r true)) (g _)
+
+  -- a status request answered
+  respond-guarded : (x y : State) (c : Core) (r : Ring) (source : ℕ) (type : ResponseState) → Guarded (Pause c) (respondOf p x y c r now source type .step)
+  unfolding respondOf
+  respond-guarded x y c r source type = tested-ring _ _ _ (done-guarded _ _ _ _)
 
   -- do_listen_token
   listen-on-guarded : (q : OptionAddress) (c : Core) (r : Ring) (k : ℕ) (bytes : List ℕ) (n count : ℕ) → Guarded (Pause c) (listenTokenOn q p c r now k bytes n count .step)
   unfolding listenTokenOn listenResponse
   listen-on-guarded optionAddress.None c r k bytes n count = consumed-guarded _ _ count
-  listen-on-guarded (optionAddress.Some source) c r k bytes n count = tested-ring _ _ _ (done-guarded _ _ _ _)
+  listen-on-guarded (optionAddress.Some source) c r k bytes n count = respond-guarded _ _ c r source _
 
   listen-guarded : (c : Core) (r : Ring) (q : OptionAddress) (k : ℕ) (bytes : List ℕ) (n count : ℕ) → Guarded (Pause c) (listenTokenOf p c r now q k bytes n count .step)
   unfolding listenTokenOf
@@ -116,11 +129,17 @@ module _ (p : Parameters) (now : Micros) where
   active-on-guarded : (q : OptionAddress) (c : Core) (r : Ring) (m : OptionAddress) (k : ℕ) (bytes : List ℕ) (n count : ℕ) → Guarded (Pause c) (activeIdleOn q p c r now m k bytes n count .step)
   unfolding activeIdleOn activeResponse
   active-on-guarded optionAddress.None c r m k bytes n count = consumed-guarded _ _ count
-  active-on-guarded (optionAddress.Some source) c r m k bytes n count = tested-ring _ _ _ (done-guarded _ _ _ _)
+  active-on-guarded (optionAddress.Some source) c r m k bytes n count = respond-guarded _ _ c r source _
 
   active-guarded : (c : Core) (r : Ring) (q m : OptionAddress) (k : ℕ) (bytes : List ℕ) (n count : ℕ) → Guarded (Pause c) (activeIdleOf p c r now q m k bytes n count .step)
   unfolding activeIdleOf
   active-guarded c r q m k bytes n count = lost-guarded c r _ (λ d. active-on-guarded q d r m k bytes n count)
+
+  -- do_passive_idle
+  passive-guarded : (q : OptionAddress) (c : Core) (r : Ring) (bytes : List ℕ) (n count : ℕ) → Guarded (Pause c) (passiveIdleOf p c r now q bytes n count .step)
+  unfolding passiveIdleOf
+  passive-guarded optionAddress.None c r bytes n count = consumed-guarded _ _ count
+  passive-guarded (optionAddress.Some source) c r bytes n count = respond-guarded _ _ c r source _
 
   -- do_use_token
   use-timed-guarded : (c : Core) (held : UseTokenData) (cycled : Bool) (bytes : List ℕ) (n : ℕ) → Guarded (Pause c) (useTokenTimed p c now held cycled bytes n)
@@ -185,7 +204,7 @@ module _ (p : Parameters) (now : Micros) where
   unfolding resendOf
   resend-guarded c r First = pass-guarded _ r false Second
   resend-guarded c r Second = pass-guarded _ r false Third
-  resend-guarded c r Third = pass-guarded _ _ false First
+  resend-guarded c r Third = event-guarded _ _ _ (pass-guarded _ _ false First)
 
   check-guarded : (c : Core) (r : Ring) (k : PassTokenAttempt) (bytes : List ℕ) (n count : ℕ) → Guarded (Pause c) (checkTokenPassOf p c r now k bytes n count .step)
   unfolding checkTokenPassOf checkReceived slotExpiredOf pauseOf waitedOf withActivity knownAt
@@ -206,6 +225,7 @@ module _ (p : Parameters) (now : Micros) where
   dispatch-guarded (PassToken g k) c r bytes n count = pass-guarded c r g k
   dispatch-guarded (CheckTokenPass k) c r bytes n count = check-guarded c r k bytes n count
   dispatch-guarded (AwaitStatusResponse a) c r bytes n count = await-status-guarded c r a bytes n count
+  dispatch-guarded (PassiveIdle q) c r bytes n count = passive-guarded q c r bytes n count
 
   -- the three states that wait for another: a send of theirs comes after the slot
   abbrev Slot : Core → Type 0
@@ -248,6 +268,7 @@ module _ (p : Parameters) (now : Micros) where
   slot-guarded (PassToken g k) c r bytes n count i = not-true i
   slot-guarded (CheckTokenPass k) c r bytes n count i = check-slot c r k bytes n count
   slot-guarded (AwaitStatusResponse a) c r bytes n count i = await-status-slot c r a bytes n count
+  slot-guarded (PassiveIdle q) c r bytes n count i = not-true i
 
   status-told : (Q : Type 0) (c : Core) (r : Ring) (a : ℕ) (t : Telegram) → Told Q (statusReceived p c r a t .step)
   unfolding statusReceived statusAnswered statusUnexpected
@@ -280,3 +301,4 @@ module _ (p : Parameters) (now : Micros) where
   slot-told (PassToken g k) c r bytes n count i = not-true i
   slot-told (CheckTokenPass k) c r bytes n count i = check-told c r k bytes n count
   slot-told (AwaitStatusResponse a) c r bytes n count i = await-status-told c r a bytes n count
+  slot-told (PassiveIdle q) c r bytes n count i = not-true i

@@ -1,7 +1,7 @@
 -- Every move keeps every line of a sound state and core: a law for each line, then all together (`core-kept`, `moves-keep`).
 use Prim.Native.Nat.{ℕ, suc, _*_, _≤_, _<_}
 use mathlib.Core.Bool.{Bool, true, false}
-use mathlib.Core.Path.{_≡_, refl, sym, _∙_}
+use mathlib.Core.Path.{_≡_, refl, sym, ap, _∙_}
 use mathlib.Core.Logic.{inl, inr}
 use mathlib.Core.List.{List}
 use native.Mathlib.Omega.{arith}
@@ -16,23 +16,39 @@ use Rattle.settings.specs.Settings.{rotationTimeOf}
 use Rattle.station.specs.declared.Activity.{Activity}
 use Rattle.station.specs.declared.Activity.the-variants as activity
 use Rattle.station.specs.declared.OptionAddress.{OptionAddress}
+use Rattle.station.specs.declared.OptionAddress.the-variants as optionAddress
 use Rattle.station.specs.declared.PassTokenAttempt.{PassTokenAttempt}
 use Rattle.station.specs.declared.UseTokenData.{UseTokenData}
+use Rattle.station.specs.declared.ConnectivityState.{ConnectivityState}
+use Rattle.station.specs.declared.ConnectivityState.the-variants as connectivity
 use Rattle.station.specs.declared.State.{State}
-use Rattle.station.specs.declared.State.the-variants.{Offline, ListenToken, ActiveIdle, UseToken, ClaimToken, AwaitDataResponse, PassToken, CheckTokenPass, AwaitStatusResponse}
+use Rattle.station.specs.declared.State.the-variants.{Offline, ListenToken, ActiveIdle, UseToken, ClaimToken, AwaitDataResponse, PassToken, CheckTokenPass, AwaitStatusResponse, PassiveIdle}
 use Rattle.station.specs.declared.Core.{Core}
-use Rattle.station.specs.Parts.{withActivity, withPending, withGap, withTokenTimes, withNextApplication, withOnline, freshCore, stateNumber}
+use Rattle.station.specs.Parts.{withActivity, withPending, withGap, withTokenTimes, withNextApplication, withConnectivity, freshCore, isOffline, stateNumber}
 use Rattle.station.specs.Steps.{knownAt, markedAt, sentAt}
 use Rattle.station_hold.specs.Hold.{holdLess, endOf, holdEndOf}
-use Rattle.theorem_sound.specs.Moves.{lists, activeIdleFrom, useTokenFrom, claimTokenFrom, awaitDataResponseFrom, passTokenFrom, checkTokenPassFrom, awaitStatusResponseFrom, In, Known, Low, Clock, HeldFits, GapAddressed, GapCounted, Move, waits, marks, sends, pends, holds, turns, gaps, listens, idles, cycles, claims, listen-token, active-idle, use-token, claim-token, await-data-response, pass-token, check-token-pass, await-status-response, goes-offline, goes-online, Moves, keeps}
+use Rattle.theorem_sound.specs.Moves.{lists, activeIdleFrom, useTokenFrom, claimTokenFrom, awaitDataResponseFrom, passTokenFrom, checkTokenPassFrom, awaitStatusResponseFrom, In, Known, KnownWith, Low, Clock, HeldFits, GapAddressed, GapCounted, Move, waits, marks, sends, pends, holds, turns, gaps, listens, passives, idles, cycles, claims, passive-idle, listen-token, active-idle, use-token, claim-token, await-data-response, pass-token, check-token-pass, await-status-response, goes-offline, connects, Moves, keeps}
 use Rattle.theorem_sound.specs.Lines.{Addressed, CollidedOnce, KnownIn, HeldIn, LastToken, ActivityFits, HoldMade, SoundCore}
 
 -- no truth is false
 pub not-true : {A : Type 0} → false ≡ true → A
 not-true e = let z : _≡_ {A = ℕ} 0 1 = cc in absurd (omega arith)
 
--- a transition that may not start in Offline starts in a station that is online: the line on Offline is kept
-online-from : (states : List ℕ) (x y : State) (o : Bool) → lists states 0 ≡ false → In states x → (o ≡ false → x ≡ Offline) → o ≡ false → y ≡ Offline
+-- neither passive nor online is offline
+not-offline : (v w : ConnectivityState) → isOffline w ≡ false → v ≡ w → v ≡ connectivity.Offline → ⊥
+unfolding isOffline
+not-offline v w o e f = not-true (sym o ∙ ap isOffline (sym e ∙ f))
+
+pub not-passive : (v : ConnectivityState) → v ≡ connectivity.Passive → v ≡ connectivity.Offline → ⊥
+unfolding isOffline
+not-passive v = not-offline v connectivity.Passive refl
+
+pub not-online : (v : ConnectivityState) → v ≡ connectivity.Online → v ≡ connectivity.Offline → ⊥
+unfolding isOffline
+not-online v = not-offline v connectivity.Online refl
+
+-- a transition that may not start in Offline starts in a station that is not offline: the line on Offline is kept
+online-from : (states : List ℕ) (x y : State) (o : ConnectivityState) → lists states 0 ≡ false → In states x → (o ≡ connectivity.Offline → x ≡ Offline) → o ≡ connectivity.Offline → y ≡ Offline
 online-from states x y o z i h f = not-true (sym z ∙ (rw (h f) at i))
 
 -- no zero is a state's number that is not Offline's
@@ -40,22 +56,27 @@ no-zero : {A : Type 0} {k : ℕ} → suc k ≡ 0 → A
 no-zero e = absurd (omega arith)
 
 -- the same where the state is known and is not Offline
-online-at : (x y : State) (o : Bool) → (stateNumber x ≡ 0 → ⊥) → (o ≡ false → x ≡ Offline) → o ≡ false → y ≡ Offline
+online-at : (x y : State) (o : ConnectivityState) → (stateNumber x ≡ 0 → ⊥) → (o ≡ connectivity.Offline → x ≡ Offline) → o ≡ connectivity.Offline → y ≡ Offline
 online-at x y o z h f = absurd (z (rw (h f) refl))
 
--- a transition that may start neither in Offline nor in ListenToken starts where the activity is known
-pub known-from : (states : List ℕ) (x : State) (a : Activity) → lists states 0 ≡ false → lists states 1 ≡ false → lists states (stateNumber x) ≡ true → KnownIn x a → Known a
-known-from states Offline a z o i b = not-true (sym z ∙ i)
-known-from states (ListenToken q k) a z o i b = not-true (sym o ∙ i)
-known-from states (ActiveIdle q m k) a z o i b = b
-known-from states (UseToken d k) a z o i b = b
-known-from states (ClaimToken f) a z o i b = b
-known-from states (AwaitDataResponse s d) a z o i b = b
-known-from states (PassToken g k) a z o i b = b
-known-from states (CheckTokenPass k) a z o i b = b
-known-from states (AwaitStatusResponse s) a z o i b = b
+-- a transition that may start neither in Offline nor in ListenToken nor in PassiveIdle starts where the activity is known
+pub known-from : (states : List ℕ) (x : State) (a : Activity) → lists states 0 ≡ false → lists states 1 ≡ false → lists states 9 ≡ false → lists states (stateNumber x) ≡ true → KnownIn x a → Known a
+known-from states Offline a z o w i b = not-true (sym z ∙ i)
+known-from states (ListenToken q k) a z o w i b = not-true (sym o ∙ i)
+known-from states (ActiveIdle q m k) a z o w i b = b
+known-from states (UseToken d k) a z o w i b = b
+known-from states (ClaimToken f) a z o w i b = b
+known-from states (AwaitDataResponse s d) a z o w i b = b
+known-from states (PassToken g k) a z o w i b = b
+known-from states (CheckTokenPass k) a z o w i b = b
+known-from states (AwaitStatusResponse s) a z o w i b = b
+known-from states (PassiveIdle q) a z o w i b = not-true (sym w ∙ i)
 
--- an activity that is known is known in every state
+-- an activity that is known is known with every request, and in every state
+pub known-with : (q : OptionAddress) (a : Activity) → Known a → KnownWith q a
+known-with optionAddress.None a k = tt
+known-with (optionAddress.Some source) a k = k
+
 known-in : (x : State) (a : Activity) → Known a → KnownIn x a
 known-in Offline a k = tt
 known-in (ListenToken q i) a k = tt
@@ -66,6 +87,7 @@ known-in (AwaitDataResponse s d) a k = k
 known-in (PassToken g i) a k = k
 known-in (CheckTokenPass i) a k = k
 known-in (AwaitStatusResponse s) a k = k
+known-in (PassiveIdle q) a k = known-with q a k
 
 pub marked-known : (a : Activity) (now : Micros) → Known (markedAt a now)
 unfolding markedAt
@@ -109,6 +131,7 @@ pub record OfStates (n : ℕ) (P : State → Type 0) : Type 0 where
   pub of-pass-token : (gap : Bool) (attempt : PassTokenAttempt) → P (PassToken gap attempt)
   pub of-check-token : (attempt : PassTokenAttempt) → P (CheckTokenPass attempt)
   pub of-await-status : (a : ℕ) → a < 128 → P (AwaitStatusResponse a)
+  pub of-passive-idle : (q : OptionAddress) → Low q → P (PassiveIdle q)
 
 -- the end of hold leaves the activity and the rest
 hold-same : {A : Type 0} (p : Parameters) (c : Core) (t : Micros) (f : Core → A) → f (withTokenTimes c t (endOf (c .«last_token_time») (rotationTimeOf p) (holdLess p (c .«gap_state»)))) ≡ f c → f (holdEndOf p c t) ≡ f c
@@ -127,9 +150,9 @@ hold-gap : (p : Parameters) (c : Core) (t : Micros) → holdEndOf p c t .«gap_s
 unfolding withTokenTimes
 hold-gap p c t = hold-same p c t (λ (x : Core). x .«gap_state») refl
 
-hold-online : (p : Parameters) (c : Core) (t : Micros) → holdEndOf p c t .online ≡ c .online
+pub hold-online : (p : Parameters) (c : Core) (t : Micros) → holdEndOf p c t .«connectivity_state» ≡ c .«connectivity_state»
 unfolding withTokenTimes
-hold-online p c t = hold-same p c t (λ (x : Core). x .online) refl
+hold-online p c t = hold-same p c t (λ (x : Core). x .«connectivity_state») refl
 
 -- it makes the token's time the last token time
 pub hold-last : (p : Parameters) (c : Core) (t : Micros) → t .0 ≡ holdEndOf p c t .«last_token_time» .0
@@ -147,10 +170,12 @@ module _ {p : Parameters} {n : ℕ} {now : Micros} where
   state-kept P o' (turns a l) b = b
   state-kept P o' (gaps g l h) b = b
   state-kept P o' (listens q q' k k' l o) b = o' .of-listen-token q' k' l o
+  state-kept P o' (passives q q' l w) b = o' .of-passive-idle q' l
   state-kept P o' (idles q q' m m' k k' l h o) b = o' .of-active-idle q' m' k' l h o
   state-kept P o' (cycles held kept cycled f t) b = o' .of-use-token true kept f
   state-kept P o' claims b = o' .of-claim-token false
   state-kept P o' (listen-token i o) b = o' .of-listen-token _ 0 tt (lit≤ tt)
+  state-kept P o' (passive-idle i o) b = o' .of-passive-idle _ tt
   state-kept P o' (active-idle i o) b = o' .of-active-idle _ _ 0 tt tt (lit≤ tt)
   state-kept P o' (use-token held i f) b = o' .of-use-token false held f
   state-kept P o' (claim-token i o) b = o' .of-claim-token true
@@ -159,7 +184,7 @@ module _ {p : Parameters} {n : ℕ} {now : Micros} where
   state-kept P o' (check-token-pass attempt i) b = o' .of-check-token attempt
   state-kept P o' (await-status-response a i l) b = o' .of-await-status a l
   state-kept P o' goes-offline b = o' .of-offline
-  state-kept P o' goes-online b = b
+  state-kept P o' (connects v l) b = b
 
   addresses-kept : {x y : State} {c d : Core} → Move p n now x c y d → Addressed x → Addressed y
   addresses-kept =
@@ -174,6 +199,7 @@ module _ {p : Parameters} {n : ℕ} {now : Micros} where
         of-pass-token = λ gap attempt. tt;
         of-check-token = λ attempt. tt;
         of-await-status = λ a l. l;
+        of-passive-idle = λ q l. l;
       })
 
   collided-kept : {x y : State} {c d : Core} → Move p n now x c y d → CollidedOnce x → CollidedOnce y
@@ -189,6 +215,7 @@ module _ {p : Parameters} {n : ℕ} {now : Micros} where
         of-pass-token = λ gap attempt. tt;
         of-check-token = λ attempt. tt;
         of-await-status = λ a l. tt;
+        of-passive-idle = λ q l. tt;
       })
 
   held-kept : {x y : State} {c d : Core} → Move p n now x c y d → HeldIn n x → HeldIn n y
@@ -204,11 +231,12 @@ module _ {p : Parameters} {n : ℕ} {now : Micros} where
         of-pass-token = λ gap attempt. tt;
         of-check-token = λ attempt. tt;
         of-await-status = λ a l. tt;
+        of-passive-idle = λ q l. tt;
       })
 
   -- the next application
   next-kept : {x y : State} {c d : Core} → Move p n now x c y d → c .«next_application» < n → d .«next_application» < n
-  unfolding withActivity withPending withGap withTokenTimes withNextApplication withOnline freshCore
+  unfolding withActivity withPending withGap withTokenTimes withNextApplication withConnectivity freshCore
   next-kept waits b = b
   next-kept marks b = b
   next-kept (sends bytes l) b = b
@@ -217,10 +245,12 @@ module _ {p : Parameters} {n : ℕ} {now : Micros} where
   next-kept (turns a l) b = l
   next-kept (gaps g l h) b = b
   next-kept (listens q q' k k' l o) b = b
+  next-kept (passives q q' l w) b = b
   next-kept (idles q q' m m' k k' l h o) b = b
   next-kept (cycles held kept cycled f t) b = b
   next-kept claims b = b
   next-kept (listen-token i o) b = b
+  next-kept (passive-idle i o) b = b
   next-kept (active-idle i o) b = b
   next-kept (use-token held i f) b = b
   next-kept (claim-token i o) b = b
@@ -229,11 +259,11 @@ module _ {p : Parameters} {n : ℕ} {now : Micros} where
   next-kept (check-token-pass attempt i) b = b
   next-kept (await-status-response a i l) b = b
   next-kept goes-offline b = omega (arith, b)
-  next-kept goes-online b = b
+  next-kept (connects v l) b = b
 
   -- the gap state
   gap-kept : {x y : State} {c d : Core} → Move p n now x c y d → GapAddressed (c .«gap_state») → GapAddressed (d .«gap_state»)
-  unfolding withActivity withPending withGap withTokenTimes withNextApplication withOnline freshCore
+  unfolding withActivity withPending withGap withTokenTimes withNextApplication withConnectivity freshCore
   gap-kept waits b = b
   gap-kept marks b = b
   gap-kept (sends bytes l) b = b
@@ -242,10 +272,12 @@ module _ {p : Parameters} {n : ℕ} {now : Micros} where
   gap-kept (turns a l) b = b
   gap-kept (gaps g l h) b = l
   gap-kept (listens q q' k k' l o) b = b
+  gap-kept (passives q q' l w) b = b
   gap-kept (idles q q' m m' k k' l h o) b = b
   gap-kept (cycles held kept cycled f t) b = b
   gap-kept claims b = b
   gap-kept (listen-token i o) b = b
+  gap-kept (passive-idle i o) b = b
   gap-kept (active-idle i o) b = b
   gap-kept (use-token held i f) b = b
   gap-kept (claim-token i o) b = b
@@ -254,11 +286,11 @@ module _ {p : Parameters} {n : ℕ} {now : Micros} where
   gap-kept (check-token-pass attempt i) b = b
   gap-kept (await-status-response a i l) b = b
   gap-kept goes-offline b = tt
-  gap-kept goes-online b = b
+  gap-kept (connects v l) b = b
 
   -- the gap state's count
   count-kept : {x y : State} {c d : Core} → Move p n now x c y d → GapCounted p (c .«gap_state») → GapCounted p (d .«gap_state»)
-  unfolding withActivity withPending withGap withTokenTimes withNextApplication withOnline freshCore
+  unfolding withActivity withPending withGap withTokenTimes withNextApplication withConnectivity freshCore
   count-kept waits b = b
   count-kept marks b = b
   count-kept (sends bytes l) b = b
@@ -267,10 +299,12 @@ module _ {p : Parameters} {n : ℕ} {now : Micros} where
   count-kept (turns a l) b = b
   count-kept (gaps g l h) b = h
   count-kept (listens q q' k k' l o) b = b
+  count-kept (passives q q' l w) b = b
   count-kept (idles q q' m m' k k' l h o) b = b
   count-kept (cycles held kept cycled f t) b = b
   count-kept claims b = b
   count-kept (listen-token i o) b = b
+  count-kept (passive-idle i o) b = b
   count-kept (active-idle i o) b = b
   count-kept (use-token held i f) b = b
   count-kept (claim-token i o) b = b
@@ -279,11 +313,11 @@ module _ {p : Parameters} {n : ℕ} {now : Micros} where
   count-kept (check-token-pass attempt i) b = b
   count-kept (await-status-response a i l) b = b
   count-kept goes-offline b = omega arith
-  count-kept goes-online b = b
+  count-kept (connects v l) b = b
 
-  -- not online means Offline
-  offline-kept : {x y : State} {c d : Core} → Move p n now x c y d → (c .online ≡ false → x ≡ Offline) → d .online ≡ false → y ≡ Offline
-  unfolding withActivity withPending withGap withTokenTimes withNextApplication withOnline freshCore
+  -- put offline means Offline
+  offline-kept : {x y : State} {c d : Core} → Move p n now x c y d → (c .«connectivity_state» ≡ connectivity.Offline → x ≡ Offline) → d .«connectivity_state» ≡ connectivity.Offline → y ≡ Offline
+  unfolding withActivity withPending withGap withTokenTimes withNextApplication withConnectivity freshCore
   offline-kept waits b = b
   offline-kept marks b = b
   offline-kept (sends bytes l) b = b
@@ -292,10 +326,12 @@ module _ {p : Parameters} {n : ℕ} {now : Micros} where
   offline-kept (turns a l) b = b
   offline-kept (gaps g l h) b = b
   offline-kept (listens q q' k k' l o) b = online-at _ _ _ (λ z. no-zero z) b
+  offline-kept (passives q q' l w) b = online-at _ _ _ (λ z. no-zero z) b
   offline-kept (idles q q' m m' k k' l h o) b = online-at _ _ _ (λ z. no-zero z) b
   offline-kept (cycles held kept cycled f t) b = online-at _ _ _ (λ z. no-zero z) b
   offline-kept claims b = online-at _ _ _ (λ z. no-zero z) b
-  offline-kept (listen-token i o) b = λ f. not-true (sym f ∙ o)
+  offline-kept (passive-idle i o) b = λ f. absurd (not-passive _ o f)
+  offline-kept (listen-token i o) b = λ f. absurd (o f)
   offline-kept {x} (active-idle i o) b = online-from activeIdleFrom x _ _ refl i b
   offline-kept {x} (use-token held i f) b = online-from useTokenFrom x _ _ refl i b
   offline-kept {x} (claim-token i o) b = online-from claimTokenFrom x _ _ refl i b
@@ -304,11 +340,11 @@ module _ {p : Parameters} {n : ℕ} {now : Micros} where
   offline-kept {x} (check-token-pass attempt i) b = online-from checkTokenPassFrom x _ _ refl i b
   offline-kept {x} (await-status-response a i l) b = online-from awaitStatusResponseFrom x _ _ refl i b
   offline-kept goes-offline b = λ f. refl
-  offline-kept goes-online b = λ f. not-true (sym f)
+  offline-kept (connects v l) b = λ f. absurd (l f)
 
   -- the activity is known
   known-kept : {x y : State} {c d : Core} → Move p n now x c y d → KnownIn x (c .«last_bus_activity») → KnownIn y (d .«last_bus_activity»)
-  unfolding withActivity withPending withGap withTokenTimes withNextApplication withOnline freshCore sentAt
+  unfolding withActivity withPending withGap withTokenTimes withNextApplication withConnectivity freshCore sentAt
   known-kept {x} waits b = known-in x _ tt
   known-kept {x} marks b = known-in x _ (marked-known _ now)
   known-kept {x} (sends bytes l) b = known-in x _ tt
@@ -317,23 +353,25 @@ module _ {p : Parameters} {n : ℕ} {now : Micros} where
   known-kept (turns a l) b = b
   known-kept (gaps g l h) b = b
   known-kept (listens q q' k k' l o) b = tt
+  known-kept (passives q q' l w) b = w
   known-kept (idles q q' m m' k k' l h o) b = b
   known-kept (cycles held kept cycled f t) b = b
   known-kept claims b = b
   known-kept (listen-token i o) b = tt
+  known-kept (passive-idle i o) b = tt
   known-kept (active-idle i o) b = o
-  known-kept {x} (use-token held i f) b = known-from useTokenFrom x _ refl refl i b
+  known-kept {x} (use-token held i f) b = known-from useTokenFrom x _ refl refl refl i b
   known-kept (claim-token i o) b = o
-  known-kept {x} (await-data-response a held i l f t) b = known-from awaitDataResponseFrom x _ refl refl i b
-  known-kept {x} (pass-token gap attempt i) b = known-from passTokenFrom x _ refl refl i b
-  known-kept {x} (check-token-pass attempt i) b = known-from checkTokenPassFrom x _ refl refl i b
-  known-kept {x} (await-status-response a i l) b = known-from awaitStatusResponseFrom x _ refl refl i b
+  known-kept {x} (await-data-response a held i l f t) b = known-from awaitDataResponseFrom x _ refl refl refl i b
+  known-kept {x} (pass-token gap attempt i) b = known-from passTokenFrom x _ refl refl refl i b
+  known-kept {x} (check-token-pass attempt i) b = known-from checkTokenPassFrom x _ refl refl refl i b
+  known-kept {x} (await-status-response a i l) b = known-from awaitStatusResponseFrom x _ refl refl refl i b
   known-kept goes-offline b = tt
-  known-kept goes-online b = b
+  known-kept (connects v l) b = b
 
   -- the activity fits
   activity-fits-kept : {x y : State} {c d : Core} → Move p n now x c y d → Clock now → ActivityFits (p .baudrate) (c .«last_bus_activity») → ActivityFits (p .baudrate) (d .«last_bus_activity»)
-  unfolding withActivity withPending withGap withTokenTimes withNextApplication withOnline freshCore sentAt
+  unfolding withActivity withPending withGap withTokenTimes withNextApplication withConnectivity freshCore sentAt
   activity-fits-kept waits l₀ b = known-fits (p .baudrate) _ now l₀ b
   activity-fits-kept marks l₀ b = marked-fits (p .baudrate) _ now l₀ b
   activity-fits-kept (sends bytes l) l₀ b = sent-fits p now bytes l l₀
@@ -342,10 +380,12 @@ module _ {p : Parameters} {n : ℕ} {now : Micros} where
   activity-fits-kept (turns a l) l₀ b = b
   activity-fits-kept (gaps g l h) l₀ b = b
   activity-fits-kept (listens q q' k k' l o) l₀ b = b
+  activity-fits-kept (passives q q' l w) l₀ b = b
   activity-fits-kept (idles q q' m m' k k' l h o) l₀ b = b
   activity-fits-kept (cycles held kept cycled f t) l₀ b = b
   activity-fits-kept claims l₀ b = b
   activity-fits-kept (listen-token i o) l₀ b = b
+  activity-fits-kept (passive-idle i o) l₀ b = b
   activity-fits-kept (active-idle i o) l₀ b = b
   activity-fits-kept (use-token held i f) l₀ b = b
   activity-fits-kept (claim-token i o) l₀ b = b
@@ -354,11 +394,11 @@ module _ {p : Parameters} {n : ℕ} {now : Micros} where
   activity-fits-kept (check-token-pass attempt i) l₀ b = b
   activity-fits-kept (await-status-response a i l) l₀ b = b
   activity-fits-kept goes-offline l₀ b = tt
-  activity-fits-kept goes-online l₀ b = b
+  activity-fits-kept (connects v l) l₀ b = b
 
   -- the token in hand is the last one
   last-kept : {x y : State} {c d : Core} → Move p n now x c y d → LastToken x (c .«last_token_time») → LastToken y (d .«last_token_time»)
-  unfolding withActivity withPending withGap withTokenTimes withNextApplication withOnline freshCore
+  unfolding withActivity withPending withGap withTokenTimes withNextApplication withConnectivity freshCore
   last-kept waits b = b
   last-kept marks b = b
   last-kept (sends bytes l) b = b
@@ -367,10 +407,12 @@ module _ {p : Parameters} {n : ℕ} {now : Micros} where
   last-kept (turns a l) b = b
   last-kept (gaps g l h) b = b
   last-kept (listens q q' k k' l o) b = tt
+  last-kept (passives q q' l w) b = tt
   last-kept (idles q q' m m' k k' l h o) b = tt
   last-kept (cycles held kept cycled f t) b = t
   last-kept claims b = tt
   last-kept (listen-token i o) b = tt
+  last-kept (passive-idle i o) b = tt
   last-kept (active-idle i o) b = tt
   last-kept (use-token held i f) b = tt
   last-kept (claim-token i o) b = tt
@@ -379,11 +421,11 @@ module _ {p : Parameters} {n : ℕ} {now : Micros} where
   last-kept (check-token-pass attempt i) b = tt
   last-kept (await-status-response a i l) b = tt
   last-kept goes-offline b = tt
-  last-kept goes-online b = b
+  last-kept (connects v l) b = b
 
   -- the last token time
   time-kept : {x y : State} {c d : Core} → Move p n now x c y d → Clock (c .«last_token_time») → Clock (d .«last_token_time»)
-  unfolding withActivity withPending withGap withTokenTimes withNextApplication withOnline freshCore
+  unfolding withActivity withPending withGap withTokenTimes withNextApplication withConnectivity freshCore
   time-kept waits b = b
   time-kept marks b = b
   time-kept (sends bytes l) b = b
@@ -392,10 +434,12 @@ module _ {p : Parameters} {n : ℕ} {now : Micros} where
   time-kept (turns a l) b = b
   time-kept (gaps g l h) b = b
   time-kept (listens q q' k k' l o) b = b
+  time-kept (passives q q' l w) b = b
   time-kept (idles q q' m m' k k' l h o) b = b
   time-kept (cycles held kept cycled f t) b = b
   time-kept claims b = b
   time-kept (listen-token i o) b = b
+  time-kept (passive-idle i o) b = b
   time-kept (active-idle i o) b = b
   time-kept (use-token held i f) b = b
   time-kept (claim-token i o) b = b
@@ -404,11 +448,11 @@ module _ {p : Parameters} {n : ℕ} {now : Micros} where
   time-kept (check-token-pass attempt i) b = b
   time-kept (await-status-response a i l) b = b
   time-kept goes-offline b = lit< tt
-  time-kept goes-online b = b
+  time-kept (connects v l) b = b
 
   -- the end of hold
   hold-kept : {x y : State} {c d : Core} → Move p n now x c y d → Clock (c .«last_token_time») → HoldMade p (c .«last_token_time») (c .«end_token_hold_time») → HoldMade p (d .«last_token_time») (d .«end_token_hold_time»)
-  unfolding withActivity withPending withGap withTokenTimes withNextApplication withOnline freshCore
+  unfolding withActivity withPending withGap withTokenTimes withNextApplication withConnectivity freshCore
   hold-kept waits t b = b
   hold-kept marks t b = b
   hold-kept (sends bytes l) t b = b
@@ -417,10 +461,12 @@ module _ {p : Parameters} {n : ℕ} {now : Micros} where
   hold-kept (turns a l) t b = b
   hold-kept (gaps g l h) t b = b
   hold-kept (listens q q' k k' l o) t b = b
+  hold-kept (passives q q' l w) t b = b
   hold-kept (idles q q' m m' k k' l h o) t b = b
   hold-kept (cycles held kept cycled f t') t b = b
   hold-kept claims t b = b
   hold-kept (listen-token i o) t b = b
+  hold-kept (passive-idle i o) t b = b
   hold-kept (active-idle i o) t b = b
   hold-kept (use-token held i f) t b = b
   hold-kept (claim-token i o) t b = b
@@ -429,7 +475,7 @@ module _ {p : Parameters} {n : ℕ} {now : Micros} where
   hold-kept (check-token-pass attempt i) t b = b
   hold-kept (await-status-response a i l) t b = b
   hold-kept goes-offline t b = inl (record { no-last = refl; no-end = refl })
-  hold-kept goes-online t b = b
+  hold-kept (connects v l) t b = b
 
   -- a move at a clock's time keeps a state and its core sound
   pub core-kept : Clock now → (x y : State) (c d : Core) → Move p n now x c y d → SoundCore p n x c → SoundCore p n y d

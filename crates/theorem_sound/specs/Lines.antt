@@ -12,11 +12,12 @@ use Rattle.settings.specs.Settings.{rotationTimeOf}
 use Rattle.ring.specs.declared.GapState.{GapState}
 use Rattle.station.specs.declared.Activity.{Activity}
 use Rattle.station.specs.declared.Activity.the-variants as activity
+use Rattle.station.specs.declared.ConnectivityState.the-variants as connectivity
 use Rattle.station.specs.declared.State.{State}
-use Rattle.station.specs.declared.State.the-variants.{Offline, ListenToken, ActiveIdle, UseToken, ClaimToken, AwaitDataResponse, PassToken, CheckTokenPass, AwaitStatusResponse}
+use Rattle.station.specs.declared.State.the-variants.{Offline, ListenToken, ActiveIdle, UseToken, ClaimToken, AwaitDataResponse, PassToken, CheckTokenPass, AwaitStatusResponse, PassiveIdle}
 use Rattle.station.specs.declared.Core.{Core}
 use Rattle.station_hold.specs.Hold.{holdLess, endOf}
-use Rattle.theorem_sound.specs.Moves.{Known, Low, Clock, HeldFits, GapAddressed, GapCounted}
+use Rattle.theorem_sound.specs.Moves.{Known, KnownWith, Low, Clock, HeldFits, GapAddressed, GapCounted}
 
 -- Each address that a state holds is below 128: who asked for the status, who may be the new previous station, and who is to answer.
 abbrev pub Addressed : State → Type 0
@@ -29,6 +30,7 @@ Addressed (AwaitDataResponse a held) = a < 128
 Addressed (PassToken gap attempt) = Unit {0}
 Addressed (CheckTokenPass attempt) = Unit {0}
 Addressed (AwaitStatusResponse a) = a < 128
+Addressed (PassiveIdle request) = Low request
 
 -- At most one collision is counted: a second leads out of ListenToken and of ActiveIdle.
 abbrev pub CollidedOnce : State → Type 0
@@ -41,8 +43,9 @@ CollidedOnce (AwaitDataResponse a held) = Unit {0}
 CollidedOnce (PassToken gap attempt) = Unit {0}
 CollidedOnce (CheckTokenPass attempt) = Unit {0}
 CollidedOnce (AwaitStatusResponse a) = Unit {0}
+CollidedOnce (PassiveIdle request) = Unit {0}
 
--- In every state but Offline and ListenToken the last bus activity is known.
+-- In every state but Offline, ListenToken and PassiveIdle the last bus activity is known; in PassiveIdle once a request is noted.
 abbrev pub KnownIn : State → Activity → Type 0
 KnownIn Offline a = Unit {0}
 KnownIn (ListenToken request collisions) a = Unit {0}
@@ -53,6 +56,7 @@ KnownIn (AwaitDataResponse address held) a = Known a
 KnownIn (PassToken gap attempt) a = Known a
 KnownIn (CheckTokenPass attempt) a = Known a
 KnownIn (AwaitStatusResponse address) a = Known a
+KnownIn (PassiveIdle request) a = KnownWith request a
 
 -- A token in hand came at a time of a clock, and its first application is one of n.
 abbrev pub HeldIn : ℕ → State → Type 0
@@ -65,6 +69,7 @@ HeldIn n (AwaitDataResponse address held) = HeldFits n held
 HeldIn n (PassToken gap attempt) = Unit {0}
 HeldIn n (CheckTokenPass attempt) = Unit {0}
 HeldIn n (AwaitStatusResponse address) = Unit {0}
+HeldIn n (PassiveIdle request) = Unit {0}
 
 -- The token in hand is the last token, once an application was asked or a reply is awaited. So the end of hold is this token's.
 abbrev pub LastToken : State → Micros → Type 0
@@ -78,6 +83,7 @@ LastToken (AwaitDataResponse address held) last = held .«token_time» .0 ≡ la
 LastToken (PassToken gap attempt) last = Unit {0}
 LastToken (CheckTokenPass attempt) last = Unit {0}
 LastToken (AwaitStatusResponse address) last = Unit {0}
+LastToken (PassiveIdle request) last = Unit {0}
 
 -- The last bus activity is at most the time of 255 bytes after a time that a clock can show.
 abbrev pub ActivityFits : Baud → Activity → Type 0
@@ -112,11 +118,11 @@ pub record SoundCore (p : Parameters) (n : ℕ) (x : State) (c : Core) : Type 0 
   pub gap-address : GapAddressed (c .«gap_state»)
   -- the count of a gap state that waits is at most one above the settings' gap wait
   pub gap-count : GapCounted p (c .«gap_state»)
-  -- a station that is not online is in Offline
-  pub offline : c .online ≡ false → x ≡ Offline
+  -- a station that is put offline is in Offline
+  pub offline : c .«connectivity_state» ≡ connectivity.Offline → x ≡ Offline
   -- at most one collision is counted
   pub collided-once : CollidedOnce x
-  -- the last bus activity is known in every state but Offline and ListenToken
+  -- the last bus activity is known in every state but Offline, ListenToken, and PassiveIdle with no request noted
   pub activity-known : KnownIn x (c .«last_bus_activity»)
   -- the last bus activity fits: at most the time of 255 bytes after a clock
   pub activity-fits : ActivityFits (p .baudrate) (c .«last_bus_activity»)

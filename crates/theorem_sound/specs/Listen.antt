@@ -1,56 +1,89 @@
--- What the steps of the two hearing crates, station_listen and station_claim come to.
+-- What the steps of the two hearing crates, station_listen, station_passive and station_claim come to.
 use Prim.Native.Nat.{ℕ, zero, suc, _<_, _≤_}
 use mathlib.Core.Bool.{Bool, true, false}
-use mathlib.Core.Path.{_≡_, refl, sym}
+use mathlib.Core.Path.{_≡_, refl, sym, ap}
 use mathlib.Core.List.{List}
 use native.Mathlib.Omega.{arith}
 use lib.Dec.{eqb, lit≤}
 use Rattle.bit_times.specs.declared.Micros.{Micros}
 use Rattle.settings.specs.declared.Parameters.{Parameters}
 use Rattle.ring.specs.Ring.{Ring, prevOf}
+use Rattle.codec_telegrams.specs.declared.ResponseState.{ResponseState}
 use Rattle.codec_telegrams.specs.declared.Telegram.{Telegram}
 use Rattle.codec_telegrams.specs.declared.Telegram.the-variants as telegram
 use Rattle.codec_telegrams.specs.Words.{TelegramFits}
 use Rattle.codec_answers.specs.declared.Outcome.the-variants as outcome
-use Rattle.codec_answers.specs.declared.Sent.{Sent}
 use Rattle.codec_answers.specs.declared.Sent.the-variants as sent
-use Rattle.codec_answers.specs.Answers.{sentBytes}
 use Rattle.station.specs.declared.OptionAddress.{OptionAddress}
 use Rattle.station.specs.declared.OptionAddress.the-variants as optionAddress
 use Rattle.station.specs.declared.UseTokenData.{UseTokenData}
 use Rattle.station.specs.declared.State.{State}
-use Rattle.station.specs.declared.State.the-variants.{Offline, ListenToken, ActiveIdle, UseToken, ClaimToken, AwaitDataResponse, PassToken, CheckTokenPass, AwaitStatusResponse}
+use Rattle.station.specs.declared.State.the-variants.{Offline, ListenToken, ActiveIdle, UseToken, ClaimToken, AwaitDataResponse, PassToken, CheckTokenPass, AwaitStatusResponse, PassiveIdle}
 use Rattle.station.specs.declared.Core.{Core}
 use Rattle.station.specs.Whole.{RingStep, Heard}
-use Rattle.station.specs.Steps.{toListenToken, toActiveIdle, pauseOf, tokenLostWaitOf, transmitOf, heardOf}
+use Rattle.station.specs.Parts.{stateNumber}
+use Rattle.station.specs.Steps.{toListenToken, toActiveIdle, pauseOf, tokenLostWaitOf, transmitOf, heardOf, lastRequestToUs}
 use Rattle.station_claim.specs.Claim.{claimNext, claimTokenOf}
 use Rattle.station_hear_active.specs.HearActive.{remembers, activeCollided, acceptedOf, tokenToUs, tokenWitnessed, tokenHeard, activeRequested, activeHeard, handleTelegram}
-use Rattle.station_listen.specs.Listen.{handleLostToken, listenAnswered, listenResponse, heardTelegram, heardAll, receivedAll, consumedAll, listenTokenOn, listenTokenOf, activeResponse, activeIdleOn, activeIdleOf}
-use Rattle.station_hear_listen.specs.HearListen.{collided, listened, listenHeard, listenTelegram}
-use Rattle.theorem_sound.specs.Moves.{claimTokenFrom, In, Known, Clock}
+use Rattle.station_listen.specs.Listen.{handleLostToken, respondOf, listenAnswered, listenResponse, heardTelegram, heardAll, receivedAll, consumedAll, listenTokenOn, listenTokenOf, activeResponse, activeIdleOn, activeIdleOf}
+use Rattle.station_passive.specs.Passive.{passiveIdleOf}
+use Rattle.station_hear_listen.specs.HearListen.{collided, sentByUs, notedOf, witnessedOf, listenHeard, passiveHeard, listenTelegram}
+use Rattle.theorem_sound.specs.Moves.{claimTokenFrom, In, Known, Low, Clock}
 use Rattle.theorem_sound.specs.Lines.{SoundCore}
-use Rattle.theorem_sound.specs.Kept.{not-true}
+use Rattle.theorem_sound.specs.Kept.{not-true, known-with}
 use Rattle.theorem_sound.specs.Keeps.{RingGood, either, telegram-low, again-good, claim-good, witness-good}
-use Rattle.theorem_sound.specs.Walk.{Came, Made, RingMade, HeardMade, addressed-at, collided-at, online-here, new-token, paused, lost-asked, pause-known, lost-known, rx, listen-fields, idle-fields, claim-again, to-listen, to-idle, to-use, to-claim, to-fresh, done-made, transmit-made, heard-made}
+use Rattle.theorem_sound.specs.Walk.{Came, Made, RingMade, HeardMade, addressed-at, collided-at, connected-here, new-token, paused, lost-asked, pause-known, lost-known, rx-known, rx, listen-fields, passive-fields, idle-fields, claim-again, to-listen, to-idle, to-use, to-claim, to-fresh, done-made, transmit-made, heard-made, collision-made, event-made}
 
 -- no state but Offline has the number 0
 no-zero : {k : ℕ} → suc k ≡ 0 → ⊥
 no-zero e = omega arith
 
--- where hearing may end: if listening in ListenToken or by a second collision in Offline; else in ActiveIdle, by a token accepted in
--- UseToken, or by a second collision in ListenToken
+-- where hearing may end: if listening in ListenToken or by a second collision in Offline, and from PassiveIdle in PassiveIdle; else in
+-- ActiveIdle, by a token accepted in UseToken, or by a second collision in ListenToken
 pub record ListenEnds (E : State → Type 0) : Type 0 where
   pub ends-offline : E Offline
   pub ends-listen : (q : OptionAddress) (k : ℕ) → E (ListenToken q k)
+  pub ends-passive : (q : OptionAddress) → E (PassiveIdle q)
 
 pub record ActiveEnds (E : State → Type 0) : Type 0 where
   pub ends-idle : (q m : OptionAddress) (k : ℕ) → E (ActiveIdle q m k)
   pub ends-accepted : (held : UseTokenData) → E (UseToken false held)
   pub ends-left : E toListenToken
 
+-- the same by the state that listens
+record HearsOn (E : State → Type 0) : Type 0 where
+  pub from-listen : (q : OptionAddress) (k : ℕ) → E (ListenToken q k) → ListenEnds E
+  pub from-passive : (q : OptionAddress) → E (PassiveIdle q) → (q' : OptionAddress) → E (PassiveIdle q')
+
 abbrev HearEnds : (State → Type 0) → Bool → Type 0
-HearEnds E true = ListenEnds E
+HearEnds E true = HearsOn E
 HearEnds E false = ActiveEnds E
+
+hears-on : {E : State → Type 0} → ListenEnds E → HearsOn E
+hears-on e = record { from-listen = λ q k y. e; from-passive = λ q y. e .ends-passive }
+
+-- the state is PassiveIdle
+abbrev pub Passive : State → Type 0
+Passive x = (q : OptionAddress) × (x ≡ PassiveIdle q)
+
+hears-passive : HearsOn Passive
+hears-passive = record { from-listen = λ q k y. absurd (let z : 1 ≡ 9 = ap stateNumber (y .1) in omega arith); from-passive = λ q y q'. (q', refl) }
+
+-- who is noted has an address below 128
+noted-low : (own : ℕ) (q : OptionAddress) (t : Telegram) (last : Bool) → TelegramFits t → Low q → Low (notedOf own q t last)
+unfolding notedOf
+noted-low own q (telegram.Token destination source) last f l = l
+noted-low own q telegram.ShortConfirmation last f l = l
+noted-low own q (telegram.Request destination source asks) last f l = either Low (lastRequestToUs destination own asks last) _ _ (f .1) l
+noted-low own q (telegram.Response destination source state status) last f l = l
+
+-- a telegram leaves a good ring good
+overheard-good : (p : Parameters) (r : Ring) (t : Telegram) → RingGood p r → RingGood p (witnessedOf r t)
+unfolding witnessedOf
+overheard-good p r (telegram.Token destination source) g = witness-good p r source destination g
+overheard-good p r telegram.ShortConfirmation g = g
+overheard-good p r (telegram.Request destination source asks) g = g
+overheard-good p r (telegram.Response destination source state status) g = g
 
 -- where do_listen_token may end but for a claim: hearing telegrams, or, with a request noted, answering it
 abbrev pub ListenedEnds : (State → Type 0) → OptionAddress → ℕ → Type 0
@@ -77,61 +110,61 @@ module _ {p : Parameters} {n : ℕ} {now : Micros} {x₀ : State} {c₀ : Core} 
   unfolding handleLostToken
   lost-made {c = c} r rest e i go k g =
       either (RingMade p n now x₀ c₀ E) (tokenLostWaitOf p c now .over) _ _
-      (claim-token-made r e (λ z. not-true (sym z)) (to-claim i (lost-known p c now) (lost-asked k)) g) (go _ (lost-asked k))
+      (event-made _ _ (claim-token-made r e (λ z. not-true (sym z)) (to-claim i (lost-known p c now) (lost-asked k)) g)) (go _ (lost-asked k))
+
+  -- a status request answered: the state that waits, and the one from then on
+  respond-made : {x y : State} {c : Core} (r : Ring) (source : ℕ) (type : ResponseState) → E x → E y → ((d : Core) → Known (d .«last_bus_activity») → Came p n now x₀ c₀ x d → Came p n now x₀ c₀ y d) → Came p n now x₀ c₀ x c → RingGood p r → RingMade p n now x₀ c₀ E (respondOf p x y c r now source type)
+  unfolding respondOf
+  respond-made {c = c} r source type e i answers k g =
+      either (RingMade p n now x₀ c₀ E) (pauseOf p c now .over) _ _
+      (record { made-step = transmit-made _ (lit≤ tt) (answers _ (pause-known p c now) (paused k)) i; made-ring = g })
+      (record { made-step = done-made _ (paused k) e; made-ring = g })
 
   -- do_listen_token
-  answered-made : {q : OptionAddress} {k : ℕ} {c : Core} (r : Ring) → E (ListenToken optionAddress.None k) → E toActiveIdle → Known (c .«last_bus_activity») → Came p n now x₀ c₀ (ListenToken q k) c → (s : Sent) → sentBytes s ≤ 255 → Made p n now x₀ c₀ E (transmitOf p (listenAnswered r k) c now s)
-  unfolding listenAnswered
-  answered-made {c = c} r e i o k s l =
-      either (λ (x : State). Made p n now x₀ c₀ E (transmitOf p x c now s)) (r .ready) _ _ (transmit-made s l (to-idle refl o k) i)
-      (transmit-made s l (listen-fields _ _ tt (collided-at k) k) e)
-
   response-made : {k : ℕ} {c : Core} (r : Ring) (source : ℕ) → ListenedEnds E (optionAddress.Some source) k → Came p n now x₀ c₀ (ListenToken (optionAddress.Some source) k) c → RingGood p r → RingMade p n now x₀ c₀ E (listenResponse p c r now source k)
-  unfolding listenResponse
-  response-made {c = c} r source e k g =
-      either (RingMade p n now x₀ c₀ E) (pauseOf p c now .over) _ _
-      (record { made-step = answered-made r (e .1) (e .2) (pause-known p c now) (paused k) _ (lit≤ tt); made-ring = g })
-      (record { made-step = done-made _ (paused k) (e .0); made-ring = g })
+  unfolding listenResponse listenAnswered
+  response-made r source e m g =
+      respond-made r source _ (e .0) (either E (r .ready) _ _ (e .2) (e .1))
+      (λ d o k. either (λ (x : State). Came p n now x₀ c₀ x d) (r .ready) _ _ (to-idle refl o k) (listen-fields _ _ tt (collided-at k) k)) m g
 
   collided-made : {q : OptionAddress} {k : ℕ} {c : Core} (r : Ring) → ListenEnds E → Came p n now x₀ c₀ (ListenToken q k) c → RingGood p r → HeardMade p n now x₀ c₀ E (collided p c r q k)
   unfolding collided
   collided-made {q} {k} r e m g =
-      either (HeardMade p n now x₀ c₀ E) (eqb k 0) _ _ (heard-made r _ (listen-fields q 1 (addressed-at m) (lit≤ tt) m) (e .ends-listen _ _) g)
-      (heard-made _ _ (to-fresh m) (e .ends-offline) (again-good p r g))
-
-  listened-made : {q : OptionAddress} {k : ℕ} {c : Core} (r : Ring) (source : ℕ) (noted : Bool) → source < 128 → ListenEnds E → Came p n now x₀ c₀ (ListenToken q k) c → RingGood p r → HeardMade p n now x₀ c₀ E (listened c r q k source noted)
-  unfolding listened
-  listened-made {k = k} r source noted l e m g =
-      either (HeardMade p n now x₀ c₀ E) noted _ _ (heard-made r _ (listen-fields (optionAddress.Some source) k l (collided-at m) m) (e .ends-listen _ _) g) (heard-made r _ m (e .ends-listen _ _) g)
+      either (HeardMade p n now x₀ c₀ E) (eqb k 0) _ _ (collision-made r (listen-fields q 1 (addressed-at m) (lit≤ tt) m) (e .ends-listen _ _) g)
+      (collision-made _ (to-fresh m) (e .ends-offline) (again-good p r g))
 
   listen-heard-made : {q : OptionAddress} {k : ℕ} {c : Core} (r : Ring) (t : Telegram) (last : Bool) → TelegramFits t → ListenEnds E → Came p n now x₀ c₀ (ListenToken q k) c → RingGood p r → HeardMade p n now x₀ c₀ E (listenHeard p c r q k t last)
   unfolding listenHeard
-  listen-heard-made r (telegram.Token destination source) last f e m g =
-      either (HeardMade p n now x₀ c₀ E) (eqb source (p .address)) _ _ (collided-made r e m g) (heard-made _ _ m (e .ends-listen _ _) (witness-good p r source destination g))
-  listen-heard-made r telegram.ShortConfirmation last f e m g = heard-made r _ m (e .ends-listen _ _) g
-  listen-heard-made r (telegram.Request destination source asks) last f e m g =
-      either (HeardMade p n now x₀ c₀ E) (eqb source (p .address)) _ _ (collided-made r e m g) (listened-made r source _ (f .1) e m g)
-  listen-heard-made r (telegram.Response destination source state status) last f e m g =
-      either (HeardMade p n now x₀ c₀ E) (eqb source (p .address)) _ _ (collided-made r e m g) (heard-made r _ m (e .ends-listen _ _) g)
+  listen-heard-made {q = q} {k = k} r t last f e m g =
+      either (HeardMade p n now x₀ c₀ E) (sentByUs (p .address) t) _ _ (collided-made r e m g)
+      (heard-made _ _ (listen-fields _ k (noted-low (p .address) q t last f (addressed-at m)) (collided-at m) m) (e .ends-listen _ _) (overheard-good p r t g))
 
-  listen-on-made : (x : State) {c : Core} (r : Ring) (t : Telegram) (last : Bool) → TelegramFits t → ListenEnds E → Came p n now x₀ c₀ x c → E x → RingGood p r → HeardMade p n now x₀ c₀ E (listenTelegram p x c r t last)
+  -- PassiveIdle
+  passive-heard-made : {q : OptionAddress} {c : Core} (r : Ring) (t : Telegram) (last : Bool) → TelegramFits t → Known (c .«last_bus_activity») → ((q' : OptionAddress) → E (PassiveIdle q')) → Came p n now x₀ c₀ (PassiveIdle q) c → RingGood p r → HeardMade p n now x₀ c₀ E (passiveHeard p c r q t last)
+  unfolding passiveHeard
+  passive-heard-made {q = q} {c = c} r t last f w e m g =
+      either (HeardMade p n now x₀ c₀ E) (sentByUs (p .address) t) _ _ (heard-made r _ m (e _) g)
+      (heard-made _ _ (passive-fields _ (noted-low (p .address) q t last f (addressed-at m)) (known-with (notedOf (p .address) q t last) (c .«last_bus_activity») w) m) (e _) (overheard-good p r t g))
+
+  listen-on-made : (x : State) {c : Core} (r : Ring) (t : Telegram) (last : Bool) → TelegramFits t → Known (c .«last_bus_activity») → HearsOn E → Came p n now x₀ c₀ x c → E x → RingGood p r → HeardMade p n now x₀ c₀ E (listenTelegram p x c r t last)
   unfolding listenTelegram
-  listen-on-made Offline r t last f e m y g = heard-made r _ m y g
-  listen-on-made (ListenToken q k) r t last f e m y g = listen-heard-made r t last f e m g
-  listen-on-made (ActiveIdle q s k) r t last f e m y g = heard-made r _ m y g
-  listen-on-made (UseToken k d) r t last f e m y g = heard-made r _ m y g
-  listen-on-made (ClaimToken first) r t last f e m y g = heard-made r _ m y g
-  listen-on-made (AwaitDataResponse a d) r t last f e m y g = heard-made r _ m y g
-  listen-on-made (PassToken x a) r t last f e m y g = heard-made r _ m y g
-  listen-on-made (CheckTokenPass a) r t last f e m y g = heard-made r _ m y g
-  listen-on-made (AwaitStatusResponse a) r t last f e m y g = heard-made r _ m y g
+  listen-on-made Offline r t last f w e m y g = heard-made r _ m y g
+  listen-on-made (ListenToken q k) r t last f w e m y g = listen-heard-made r t last f (e .from-listen q k y) m g
+  listen-on-made (ActiveIdle q s k) r t last f w e m y g = heard-made r _ m y g
+  listen-on-made (UseToken k d) r t last f w e m y g = heard-made r _ m y g
+  listen-on-made (ClaimToken first) r t last f w e m y g = heard-made r _ m y g
+  listen-on-made (AwaitDataResponse a d) r t last f w e m y g = heard-made r _ m y g
+  listen-on-made (PassToken x a) r t last f w e m y g = heard-made r _ m y g
+  listen-on-made (CheckTokenPass a) r t last f w e m y g = heard-made r _ m y g
+  listen-on-made (AwaitStatusResponse a) r t last f w e m y g = heard-made r _ m y g
+  listen-on-made (PassiveIdle q) r t last f w e m y g = passive-heard-made r t last f w (e .from-passive q y) m g
 
   -- handle_telegram
   active-collided-made : {q s : OptionAddress} {k : ℕ} {c : Core} (r : Ring) → ActiveEnds E → Came p n now x₀ c₀ (ActiveIdle q s k) c → RingGood p r → HeardMade p n now x₀ c₀ E (activeCollided c r q s k)
   unfolding activeCollided
   active-collided-made {q} {s} {k} r e m g =
-      either (HeardMade p n now x₀ c₀ E) (eqb k 0) _ _ (heard-made r _ (idle-fields q s 1 (addressed-at m .0) (addressed-at m .1) (lit≤ tt) m) (e .ends-idle _ _ _) g)
-      (heard-made r _ (to-listen refl (online-here m no-zero) m) (e .ends-left) g)
+      either (HeardMade p n now x₀ c₀ E) (eqb k 0) _ _ (collision-made r (idle-fields q s 1 (addressed-at m .0) (addressed-at m .1) (lit≤ tt) m) (e .ends-idle _ _ _) g)
+      (collision-made r (to-listen refl (connected-here m no-zero) m) (e .ends-left) g)
 
   accepted-made : {q s : OptionAddress} {k : ℕ} {c : Core} (r : Ring) → ActiveEnds E → Came p n now x₀ c₀ (ActiveIdle q s k) c → RingGood p r → HeardMade p n now x₀ c₀ E (acceptedOf c r now)
   unfolding acceptedOf
@@ -180,12 +213,13 @@ module _ {p : Parameters} {n : ℕ} {now : Micros} {x₀ : State} {c₀ : Core} 
   handle-on-made (PassToken x a) r t last f e m y g = heard-made r _ m y g
   handle-on-made (CheckTokenPass a) r t last f e m y g = heard-made r _ m y g
   handle-on-made (AwaitStatusResponse a) r t last f e m y g = heard-made r _ m y g
+  handle-on-made (PassiveIdle q) r t last f e m y g = heard-made r _ m y g
 
   -- receive_all_telegrams
   heard-telegram-made : (h : Heard) (listening : Bool) (t : Telegram) (last : Bool) → Clock now → SoundCore p n x₀ c₀ → TelegramFits t → HearEnds E listening → HeardMade p n now x₀ c₀ E h → HeardMade p n now x₀ c₀ E (heardTelegram p h now listening t last)
   unfolding heardTelegram
   heard-telegram-made h true t last l w f e k =
-      listen-on-made (h .state) (h .ring) t last f e (rx (record { clock = l; start = w; by = k .heard-moves })) (k .heard-ends) (k .heard-ring)
+      listen-on-made (h .state) (h .ring) t last f (rx-known (h .core) now) e (rx (record { clock = l; start = w; by = k .heard-moves })) (k .heard-ends) (k .heard-ring)
   heard-telegram-made h false t last l w f e k =
       handle-on-made (h .state) (h .ring) t last f e (rx (record { clock = l; start = w; by = k .heard-moves })) (k .heard-ends) (k .heard-ring)
 
@@ -207,7 +241,7 @@ module _ {p : Parameters} {n : ℕ} {now : Micros} {x₀ : State} {c₀ : Core} 
   -- do_listen_token
   listen-token-on-made : {k : ℕ} {c : Core} (q : OptionAddress) (r : Ring) (bytes : List ℕ) (count : ℕ) → ListenedEnds E q k → Came p n now x₀ c₀ (ListenToken q k) c → RingGood p r → RingMade p n now x₀ c₀ E (listenTokenOn q p c r now k bytes n count)
   unfolding listenTokenOn
-  listen-token-on-made optionAddress.None r bytes count e m g = received-made r true bytes count e m (e .ends-listen _ _) g
+  listen-token-on-made optionAddress.None r bytes count e m g = received-made r true bytes count (hears-on e) m (e .ends-listen _ _) g
   listen-token-on-made (optionAddress.Some source) r bytes count e m g = response-made r source e m g
 
   pub listen-token-made : {q : OptionAddress} {k : ℕ} {c : Core} (r : Ring) (bytes : List ℕ) (count : ℕ) → ((f : Bool) → E (ClaimToken f)) → ListenedEnds E q k → Came p n now x₀ c₀ (ListenToken q k) c → RingGood p r → RingMade p n now x₀ c₀ E (listenTokenOf p c r now q k bytes n count)
@@ -217,10 +251,8 @@ module _ {p : Parameters} {n : ℕ} {now : Micros} {x₀ : State} {c₀ : Core} 
   -- do_active_idle
   active-response-made : {s : OptionAddress} {k : ℕ} {c : Core} (r : Ring) (source : ℕ) → ActiveEnds E → Came p n now x₀ c₀ (ActiveIdle (optionAddress.Some source) s k) c → RingGood p r → RingMade p n now x₀ c₀ E (activeResponse p c r now source s k)
   unfolding activeResponse
-  active-response-made {s = s} {k = k} {c = c} r source e m g =
-      either (RingMade p n now x₀ c₀ E) (pauseOf p c now .over) _ _
-      (record { made-step = transmit-made _ (lit≤ tt) (idle-fields optionAddress.None s k tt (addressed-at m .1) (collided-at m) (paused m)) (e .ends-idle _ _ _); made-ring = g })
-      (record { made-step = done-made _ (paused m) (e .ends-idle _ _ _); made-ring = g })
+  active-response-made {s = s} {k = k} r source e m g =
+      respond-made r source _ (e .ends-idle _ _ _) (e .ends-idle _ _ _) (λ d o i. idle-fields optionAddress.None s k tt (addressed-at i .1) (collided-at i) i) m g
 
   active-idle-on-made : {s : OptionAddress} {k : ℕ} {c : Core} (q : OptionAddress) (r : Ring) (bytes : List ℕ) (count : ℕ) → ActiveEnds E → Came p n now x₀ c₀ (ActiveIdle q s k) c → RingGood p r → RingMade p n now x₀ c₀ E (activeIdleOn q p c r now s k bytes n count)
   unfolding activeIdleOn
@@ -230,3 +262,12 @@ module _ {p : Parameters} {n : ℕ} {now : Micros} {x₀ : State} {c₀ : Core} 
   pub active-idle-made : {q s : OptionAddress} {k : ℕ} {c : Core} (r : Ring) (bytes : List ℕ) (count : ℕ) → ((f : Bool) → E (ClaimToken f)) → ActiveEnds E → Came p n now x₀ c₀ (ActiveIdle q s k) c → RingGood p r → RingMade p n now x₀ c₀ E (activeIdleOf p c r now q s k bytes n count)
   unfolding activeIdleOf
   active-idle-made {q} r bytes count f e m g = lost-made r _ f refl (λ d k. active-idle-on-made q r bytes count e k g) m g
+
+-- PassiveIdle: it is left in no poll
+module _ {p : Parameters} {n : ℕ} {now : Micros} {x₀ : State} {c₀ : Core} where
+  -- do_passive_idle
+  pub passive-idle-made : {c : Core} (q : OptionAddress) (r : Ring) (bytes : List ℕ) (count : ℕ) → Came p n now x₀ c₀ (PassiveIdle q) c → RingGood p r → RingMade p n now x₀ c₀ Passive (passiveIdleOf p c r now q bytes n count)
+  unfolding passiveIdleOf
+  passive-idle-made optionAddress.None r bytes count m g = received-made r true bytes count hears-passive m (optionAddress.None, refl) g
+  passive-idle-made (optionAddress.Some source) r bytes count m g =
+      respond-made r source _ (optionAddress.Some source, refl) (optionAddress.None, refl) (λ d o k. passive-fields optionAddress.None tt tt k) m g

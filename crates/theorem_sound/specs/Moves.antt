@@ -23,11 +23,13 @@ use Rattle.station.specs.declared.OptionApplication.{OptionApplication}
 use Rattle.station.specs.declared.OptionApplication.the-variants as optionApplication
 use Rattle.station.specs.declared.PassTokenAttempt.{PassTokenAttempt}
 use Rattle.station.specs.declared.UseTokenData.{UseTokenData}
+use Rattle.station.specs.declared.ConnectivityState.{ConnectivityState}
+use Rattle.station.specs.declared.ConnectivityState.the-variants as connectivity
 use Rattle.station.specs.declared.State.{State}
-use Rattle.station.specs.declared.State.the-variants.{Offline, ListenToken, ActiveIdle, UseToken, ClaimToken, AwaitDataResponse, PassToken, CheckTokenPass, AwaitStatusResponse}
+use Rattle.station.specs.declared.State.the-variants.{Offline, ListenToken, ActiveIdle, UseToken, ClaimToken, AwaitDataResponse, PassToken, CheckTokenPass, AwaitStatusResponse, PassiveIdle}
 use Rattle.station.specs.declared.Core.{Core}
-use Rattle.station.specs.Parts.{withActivity, withPending, withGap, withNextApplication, withOnline, freshCore, stateNumber}
-use Rattle.station.specs.Steps.{toListenToken, toActiveIdle, knownAt, markedAt, sentAt}
+use Rattle.station.specs.Parts.{withActivity, withPending, withGap, withNextApplication, withConnectivity, freshCore, stateNumber}
+use Rattle.station.specs.Steps.{toListenToken, toPassiveIdle, toActiveIdle, knownAt, markedAt, sentAt}
 use Rattle.station_hold.specs.Hold.{holdEndOf}
 
 -- a list has a number
@@ -35,11 +37,15 @@ abbrev pub lists : List ℕ → ℕ → Bool
 lists [] k = false
 lists (a ∷ more) k = cond (eqb a k) true (lists more k)
 
--- The states that each transition of active.rs may start from, by its `debug_assert_state!` (PassiveIdle, which is not taken, left
--- out), in the Rust's order and by document 01's numbers: 0 Offline, 1 ListenToken, 2 ActiveIdle, 3 UseToken, 4 ClaimToken,
--- 5 AwaitDataResponse, 6 PassToken, 7 CheckTokenPass, 8 AwaitStatusResponse.
+-- The states that each transition of active.rs may start from, by its `debug_assert_state!`, in the Rust's order and by the numbers of
+-- documents 01 and 02: 0 Offline, 1 ListenToken, 2 ActiveIdle, 3 UseToken, 4 ClaimToken, 5 AwaitDataResponse, 6 PassToken,
+-- 7 CheckTokenPass, 8 AwaitStatusResponse, 9 PassiveIdle. Two of the lists have more than the Rust's, by document 02: ListenToken may be
+-- entered from PassiveIdle (9, the last of its list), and PassiveIdle from ListenToken and ActiveIdle (1 and 2, the last of its list).
+abbrev pub passiveIdleFrom : List ℕ
+passiveIdleFrom = 0 ∷ 9 ∷ 1 ∷ 2 ∷ []
+
 abbrev pub listenTokenFrom : List ℕ
-listenTokenFrom = 1 ∷ 0 ∷ 2 ∷ []
+listenTokenFrom = 1 ∷ 0 ∷ 2 ∷ 9 ∷ []
 
 abbrev pub activeIdleFrom : List ℕ
 activeIdleFrom = 2 ∷ 1 ∷ 3 ∷ 5 ∷ 7 ∷ 8 ∷ []
@@ -70,6 +76,11 @@ In states x = lists states (stateNumber x) ≡ true
 abbrev pub Known : Activity → Type 0
 Known activity.Unknown = ⊥
 Known (activity.At last) = Unit {0}
+
+-- once a request is noted the activity is known
+abbrev pub KnownWith : OptionAddress → Activity → Type 0
+KnownWith optionAddress.None a = Unit {0}
+KnownWith (optionAddress.Some source) a = Known a
 
 -- no address, or one below 128
 abbrev pub Low : OptionAddress → Type 0
@@ -119,14 +130,18 @@ pub data Move (p : Parameters) (n : ℕ) (now : Micros) : State → Core → Sta
   gaps : {x : State} {c : Core} (g : GapState) → GapAddressed g → GapCounted p g → Move p n now x c x (withGap c g)
   -- get_listen_token_status_request, get_listen_token_collision_count: a field of ListenToken
   listens : {c : Core} (q q' : OptionAddress) (k k' : ℕ) → Low q' → k' ≤ 1 → Move p n now (ListenToken q k) c (ListenToken q' k') c
+  -- the field of PassiveIdle: the activity is known where a request is noted
+  passives : {c : Core} (q q' : OptionAddress) → Low q' → KnownWith q' (c .«last_bus_activity») → Move p n now (PassiveIdle q) c (PassiveIdle q') c
   -- get_active_idle_status_request, get_active_idle_new_previous_station, get_active_idle_collision_count: a field of ActiveIdle
   idles : {c : Core} (q q' m m' : OptionAddress) (k k' : ℕ) → Low q' → Low m' → k' ≤ 1 → Move p n now (ActiveIdle q m k) c (ActiveIdle q' m' k') c
   -- get_use_token_data, get_use_token_first_cycle_done: the first cycle is done, by the token whose time is the last token time
   cycles : {c : Core} (held kept : UseTokenData) (cycled : Bool) → HeldFits n kept → kept .«token_time» .0 ≡ c .«last_token_time» .0 → Move p n now (UseToken cycled held) c (UseToken true kept) c
   -- get_claim_token_first: the second token is to be sent
   claims : {c : Core} → Move p n now (ClaimToken true) c (ClaimToken false) c
-  -- transition_listen_token, of a station that is online
-  listen-token : {x : State} {c : Core} → In listenTokenFrom x → c .online ≡ true → Move p n now x c toListenToken c
+  -- transition_passive_idle, of a station that is passive
+  passive-idle : {x : State} {c : Core} → In passiveIdleFrom x → c .«connectivity_state» ≡ connectivity.Passive → Move p n now x c toPassiveIdle c
+  -- transition_listen_token, of a station that is not offline
+  listen-token : {x : State} {c : Core} → In listenTokenFrom x → (c .«connectivity_state» ≡ connectivity.Offline → ⊥) → Move p n now x c toListenToken c
   -- transition_active_idle: from ListenToken too, where the activity is known by then
   active-idle : {x : State} {c : Core} → In activeIdleFrom x → Known (c .«last_bus_activity») → Move p n now x c toActiveIdle c
   -- transition_use_token
@@ -143,8 +158,8 @@ pub data Move (p : Parameters) (n : ℕ) (now : Micros) : State → Core → Sta
   await-status-response : {x : State} {c : Core} (a : ℕ) → In awaitStatusResponseFrom x → a < 128 → Move p n now x c (AwaitStatusResponse a) c
   -- set_offline: by command, or by a second collision
   goes-offline : {x : State} {c : Core} → Move p n now x c Offline freshCore
-  -- set_online
-  goes-online : {x : State} {c : Core} → Move p n now x c x (withOnline c true)
+  -- set_online, set_passive
+  connects : {x : State} {c : Core} (v : ConnectivityState) → (v ≡ connectivity.Offline → ⊥) → Move p n now x c x (withConnectivity c v)
 
 -- a list of moves, from a state and its core to a state and its core
 pub data Moves (p : Parameters) (n : ℕ) (now : Micros) : State → Core → State → Core → Type 0 where

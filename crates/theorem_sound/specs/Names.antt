@@ -12,7 +12,7 @@ use Rattle.codec_records.specs.Records.{recordRefusal}
 use Rattle.codec_answers.specs.Answers.{refusedAnswer}
 use Rattle.station.specs.Whole.{Station}
 use Rattle.station_answer.specs.Answer.{Polled, stepAnswer, polledOf, refusedPoll}
-use Rattle.station_command.specs.Command.{onlineOf, offlineOf, passiveOf}
+use Rattle.station_command.specs.Command.{connectOf, onlineOf, offlineOf, passiveOf}
 use Rattle.station_poll.specs.Poll.{acceptedAfter, acceptedPoll, pollOf}
 use Rattle.theorem_sound.specs.Sound.{SoundStation}
 
@@ -35,9 +35,9 @@ unfolding pollOf acceptedPoll acceptedAfter polledOf stepAnswer
 poll-names s bytes =
     cases (eqb (recordRefusal bytes (s .applications)) 0) (λ e. rw e) (λ e. rw e (refused-names s (recordRefusal bytes (s .applications))))
 
--- the answers to the commands do; passive is a refused one
+-- the answers to the commands do
 pub online-names : (s : Station) → NamesNext (onlineOf s)
-unfolding onlineOf polledOf stepAnswer
+unfolding onlineOf connectOf polledOf stepAnswer
 online-names s = refl
 
 pub offline-names : (s : Station) → NamesNext (offlineOf s)
@@ -45,8 +45,8 @@ unfolding offlineOf polledOf stepAnswer
 offline-names s = refl
 
 pub passive-names : (s : Station) → NamesNext (passiveOf s)
-unfolding passiveOf
-passive-names s = refused-names s 16
+unfolding passiveOf connectOf polledOf stepAnswer
+passive-names s = refl
 
 -- what is named when we are alone: nobody
 pub alone-named : (s : Station) → SoundStation s → others (s .«token_ring») ≡ [] → nextIn s ≡ nextNumber Nobody

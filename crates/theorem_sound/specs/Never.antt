@@ -29,19 +29,21 @@ use Rattle.station.specs.declared.OptionAddress.{OptionAddress}
 use Rattle.station.specs.declared.OptionAddress.the-variants as optionAddress
 use Rattle.station.specs.declared.OptionApplication.{OptionApplication}
 use Rattle.station.specs.declared.OptionApplication.the-variants as optionApplication
+use Rattle.station.specs.declared.ConnectivityState.{ConnectivityState}
+use Rattle.station.specs.declared.ConnectivityState.the-variants as connectivity
 use Rattle.station.specs.declared.State.{State}
-use Rattle.station.specs.declared.State.the-variants.{Offline, ListenToken, ActiveIdle, UseToken, ClaimToken, AwaitDataResponse, PassToken, CheckTokenPass, AwaitStatusResponse}
+use Rattle.station.specs.declared.State.the-variants.{Offline, ListenToken, ActiveIdle, UseToken, ClaimToken, AwaitDataResponse, PassToken, CheckTokenPass, AwaitStatusResponse, PassiveIdle}
 use Rattle.station.specs.declared.Core.{Core}
 use Rattle.station.specs.Whole.{Heard}
-use Rattle.station.specs.Parts.{withActivity, withPending, stateNumber}
-use Rattle.station.specs.Steps.{knownAt, markedAt, busyOf, ongoingOf, busActivityOf, heardOf, lastRequestToUs}
+use Rattle.station.specs.Parts.{withActivity, withPending, isOffline, stateNumber}
+use Rattle.station.specs.Steps.{toPassiveIdle, knownAt, markedAt, busyOf, ongoingOf, busActivityOf, heardOf, collisionOf, lastRequestToUs}
 use Rattle.station_hold.specs.declared.Asked.{Asked}
 use Rattle.station_hold.specs.Hold.{declinesOn, declinesAt, firstOr, turnOf, askedFrom, askedOf}
 use Rattle.station_hear_active.specs.HearActive.{activeCollided, tokenWitnessed, tokenHeard, activeRequested, activeHeard, handleTelegram}
-use Rattle.station_hear_listen.specs.HearListen.{collided, listened, listenHeard, listenTelegram}
+use Rattle.station_hear_listen.specs.HearListen.{collided, sentByUs, notedOf, witnessedOf, overheardOf, listenHeard, passiveHeard, listenTelegram}
 use Rattle.station_listen.specs.Listen.{heardTelegram, heardAll}
-use Rattle.station_poll.specs.Poll.{connectedOf}
-use Rattle.theorem_sound.specs.Moves.{OneOf, Clock}
+use Rattle.station_poll.specs.Poll.{connectedOf, passivatedOf, enteredOf}
+use Rattle.theorem_sound.specs.Moves.{KnownWith, OneOf, Clock}
 use Rattle.theorem_sound.specs.Lines.{KnownIn, SoundCore}
 use Rattle.theorem_sound.specs.Sound.{dispatched}
 use Rattle.theorem_sound.specs.Kept.{not-true}
@@ -52,19 +54,39 @@ use Rattle.theorem_sound.specs.Hold.{turn-good, asked-good, first-or-goo
 no-state : (k : ℕ) → suc k ≡ 0 → ⊥
 no-state k e = omega arith
 
--- 1. Offline inside the dispatch (`unreachable!()` in poll_inner): the state that an online station's dispatch is given is not Offline,
--- since connectedOf comes first.
-pub dispatch-never-offline : (x : State) → connectedOf x ≡ Offline → ⊥
+-- 1. Offline inside the dispatch (`unreachable!()` in poll_inner): the state that the dispatch of a station that is not offline is given
+-- is not Offline, since enteredOf comes first.
+connected-never-offline : (x : State) → connectedOf x ≡ Offline → ⊥
 unfolding connectedOf
-dispatch-never-offline Offline e = no-state 0 (ap stateNumber e)
-dispatch-never-offline (ListenToken q k) e = no-state 0 (ap stateNumber e)
-dispatch-never-offline (ActiveIdle q m k) e = no-state 1 (ap stateNumber e)
-dispatch-never-offline (UseToken k d) e = no-state 2 (ap stateNumber e)
-dispatch-never-offline (ClaimToken b) e = no-state 3 (ap stateNumber e)
-dispatch-never-offline (AwaitDataResponse a d) e = no-state 4 (ap stateNumber e)
-dispatch-never-offline (PassToken g k) e = no-state 5 (ap stateNumber e)
-dispatch-never-offline (CheckTokenPass k) e = no-state 6 (ap stateNumber e)
-dispatch-never-offline (AwaitStatusResponse a) e = no-state 7 (ap stateNumber e)
+connected-never-offline Offline e = no-state 0 (ap stateNumber e)
+connected-never-offline (ListenToken q k) e = no-state 0 (ap stateNumber e)
+connected-never-offline (ActiveIdle q m k) e = no-state 1 (ap stateNumber e)
+connected-never-offline (UseToken k d) e = no-state 2 (ap stateNumber e)
+connected-never-offline (ClaimToken b) e = no-state 3 (ap stateNumber e)
+connected-never-offline (AwaitDataResponse a d) e = no-state 4 (ap stateNumber e)
+connected-never-offline (PassToken g k) e = no-state 5 (ap stateNumber e)
+connected-never-offline (CheckTokenPass k) e = no-state 6 (ap stateNumber e)
+connected-never-offline (AwaitStatusResponse a) e = no-state 7 (ap stateNumber e)
+connected-never-offline (PassiveIdle q) e = no-state 0 (ap stateNumber e)
+
+passivated-never-offline : (x : State) → passivatedOf x ≡ Offline → ⊥
+unfolding passivatedOf
+passivated-never-offline Offline e = no-state 8 (ap stateNumber e)
+passivated-never-offline (ListenToken q k) e = no-state 8 (ap stateNumber e)
+passivated-never-offline (ActiveIdle q m k) e = no-state 8 (ap stateNumber e)
+passivated-never-offline (UseToken k d) e = no-state 2 (ap stateNumber e)
+passivated-never-offline (ClaimToken b) e = no-state 3 (ap stateNumber e)
+passivated-never-offline (AwaitDataResponse a d) e = no-state 4 (ap stateNumber e)
+passivated-never-offline (PassToken g k) e = no-state 5 (ap stateNumber e)
+passivated-never-offline (CheckTokenPass k) e = no-state 6 (ap stateNumber e)
+passivated-never-offline (AwaitStatusResponse a) e = no-state 7 (ap stateNumber e)
+passivated-never-offline (PassiveIdle q) e = no-state 8 (ap stateNumber e)
+
+pub dispatch-never-offline : (v : ConnectivityState) (x : State) → isOffline v ≡ false → enteredOf v x ≡ Offline → ⊥
+unfolding enteredOf isOffline
+dispatch-never-offline connectivity.Offline x f e = not-true (sym f)
+dispatch-never-offline connectivity.Passive x f e = passivated-never-offline x e
+dispatch-never-offline connectivity.Online x f e = connected-never-offline x e
 
 -- 2. An application that declines where one was found to send (appTransmitOf, its first clause): the one that asking found to send
 -- does not decline.
@@ -195,6 +217,7 @@ Listening (AwaitDataResponse address held) = ⊥
 Listening (PassToken gap attempt) = ⊥
 Listening (CheckTokenPass attempt) = ⊥
 Listening (AwaitStatusResponse address) = ⊥
+Listening (PassiveIdle request) = ⊥
 
 -- Before each telegram of do_active_idle and do_check_token_pass the station is in ActiveIdle with no request noted, or in ListenToken
 -- by a second collision of the same poll. (`debug_assert_state!` in handle_telegram.)
@@ -209,6 +232,7 @@ Handling (AwaitDataResponse address held) = ⊥
 Handling (PassToken gap attempt) = ⊥
 Handling (CheckTokenPass attempt) = ⊥
 Handling (AwaitStatusResponse address) = ⊥
+Handling (PassiveIdle request) = ⊥
 
 -- a request is noted only as the last telegram of its poll
 never-noted : (destination own : ℕ) (asks : Bool) → lastRequestToUs destination own asks false ≡ false
@@ -221,16 +245,20 @@ abbrev ListeningOn : Heard → Type 0
 ListeningOn h = Listening (h .state)
 
 collided-listening : (p : Parameters) (c : Core) (r : Ring) (k : ℕ) → ListeningOn (collided p c r optionAddress.None k)
-unfolding collided heardOf
+unfolding collided collisionOf
 collided-listening p c r k = either ListeningOn (eqb k 0) _ _ tt tt
 
+none-noted : (own : ℕ) (t : Telegram) → notedOf own optionAddress.None t false ≡ optionAddress.None
+unfolding notedOf
+none-noted own (telegram.Token destination source) = refl
+none-noted own telegram.ShortConfirmation = refl
+none-noted own (telegram.Request destination source asks) = rw (never-noted destination own asks) refl
+none-noted own (telegram.Response destination source state status) = refl
+
 listen-heard-listening : (p : Parameters) (c : Core) (r : Ring) (k : ℕ) (t : Telegram) → ListeningOn (listenHeard p c r optionAddress.None k t false)
-unfolding listenHeard listened heardOf
-listen-heard-listening p c r k (telegram.Token destination source) = either ListeningOn (eqb source (p .address)) _ _ (collided-listening p c r k) tt
-listen-heard-listening p c r k telegram.ShortConfirmation = tt
-listen-heard-listening p c r k (telegram.Request destination source asks) =
-    either ListeningOn (eqb source (p .address)) _ _ (collided-listening p c r k) (rw (never-noted destination (p .address) asks) tt)
-listen-heard-listening p c r k (telegram.Response destination source state status) = either ListeningOn (eqb source (p .address)) _ _ (collided-listening p c r k) tt
+unfolding listenHeard heardOf
+listen-heard-listening p c r k t =
+    either ListeningOn (sentByUs (p .address) t) _ _ (collided-listening p c r k) (rw (none-noted (p .address) t) tt)
 
 listen-on-listening : (p : Parameters) (x : State) (c : Core) (r : Ring) (t : Telegram) → Listening x → ListeningOn (listenTelegram p x c r t false)
 unfolding listenTelegram heardOf
@@ -244,13 +272,14 @@ listen-on-listening p (AwaitDataResponse a d) c r t l = absurd l
 listen-on-listening p (PassToken g k) c r t l = absurd l
 listen-on-listening p (CheckTokenPass k) c r t l = absurd l
 listen-on-listening p (AwaitStatusResponse a) c r t l = absurd l
+listen-on-listening p (PassiveIdle q) c r t l = absurd l
 
 -- what was heard so far leaves the station in a state that handles telegrams
 abbrev HandlingOn : Heard → Type 0
 HandlingOn h = Handling (h .state)
 
 token-handling : (p : Parameters) (c : Core) (r : Ring) (now : Micros) (m : OptionAddress) (k destination source : ℕ) → HandlingOn (tokenHeard p c r now optionAddress.None m k destination source false)
-unfolding tokenHeard activeCollided tokenWitnessed heardOf
+unfolding tokenHeard activeCollided tokenWitnessed heardOf collisionOf
 token-handling p c r now m k destination source =
     either HandlingOn (eqb source (p .address)) _ _ (either HandlingOn (eqb k 0) _ _ tt tt) (either HandlingOn (eqb destination (p .address)) _ _ tt tt)
 
@@ -273,6 +302,7 @@ handle-on-handling p (AwaitDataResponse a d) c r now t l = absurd l
 handle-on-handling p (PassToken g k) c r now t l = absurd l
 handle-on-handling p (CheckTokenPass k) c r now t l = absurd l
 handle-on-handling p (AwaitStatusResponse a) c r now t l = absurd l
+handle-on-handling p (PassiveIdle q) c r now t l = absurd l
 
 -- receive_all_telegrams, of a poll with count telegrams: before telegram i
 pub listen-telegram-only-listening : (p : Parameters) (c : Core) (r : Ring) (now : Micros) (k : ℕ) (bytes : List ℕ) (n count i : ℕ) → i < count → Listening (heardAll p (heardOf (ListenToken optionAddress.None k) c r outcome.Bus) now true bytes n count i .state)
@@ -282,6 +312,23 @@ listen-telegram-only-listening p c r now k bytes n count (suc i) l =
     let before = listen-telegram-only-listening p c r now k bytes n count i (omega arith) in
     rw (ne-eqb (suc i) count (λ z. omega arith)) (listen-on-listening p _ _ _ _ before)
 
+-- Before each telegram of PassiveIdle the station is in PassiveIdle with no request noted.
+passive-heard-stays : (p : Parameters) (c : Core) (r : Ring) (t : Telegram) → passiveHeard p c r optionAddress.None t false .state ≡ toPassiveIdle
+unfolding passiveHeard heardOf
+passive-heard-stays p c r t =
+    either (λ (h : Heard). h .state ≡ toPassiveIdle) (sentByUs (p .address) t) _ _ refl (ap (λ (q : OptionAddress). PassiveIdle q) (none-noted (p .address) t))
+
+listen-from-passive : (p : Parameters) (x : State) (c : Core) (r : Ring) (t : Telegram) → x ≡ toPassiveIdle → listenTelegram p x c r t false .state ≡ toPassiveIdle
+unfolding listenTelegram
+listen-from-passive p x c r t e = rw e (passive-heard-stays p c r t)
+
+pub passive-telegram-only-passive : (p : Parameters) (c : Core) (r : Ring) (now : Micros) (bytes : List ℕ) (n count i : ℕ) → i < count → heardAll p (heardOf toPassiveIdle c r outcome.Bus) now true bytes n count i .state ≡ toPassiveIdle
+unfolding heardAll heardTelegram heardOf
+passive-telegram-only-passive p c r now bytes n count zero l = refl
+passive-telegram-only-passive p c r now bytes n count (suc i) l =
+    let before = passive-telegram-only-passive p c r now bytes n count i (omega arith) in
+    rw (ne-eqb (suc i) count (λ z. omega arith)) (listen-from-passive p _ _ _ _ before)
+
 pub handle-telegram-only-active : (p : Parameters) (c : Core) (r : Ring) (now : Micros) (m : OptionAddress) (k : ℕ) (bytes : List ℕ) (n count i : ℕ) → i < count → Handling (heardAll p (heardOf (ActiveIdle optionAddress.None m k) c r outcome.Bus) now false bytes n count i .state)
 unfolding heardAll heardTelegram heardOf
 handle-telegram-only-active p c r now m k bytes n count zero l = tt
@@ -290,10 +337,18 @@ handle-telegram-only-active p c r now m k bytes n count (suc i) l =
     rw (ne-eqb (suc i) count (λ z. omega arith)) (handle-on-handling p _ _ _ now _ before)
 
 -- 8. A pause or a slot asked with the activity unknown (`get_or_insert` in wait_synchronization_pause and check_slot_expired): the
--- dispatch of a sound station is given an unknown activity in ListenToken alone, where the lost-token test comes first and sets it.
-unknown-listening : (x : State) (a : Activity) → (x ≡ Offline → ⊥) → KnownIn x a → a ≡ activity.Unknown → stateNumber x ≡ 1
+-- dispatch of a sound station is given an unknown activity in two states alone: in ListenToken, where the lost-token test comes first
+-- and sets it; and in PassiveIdle with no request noted, where no time is asked for.
+abbrev pub MayNotKnow : State → Type 0
+MayNotKnow x = (stateNumber x ≡ 1) ⊎ (x ≡ toPassiveIdle)
+
+unknown-passive : (q : OptionAddress) (a : Activity) → KnownWith q a → a ≡ activity.Unknown → MayNotKnow (PassiveIdle q)
+unknown-passive optionAddress.None a k e = inr refl
+unknown-passive (optionAddress.Some source) a k e = absurd (rw e at k)
+
+unknown-listening : (x : State) (a : Activity) → (x ≡ Offline → ⊥) → KnownIn x a → a ≡ activity.Unknown → MayNotKnow x
 unknown-listening Offline a z k e = absurd (z refl)
-unknown-listening (ListenToken q i) a z k e = refl
+unknown-listening (ListenToken q i) a z k e = inl refl
 unknown-listening (ActiveIdle q m i) a z k e = absurd (rw e at k)
 unknown-listening (UseToken i d) a z k e = absurd (rw e at k)
 unknown-listening (ClaimToken f) a z k e = absurd (rw e at k)
@@ -301,7 +356,8 @@ unknown-listening (AwaitDataResponse s d) a z k e = absurd (rw e at k)
 unknown-listening (PassToken g i) a z k e = absurd (rw e at k)
 unknown-listening (CheckTokenPass i) a z k e = absurd (rw e at k)
 unknown-listening (AwaitStatusResponse s) a z k e = absurd (rw e at k)
+unknown-listening (PassiveIdle q) a z k e = unknown-passive q a k e
 
-pub only-listening-unknown : (p : Parameters) (n : ℕ) (now : Micros) (x : State) (c : Core) (pending : ℕ) → Clock now → c .online ≡ true → SoundCore p n x c → busActivityOf c now pending .«last_bus_activity» ≡ activity.Unknown → stateNumber (connectedOf x) ≡ 1
+pub only-listening-unknown : (p : Parameters) (n : ℕ) (now : Micros) (x : State) (c : Core) (pending : ℕ) → Clock now → isOffline (c .«connectivity_state») ≡ false → SoundCore p n x c → busActivityOf c now pending .«last_bus_activity» ≡ activity.Unknown → MayNotKnow (enteredOf (c .«connectivity_state») x)
 only-listening-unknown p n now x c pending l o w e =
-    unknown-listening _ _ (dispatch-never-offline x) (dispatched p n now x c pending l o w .activity-known) e
+    unknown-listening _ _ (dispatch-never-offline (c .«connectivity_state») x o) (dispatched p n now x c pending l o w .activity-known) e

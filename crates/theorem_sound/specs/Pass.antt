@@ -21,7 +21,7 @@ use Rattle.station.specs.declared.UseTokenData.{UseTokenData}
 use Rattle.station.specs.declared.PassTokenAttempt.{PassTokenAttempt}
 use Rattle.station.specs.declared.PassTokenAttempt.the-variants.{First, Second, Third}
 use Rattle.station.specs.declared.State.{State}
-use Rattle.station.specs.declared.State.the-variants.{UseToken, PassToken, CheckTokenPass, AwaitStatusResponse}
+use Rattle.station.specs.declared.State.the-variants.{UseToken, PassToken, CheckTokenPass, AwaitStatusResponse, PassiveIdle}
 use Rattle.station.specs.declared.Core.{Core}
 use Rattle.station.specs.Parts.{withActivity}
 use Rattle.station.specs.Steps.{toActiveIdle, knownAt, waitedOf, pauseOf, slotExpiredOf}
@@ -30,7 +30,7 @@ use Rattle.station_await_status.specs.AwaitStatus.{statusRingOn, statusRing, st
 use Rattle.station_check_pass.specs.CheckPass.{resendOf, checkReceived, checkTokenPassOf}
 use Rattle.theorem_sound.specs.Moves.{GapAddressed, GapCounted}
 use Rattle.theorem_sound.specs.Keeps.{RingGood, either, decided, gap-low, add-good, remove-good, witness-good}
-use Rattle.theorem_sound.specs.Walk.{Came, RingMade, sound-at, known-here, new-token, paused, slotted, slot-known, rx, gap-turned, to-idle, to-use, to-pass, to-check, to-await-status, done-made, transmit-made}
+use Rattle.theorem_sound.specs.Walk.{Came, RingMade, event-made, sound-at, known-here, new-token, paused, slotted, slot-known, rx, gap-turned, to-idle, to-use, to-pass, to-check, to-await-status, done-made, transmit-made}
 use Rattle.theorem_sound.specs.Listen.{ActiveEnds, handled-made}
 
 -- do_pass_token: the gap's turn
@@ -132,7 +132,7 @@ module _ {p : Parameters} {n : ℕ} {now : Micros} {x₀ : State} {c₀ : Core} 
   unfolding resendOf
   resend-made First r e u k g = pass-token-made false r e (λ o. u o Second) (to-pass false Second refl k) g
   resend-made Second r e u k g = pass-token-made false r e (λ o. u o Third) (to-pass false Third refl k) g
-  resend-made Third r e u k g = pass-token-made false _ e (λ o. u o First) (to-pass false First refl k) (remove-good p r _ g)
+  resend-made Third r e u k g = event-made _ _ (pass-token-made false _ e (λ o. u o First) (to-pass false First refl k) (remove-good p r _ g))
 
   pub check-token-made : {c : Core} (attempt : PassTokenAttempt) (r : Ring) (bytes : List ℕ) (count : ℕ) → PassEnds E false → ActiveEnds E → (slotExpiredOf p c now .over ≡ true → pauseOf p c now .over ≡ false → (k : PassTokenAttempt) → E (PassToken false k)) → Came p n now x₀ c₀ (CheckTokenPass attempt) c → RingGood p r → RingMade p n now x₀ c₀ E (checkTokenPassOf p c r now attempt bytes n count)
   unfolding checkTokenPassOf checkReceived slotExpiredOf pauseOf waitedOf knownAt withActivity

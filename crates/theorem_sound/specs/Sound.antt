@@ -2,7 +2,7 @@
 -- not refused, and what any list of polls and commands makes of it.
 use Prim.Native.Nat.{ℕ, _<_, _≤_}
 use mathlib.Core.Bool.{Bool, true, false, cond}
-use mathlib.Core.Path.{_≡_, refl}
+use mathlib.Core.Path.{_≡_, refl, sym, subst}
 use mathlib.Core.Logic.{inl}
 use mathlib.Core.List.{List, [], _∷_}
 use native.Mathlib.Omega.{arith}
@@ -16,24 +16,27 @@ use Rattle.ring.specs.Laws.{SoundRing}
 use Rattle.codec_records.specs.Records.{headOf, recordRefusal}
 use Rattle.codec_records.specs.Laws.{clock-below}
 use Rattle.codec_answers.specs.declared.Outcome.the-variants as outcome
+use Rattle.station.specs.declared.OptionAddress.{OptionAddress}
 use Rattle.station.specs.declared.OptionAddress.the-variants as optionAddress
+use Rattle.station.specs.declared.ConnectivityState.{ConnectivityState}
+use Rattle.station.specs.declared.ConnectivityState.the-variants as connectivity
 use Rattle.station.specs.declared.State.{State}
-use Rattle.station.specs.declared.State.the-variants.{Offline, ListenToken, ActiveIdle, UseToken, ClaimToken, AwaitDataResponse, PassToken, CheckTokenPass, AwaitStatusResponse}
+use Rattle.station.specs.declared.State.the-variants.{Offline, ListenToken, ActiveIdle, UseToken, ClaimToken, AwaitDataResponse, PassToken, CheckTokenPass, AwaitStatusResponse, PassiveIdle}
 use Rattle.station.specs.declared.Core.{Core}
 use Rattle.station.specs.Whole.{Station, RingStep}
-use Rattle.station.specs.Parts.{zeroTime, freshCore, freshStation, stateNumber}
+use Rattle.station.specs.Parts.{zeroTime, freshCore, freshStation, isOffline, stateNumber}
 use Rattle.station.specs.Steps.{ongoingOf, busActivityOf, doneOf, ringStepOf}
-use Rattle.station_poll.specs.Poll.{connectedOf, dispatchOf, pollOnline, pollInner, acceptedAfter, acceptedPoll, pollOf}
+use Rattle.station_poll.specs.Poll.{connectedOf, passivatedOf, enteredOf, dispatchOf, pollOnline, pollInner, acceptedAfter, acceptedPoll, pollOf}
 use Rattle.station_answer.specs.Answer.{Polled, polledOf, refusedPoll}
-use Rattle.station_command.specs.Command.{onlineOf, offlineOf, passiveOf}
-use Rattle.theorem_sound.specs.Moves.{lists, Clock, Moves, none, then, goes-offline, goes-online}
+use Rattle.station_command.specs.Command.{connectOf, onlineOf, offlineOf, passiveOf}
+use Rattle.theorem_sound.specs.Moves.{lists, Clock, Moves, none, then, goes-offline, connects}
 use Rattle.theorem_sound.specs.Lines.{SoundCore}
-use Rattle.theorem_sound.specs.Kept.{not-true, moves-keep}
+use Rattle.theorem_sound.specs.Kept.{not-true, not-passive, not-online, moves-keep}
 use Rattle.theorem_sound.specs.Follows.{reached, FirstAttempt, SlotCoversPause, Follows, covered}
 use Rattle.theorem_sound.specs.Keeps.{RingGood, either, fresh-good, again-good}
-use Rattle.theorem_sound.specs.Walk.{Came, RingMade, sound-at, marked, bus, to-listen, done-made}
+use Rattle.theorem_sound.specs.Walk.{Came, RingMade, sound-at, marked, ends-where, bus, to-passive, to-listen, done-made}
 use Rattle.theorem_sound.specs.Hold.{use-token-made, await-data-made}
-use Rattle.theorem_sound.specs.Listen.{claim-token-made, listen-token-made, active-idle-made}
+use Rattle.theorem_sound.specs.Listen.{claim-token-made, listen-token-made, active-idle-made, passive-idle-made}
 use Rattle.theorem_sound.specs.Pass.{pass-token-made, await-status-made, check-token-made}
 
 -- A sound station.
@@ -86,8 +89,8 @@ goes i f = record { in-table = λ s. i; at-first = λ s. f }
 
 -- a poll's part of it
 module _ {p : Parameters} {n : ℕ} {now : Micros} {x₀ : State} {c₀ : Core} where
-  -- an online station leaves Offline before anything else
-  connected-came : (x : State) {c : Core} → c .online ≡ true → Came p n now x₀ c₀ x c → Came p n now x₀ c₀ (connectedOf x) c
+  -- an online station leaves Offline and PassiveIdle before anything else
+  connected-came : (x : State) {c : Core} → (c .«connectivity_state» ≡ connectivity.Offline → ⊥) → Came p n now x₀ c₀ x c → Came p n now x₀ c₀ (connectedOf x) c
   unfolding connectedOf
   connected-came Offline o k = to-listen refl o k
   connected-came (ListenToken q i) o k = k
@@ -98,6 +101,27 @@ module _ {p : Parameters} {n : ℕ} {now : Micros} {x₀ : State} {c₀ : Core} 
   connected-came (PassToken x a) o k = k
   connected-came (CheckTokenPass a) o k = k
   connected-came (AwaitStatusResponse a) o k = k
+  connected-came (PassiveIdle q) o k = to-listen refl o k
+
+  -- a passive one Offline, ListenToken and ActiveIdle
+  passivated-came : (x : State) {c : Core} → c .«connectivity_state» ≡ connectivity.Passive → Came p n now x₀ c₀ x c → Came p n now x₀ c₀ (passivatedOf x) c
+  unfolding passivatedOf
+  passivated-came Offline o k = to-passive refl o k
+  passivated-came (ListenToken q i) o k = to-passive refl o k
+  passivated-came (ActiveIdle q m i) o k = to-passive refl o k
+  passivated-came (UseToken i d) o k = k
+  passivated-came (ClaimToken f) o k = k
+  passivated-came (AwaitDataResponse a d) o k = k
+  passivated-came (PassToken x a) o k = k
+  passivated-came (CheckTokenPass a) o k = k
+  passivated-came (AwaitStatusResponse a) o k = k
+  passivated-came (PassiveIdle q) o k = k
+
+  entered-came : (v : ConnectivityState) (x : State) {c : Core} → c .«connectivity_state» ≡ v → isOffline v ≡ false → Came p n now x₀ c₀ x c → Came p n now x₀ c₀ (enteredOf v x) c
+  unfolding enteredOf isOffline
+  entered-came connectivity.Offline x o f k = k
+  entered-came connectivity.Passive x o f k = passivated-came x o k
+  entered-came connectivity.Online x o f k = connected-came x (not-online _ o) k
 
   -- what a poll comes to by what its dispatch does, from the state x
   poll-online-made : {E : State → Type 0} {x : State} {c : Core} (r : Ring) (t : Bool) (pending : ℕ) (bytes : List ℕ) (count : ℕ) → E x → ((d : Core) → Came p n now x₀ c₀ x d → RingMade p n now x₀ c₀ E (dispatchOf p x d r now bytes n count)) → Came p n now x₀ c₀ x c → RingGood p r → RingMade p n now x₀ c₀ E (pollOnline p x c r now t pending bytes n count)
@@ -107,15 +131,15 @@ module _ {p : Parameters} {n : ℕ} {now : Micros} {x₀ : State} {c₀ : Core} 
       (dispatch _ (bus pending k))
 
   -- what a poll comes to, by the state before it
-  connected-made : (x : State) {c : Core} (r : Ring) (t : Bool) (pending : ℕ) (bytes : List ℕ) (count : ℕ) → (SlotCoversPause p → FirstAttempt x) → c .online ≡ true → Came p n now x₀ c₀ x c → RingGood p r → RingMade p n now x₀ c₀ (Follows p x) (pollOnline p (connectedOf x) c r now t pending bytes n count)
+  connected-made : (x : State) {c : Core} (r : Ring) (t : Bool) (pending : ℕ) (bytes : List ℕ) (count : ℕ) → (SlotCoversPause p → FirstAttempt x) → (c .«connectivity_state» ≡ connectivity.Offline → ⊥) → Came p n now x₀ c₀ x c → RingGood p r → RingMade p n now x₀ c₀ (Follows p x) (pollOnline p (connectedOf x) c r now t pending bytes n count)
   unfolding connectedOf dispatchOf
   connected-made Offline r t pending bytes count f o k g =
       poll-online-made r t pending bytes count (goes refl tt)
-      (λ d m. listen-token-made r bytes count (λ b. goes refl tt) (record { ends-offline = goes refl tt; ends-listen = λ q i. goes refl tt }) m g)
+      (λ d m. listen-token-made r bytes count (λ b. goes refl tt) (record { ends-offline = goes refl tt; ends-listen = λ q i. goes refl tt; ends-passive = λ q. goes refl tt }) m g)
       (to-listen refl o k) g
   connected-made (ListenToken optionAddress.None i) r t pending bytes count f o k g =
       poll-online-made r t pending bytes count (goes refl tt)
-      (λ d m. listen-token-made r bytes count (λ b. goes refl tt) (record { ends-offline = goes refl tt; ends-listen = λ q i. goes refl tt }) m g) k g
+      (λ d m. listen-token-made r bytes count (λ b. goes refl tt) (record { ends-offline = goes refl tt; ends-listen = λ q i. goes refl tt; ends-passive = λ q. goes refl tt }) m g) k g
   connected-made (ListenToken (optionAddress.Some a) i) r t pending bytes count f o k g =
       poll-online-made r t pending bytes count (goes refl tt)
       (λ d m. listen-token-made r bytes count (λ b. goes refl tt) (goes refl tt, goes refl tt, goes refl tt) m g) k g
@@ -151,6 +175,30 @@ module _ {p : Parameters} {n : ℕ} {now : Micros} {x₀ : State} {c₀ : Core} 
       (λ d m. await-status-made r bytes count
       (record { ends-alone = λ held. goes refl tt; ends-check = λ j. goes refl tt; ends-asking = λ e a. not-true e }) (goes refl refl) (goes refl tt) (goes refl tt) m g)
       k g
+  connected-made (PassiveIdle q) r t pending bytes count f o k g =
+      poll-online-made r t pending bytes count (goes refl tt)
+      (λ d m. listen-token-made r bytes count (λ b. goes refl tt) (record { ends-offline = goes refl tt; ends-listen = λ q i. goes refl tt; ends-passive = λ q. goes refl tt }) m g)
+      (to-listen refl o k) g
+
+  -- what a poll of PassiveIdle comes to, from a state that may be left for it
+  idle-made : {E : State → Type 0} {c : Core} (q : OptionAddress) (r : Ring) (t : Bool) (pending : ℕ) (bytes : List ℕ) (count : ℕ) → ((q' : OptionAddress) → E (PassiveIdle q')) → Came p n now x₀ c₀ (PassiveIdle q) c → RingGood p r → RingMade p n now x₀ c₀ E (pollOnline p (PassiveIdle q) c r now t pending bytes n count)
+  unfolding dispatchOf
+  idle-made {E} q r t pending bytes count e k g =
+      poll-online-made r t pending bytes count (e q) (λ d m. ends-where (λ y w. subst E (sym (w .1)) (e (w .0))) (passive-idle-made q r bytes count m g)) k g
+
+  -- what a poll of a passive station comes to, by the state before it
+  passivated-made : (x : State) {c : Core} (r : Ring) (t : Bool) (pending : ℕ) (bytes : List ℕ) (count : ℕ) → (SlotCoversPause p → FirstAttempt x) → c .«connectivity_state» ≡ connectivity.Passive → Came p n now x₀ c₀ x c → RingGood p r → RingMade p n now x₀ c₀ (Follows p x) (pollOnline p (passivatedOf x) c r now t pending bytes n count)
+  unfolding passivatedOf connectedOf
+  passivated-made Offline r t pending bytes count f o k g = idle-made _ r t pending bytes count (λ q. goes refl tt) (to-passive refl o k) g
+  passivated-made (ListenToken q i) r t pending bytes count f o k g = idle-made _ r t pending bytes count (λ q. goes refl tt) (to-passive refl o k) g
+  passivated-made (ActiveIdle q m i) r t pending bytes count f o k g = idle-made _ r t pending bytes count (λ q. goes refl tt) (to-passive refl o k) g
+  passivated-made (UseToken i d) r t pending bytes count f o k g = connected-made (UseToken i d) r t pending bytes count f (not-passive _ o) k g
+  passivated-made (ClaimToken b) r t pending bytes count f o k g = connected-made (ClaimToken b) r t pending bytes count f (not-passive _ o) k g
+  passivated-made (AwaitDataResponse a d) r t pending bytes count f o k g = connected-made (AwaitDataResponse a d) r t pending bytes count f (not-passive _ o) k g
+  passivated-made (PassToken gap a) r t pending bytes count f o k g = connected-made (PassToken gap a) r t pending bytes count f (not-passive _ o) k g
+  passivated-made (CheckTokenPass a) r t pending bytes count f o k g = connected-made (CheckTokenPass a) r t pending bytes count f (not-passive _ o) k g
+  passivated-made (AwaitStatusResponse a) r t pending bytes count f o k g = connected-made (AwaitStatusResponse a) r t pending bytes count f (not-passive _ o) k g
+  passivated-made (PassiveIdle q) r t pending bytes count f o k g = idle-made q r t pending bytes count (λ q. goes refl tt) k g
 
 -- a poll that changes nothing stays in the table
 stays-in-table : (x : State) → lists (reached x) (stateNumber x) ≡ true
@@ -163,22 +211,24 @@ stays-in-table (AwaitDataResponse a d) = refl
 stays-in-table (PassToken x a) = refl
 stays-in-table (CheckTokenPass a) = refl
 stays-in-table (AwaitStatusResponse a) = refl
+stays-in-table (PassiveIdle q) = refl
 
 -- where a poll of a sound state and core begins
 begins : {p : Parameters} {n : ℕ} {now : Micros} {x : State} {c : Core} → Clock now → SoundCore p n x c → Came p n now x c x c
 begins l w = record { clock = l; start = w; by = none }
 
--- the state and core that the state's step is given: past connectedOf and check_for_bus_activity
-pub dispatched : (p : Parameters) (n : ℕ) (now : Micros) (x : State) (c : Core) (pending : ℕ) → Clock now → c .online ≡ true → SoundCore p n x c → SoundCore p n (connectedOf x) (busActivityOf c now pending)
-dispatched p n now x c pending l o w = sound-at (bus pending (connected-came x o (begins l w)))
+-- the state and core that the state's step is given: past enteredOf and check_for_bus_activity
+pub dispatched : (p : Parameters) (n : ℕ) (now : Micros) (x : State) (c : Core) (pending : ℕ) → Clock now → isOffline (c .«connectivity_state») ≡ false → SoundCore p n x c → SoundCore p n (enteredOf (c .«connectivity_state») x) (busActivityOf c now pending)
+dispatched p n now x c pending l o w = sound-at (bus pending (entered-came (c .«connectivity_state») x refl o (begins l w)))
 
 poll-inner-made : (p : Parameters) (n : ℕ) (now : Micros) (x : State) (c : Core) (r : Ring) (t : Bool) (pending : ℕ) (bytes : List ℕ) (count : ℕ) → Clock now → SoundCore p n x c → (SlotCoversPause p → FirstAttempt x) → RingGood p r → RingMade p n now x c (Follows p x) (pollInner p x c r now t pending bytes n count)
-unfolding pollInner
-poll-inner-made p n now x c r t pending bytes count l w f g = go (c .online) refl
+unfolding pollInner enteredOf isOffline
+poll-inner-made p n now x c r t pending bytes count l w f g = go (c .«connectivity_state») refl
   where
-    go : (b : Bool) → c .online ≡ b → RingMade p n now x c (Follows p x) (cond b (pollOnline p (connectedOf x) c r now t pending bytes n count) (ringStepOf (doneOf x c outcome.Offline) r))
-    go true o = connected-made x r t pending bytes count f o (begins l w) g
-    go false o = record { made-step = done-made _ (begins l w) (record { in-table = λ s. stays-in-table x; at-first = f }); made-ring = g }
+    go : (v : ConnectivityState) → c .«connectivity_state» ≡ v → RingMade p n now x c (Follows p x) (cond (isOffline v) (ringStepOf (doneOf x c outcome.Offline) r) (pollOnline p (enteredOf v x) c r now t pending bytes n count))
+    go connectivity.Offline o = record { made-step = done-made _ (begins l w) (record { in-table = λ s. stays-in-table x; at-first = f }); made-ring = g }
+    go connectivity.Passive o = passivated-made x r t pending bytes count f o (begins l w) g
+    go connectivity.Online o = connected-made x r t pending bytes count f (not-online _ o) (begins l w) g
 
 -- A call's moves: the station after it has come there from a sound one by moves, and its ring is sound. The settings and the number of
 -- applications stay.
@@ -196,7 +246,7 @@ part-ring s w = record { sound = w .ring-sound; own = w .own-is }
 stays-made : (s : Station) (now : Micros) → SoundStation s → CallMade s now s
 stays-made s now w = record { moves = none; ring = part-ring s w; first = w .first-attempt; settings-stay = refl; applications-stay = refl }
 
-polled-made : (s : Station) (now : Micros) (x : RingStep) → RingMade (s .p) (s .applications) now (s .state) (s .core) (λ (y : State). SlotCoversPause (s .p) → FirstAttempt y) x → CallMade s now (polledOf (s .p) (s .applications) x .station)
+polled-made : (s : Station) (now : Micros) (x : RingStep) → RingMade (s .p) (s .applications) now (s .state) (s .core) (λ (y : State). SlotCoversPause (s .p) → FirstAttempt y) x → CallMade s now (polledOf (s .p) (s .applications) (s .counts) x .station)
 unfolding polledOf
 polled-made s now x g = record { moves = g .made-step .moves; ring = g .made-ring; first = g .made-step .ends; settings-stay = refl; applications-stay = refl }
 
@@ -220,10 +270,18 @@ unfolding pollOf
 poll-made s bytes w =
     either (λ (x : Polled). CallMade s (clockOf (poll bytes)) (x .station)) (eqb (recordRefusal bytes (s .applications)) 0) _ _ (accepted-made s bytes w) (refused-made s _ _ w)
 
+connect-made : (s : Station) (now : Micros) (v : ConnectivityState) → (v ≡ connectivity.Offline → ⊥) → SoundStation s → CallMade s now (connectOf s v .station)
+unfolding connectOf doneOf
+connect-made s now v l w =
+    polled-made s now _ (record { made-step = record { moves = then none (connects v l); ends = w .first-attempt }; made-ring = part-ring s w })
+
 online-made : (s : Station) (now : Micros) → SoundStation s → CallMade s now (onlineOf s .station)
-unfolding onlineOf doneOf
-online-made s now w =
-    polled-made s now _ (record { made-step = record { moves = then none goes-online; ends = w .first-attempt }; made-ring = part-ring s w })
+unfolding onlineOf
+online-made s now w = connect-made s now connectivity.Online (not-online _ refl) w
+
+passive-made : (s : Station) (now : Micros) → SoundStation s → CallMade s now (passiveOf s .station)
+unfolding passiveOf
+passive-made s now w = connect-made s now connectivity.Passive (not-passive _ refl) w
 
 offline-made : (s : Station) (now : Micros) → SoundStation s → CallMade s now (offlineOf s .station)
 unfolding offlineOf doneOf
@@ -232,11 +290,11 @@ offline-made s now w = polled-made s now _ (record { made-step = record { moves 
 -- Every call of a sound station is made of moves: transitions, each from a state that its `debug_assert_state!` names, and writes to the
 -- parts.
 pub call-made : (s : Station) (c : Call) → SoundStation s → CallMade s (clockOf c) (after s c)
-unfolding after passiveOf
+unfolding after
 call-made s (poll bytes) w = poll-made s bytes w
 call-made s online w = online-made s _ w
 call-made s offline w = offline-made s _ w
-call-made s passive w = refused-made s _ 16 w
+call-made s passive w = passive-made s _ w
 
 -- the clock of a call is a time of a clock
 clock-of-fits : (c : Call) → Clock (clockOf c)

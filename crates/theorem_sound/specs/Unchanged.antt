@@ -12,7 +12,7 @@ use Rattle.codec_answers.specs.Answers.{refusedAnswer}
 use Rattle.station.specs.Whole.{Station}
 use Rattle.station.specs.Parts.{freshStation}
 use Rattle.station_answer.specs.Answer.{stepAnswer, polledOf, refusedPoll}
-use Rattle.station_command.specs.Command.{onlineOf, offlineOf, passiveOf}
+use Rattle.station_command.specs.Command.{connectOf, onlineOf, offlineOf, passiveOf}
 use Rattle.station_poll.specs.Poll.{acceptedAfter, acceptedPoll, pollOf}
 use Rattle.theorem_sound.specs.Sound.{Call, poll, online, offline, passive, after, run}
 
@@ -49,19 +49,14 @@ poll-unchanged s bytes n =
     (λ e. absurd (n (poll-refusal s bytes ∙ eqb-true (recordRefusal bytes (s .applications)) 0 e)))
     (λ e. kept s bytes e)
 
--- passive is refused with 16 and leaves the station as it was
-pub passive-refusal : (s : Station) → passiveOf s .answer .refusal ≡ 16
-unfolding passiveOf
-passive-refusal s = refused-number s 16
-
-pub passive-unchanged : (s : Station) → passiveOf s .station ≡ s
-unfolding passiveOf
-passive-unchanged s = refused-station s 16
-
--- online and offline are never refused
+-- no command is refused
 pub online-refusal : (s : Station) → onlineOf s .answer .refusal ≡ 0
-unfolding onlineOf polledOf stepAnswer
+unfolding onlineOf connectOf polledOf stepAnswer
 online-refusal s = refl
+
+pub passive-refusal : (s : Station) → passiveOf s .answer .refusal ≡ 0
+unfolding passiveOf connectOf polledOf stepAnswer
+passive-refusal s = refl
 
 pub offline-refusal : (s : Station) → offlineOf s .answer .refusal ≡ 0
 unfolding offlineOf polledOf stepAnswer
@@ -73,7 +68,7 @@ unfolding pollOf acceptedPoll acceptedAfter polledOf refusedPoll
 poll-settings s bytes = cases (eqb (recordRefusal bytes (s .applications)) 0) (λ e. rw e) (λ e. rw e)
 
 after-settings : (s : Station) (c : Call) → after s c .p ≡ s .p
-unfolding after onlineOf offlineOf passiveOf polledOf refusedPoll
+unfolding after onlineOf offlineOf passiveOf connectOf polledOf
 after-settings s (poll bytes) = poll-settings s bytes
 after-settings s online = refl
 after-settings s offline = refl

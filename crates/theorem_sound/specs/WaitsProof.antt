@@ -23,20 +23,22 @@ use Rattle.codec_answers.specs.declared.Sent.the-variants as sent
 use Rattle.codec_answers.specs.declared.Notice.the-variants as notice
 use Rattle.station.specs.declared.Activity.{Activity}
 use Rattle.station.specs.declared.Activity.the-variants as activity
+use Rattle.station.specs.declared.ConnectivityState.{ConnectivityState}
+use Rattle.station.specs.declared.ConnectivityState.the-variants as connectivity
 use Rattle.station.specs.declared.State.{State}
-use Rattle.station.specs.declared.State.the-variants.{Offline, ListenToken, ActiveIdle, UseToken, ClaimToken, AwaitDataResponse, PassToken, CheckTokenPass, AwaitStatusResponse}
+use Rattle.station.specs.declared.State.the-variants.{Offline, ListenToken, ActiveIdle, UseToken, ClaimToken, AwaitDataResponse, PassToken, CheckTokenPass, AwaitStatusResponse, PassiveIdle}
 use Rattle.station.specs.declared.Core.{Core}
 use Rattle.station.specs.Whole.{Station, RingStep}
 use Rattle.station.specs.declared.Step.{Step}
-use Rattle.station.specs.Parts.{withActivity, withPending, stateNumber, freshStation}
+use Rattle.station.specs.Parts.{withActivity, withPending, isOffline, stateNumber, freshStation}
 use Rattle.station.specs.Steps.{knownAt, elapsedOf, markedAt, busyOf, ongoingOf, waitedOf, pauseOf, slotExpiredOf, busActivityOf, doneOf, ringStepOf}
 use Rattle.station_answer.specs.Answer.{Polled, stepAnswer, polledOf, refusedPoll}
-use Rattle.station_poll.specs.Poll.{connectedOf, dispatchOf, pollOnline, pollInner, acceptedAfter, acceptedPoll, pollOf}
+use Rattle.station_poll.specs.Poll.{connectedOf, passivatedOf, enteredOf, dispatchOf, pollOnline, pollInner, acceptedAfter, acceptedPoll, pollOf}
 use Rattle.theorem_sound.specs.Moves.{lists, Known}
 use Rattle.theorem_sound.specs.Kept.{not-true, known-from}
 use Rattle.theorem_sound.specs.Keeps.{either}
 use Rattle.theorem_sound.specs.Sound.{SoundStation, Call, poll, online, offline, passive, after, clockOf, new-sound, call-sound}
-use Rattle.station_command.specs.Command.{onlineOf, offlineOf, passiveOf}
+use Rattle.station_command.specs.Command.{connectOf, onlineOf, offlineOf, passiveOf}
 use Rattle.theorem_sound.specs.Fits.{answerTo}
 use Rattle.theorem_sound.specs.Waits.{Sends, TellsTimeout, Since, syncPause, PauseKept, BitsSince, BitsKept, waiting, SlotWaited, SlotKept, Throughout, NoSendBeforePause, NoSendBefore33Bits, NoRetryBeforeSlot}
 use Rattle.theorem_sound.specs.Guarded.{Guarded, Told, weaken, retold, done-guarded, done-told, dispatch-guarded, slot-guarded, slot-told}
@@ -82,7 +84,7 @@ module _ (now time : Micros) where
       go true e = since-marked (c .«last_bus_activity») t o k e
       go false e = since-same (c .«last_bus_activity») k e
 
--- connecting leaves a state that waits for another as it is
+-- connecting leaves a state that waits for another as it is, online and passive
 connected-same : (x : State) → lists waiting (stateNumber x) ≡ true → connectedOf x ≡ x
 unfolding connectedOf
 connected-same Offline i = not-true i
@@ -94,6 +96,26 @@ connected-same (AwaitDataResponse a d) i = refl
 connected-same (PassToken g k) i = refl
 connected-same (CheckTokenPass k) i = refl
 connected-same (AwaitStatusResponse a) i = refl
+connected-same (PassiveIdle q) i = not-true i
+
+passivated-same : (x : State) → lists waiting (stateNumber x) ≡ true → passivatedOf x ≡ x
+unfolding passivatedOf
+passivated-same Offline i = not-true i
+passivated-same (ListenToken q k) i = not-true i
+passivated-same (ActiveIdle q m k) i = not-true i
+passivated-same (UseToken k d) i = refl
+passivated-same (ClaimToken f) i = refl
+passivated-same (AwaitDataResponse a d) i = refl
+passivated-same (PassToken g k) i = refl
+passivated-same (CheckTokenPass k) i = refl
+passivated-same (AwaitStatusResponse a) i = refl
+passivated-same (PassiveIdle q) i = refl
+
+entered-same : (v : ConnectivityState) (x : State) → lists waiting (stateNumber x) ≡ true → enteredOf v x ≡ x
+unfolding enteredOf
+entered-same connectivity.Offline x i = refl
+entered-same connectivity.Passive x i = passivated-same x i
+entered-same connectivity.Online x i = connected-same x i
 
 -- a step that sends, and tells a timeout, only where Q holds
 record Late (Q : Type 0) (s : Step) : Type 0 where
@@ -151,14 +173,14 @@ module _ (p : Parameters) (now : Micros) (r : Ring) (t : Bool) (pending : ℕ) (
   inner-paused : (x : State) (c : Core) → Guarded (Since (c .«last_bus_activity») now (syncPause p)) (pollInner p x c r now t pending bytes n count .step)
   unfolding pollInner
   inner-paused x c =
-      either (λ (y : RingStep). Guarded (Since (c .«last_bus_activity») now (syncPause p)) (y .step)) (c .online) _ _ (online-paused (connectedOf x) c) (done-guarded _ _ _ _)
+      either (λ (y : RingStep). Guarded (Since (c .«last_bus_activity») now (syncPause p)) (y .step)) (isOffline (c .«connectivity_state»)) _ _ (done-guarded _ _ _ _) (online-paused (enteredOf (c .«connectivity_state») x) c)
 
   inner-late : (x : State) (c : Core) → Known (c .«last_bus_activity») → lists waiting (stateNumber x) ≡ true → Late (Since (c .«last_bus_activity») now (slotTimeOf p)) (pollInner p x c r now t pending bytes n count .step)
   unfolding pollInner
   inner-late x c k i =
       let L : RingStep → Type 0 = λ (y : RingStep). Late (Since (c .«last_bus_activity») now (slotTimeOf p)) (y .step) in
-      either L (c .online) _ _ (subst (λ (y : State). L (pollOnline p y c r now t pending bytes n count)) (sym (connected-same x i)) (waiting-late x c k i))
-      (record { late-sent = done-guarded _ _ _ _; late-told = done-told _ _ _ _ })
+      either L (isOffline (c .«connectivity_state»)) _ _ (record { late-sent = done-guarded _ _ _ _; late-told = done-told _ _ _ _ })
+      (subst (λ (y : State). L (pollOnline p y c r now t pending bytes n count)) (sym (entered-same (c .«connectivity_state») x i)) (waiting-late x c k i))
 
 -- poll: a refused record sends and tells nothing
 refused-sent : (Q : Type 0) (s : Station) (k : ℕ) → Sends (refusedPoll s k .answer .sent) → Q
@@ -182,7 +204,7 @@ poll-paused s bytes =
 
 -- a command sends and tells nothing
 online-silent : (s : Station) → (onlineOf s .answer .sent ≡ sent.Nothing) × (onlineOf s .answer .notice ≡ notice.NoNotice)
-unfolding onlineOf polledOf stepAnswer doneOf
+unfolding onlineOf connectOf polledOf stepAnswer doneOf
 online-silent s = (refl, refl)
 
 offline-silent : (s : Station) → (offlineOf s .answer .sent ≡ sent.Nothing) × (offlineOf s .answer .notice ≡ notice.NoNotice)
@@ -190,7 +212,7 @@ unfolding offlineOf polledOf stepAnswer doneOf
 offline-silent s = (refl, refl)
 
 passive-silent : (s : Station) → (passiveOf s .answer .sent ≡ sent.Nothing) × (passiveOf s .answer .notice ≡ notice.NoNotice)
-unfolding passiveOf refusedPoll refusedAnswer
+unfolding passiveOf connectOf polledOf stepAnswer doneOf
 passive-silent s = (refl, refl)
 
 pub pause-kept : (s : Station) (c : Call) → PauseKept s c
@@ -209,7 +231,7 @@ bits-kept s c x = bits-since _ _ (s .p .baudrate) 33 (pause-kept s c x)
 
 -- every poll of a sound station that waits for another keeps the slot
 known-waiting : (s : Station) → SoundStation s → lists waiting (stateNumber (s .state)) ≡ true → Known (s .core .«last_bus_activity»)
-known-waiting s w i = known-from waiting (s .state) _ refl refl i (w .core-sound .activity-known)
+known-waiting s w i = known-from waiting (s .state) _ refl refl refl i (w .core-sound .activity-known)
 
 accepted-late : (s : Station) (bytes : List ℕ) → SoundStation s → lists waiting (stateNumber (s .state)) ≡ true → SlotLate s bytes (acceptedPoll s bytes)
 unfolding acceptedPoll acceptedAfter polledOf stepAnswer

@@ -14,15 +14,17 @@ use Rattle.codec_answers.specs.Answers.{sentBytes}
 use Rattle.station.specs.declared.OptionAddress.{OptionAddress}
 use Rattle.station.specs.declared.PassTokenAttempt.{PassTokenAttempt}
 use Rattle.station.specs.declared.UseTokenData.{UseTokenData}
+use Rattle.station.specs.declared.ConnectivityState.the-variants as connectivity
 use Rattle.station.specs.declared.State.{State}
-use Rattle.station.specs.declared.State.the-variants.{Offline, ListenToken, ActiveIdle, UseToken, ClaimToken, AwaitDataResponse, PassToken, CheckTokenPass, AwaitStatusResponse}
+use Rattle.station.specs.declared.State.the-variants.{Offline, ListenToken, ActiveIdle, UseToken, ClaimToken, AwaitDataResponse, PassToken, CheckTokenPass, AwaitStatusResponse, PassiveIdle}
 use Rattle.station.specs.declared.Core.{Core}
+use Rattle.station.specs.declared.Event.{Event}
 use Rattle.station.specs.declared.Step.{Step}
 use Rattle.station.specs.Whole.{RingStep, Heard}
 use Rattle.station.specs.Parts.{withActivity, withPending, withGap, withNextApplication, freshCore, stateNumber}
-use Rattle.station.specs.Steps.{withTokenTime, toListenToken, toActiveIdle, markedAt, waitedOf, pauseOf, slotExpiredOf, tokenLostWaitOf, rxOf, busActivityOf, doneOf, transmitOf, heardOf}
+use Rattle.station.specs.Steps.{withTokenTime, toListenToken, toPassiveIdle, toActiveIdle, markedAt, waitedOf, pauseOf, slotExpiredOf, tokenLostWaitOf, rxOf, busActivityOf, doneOf, transmitOf, withEvent, heardOf, collisionOf}
 use Rattle.station_hold.specs.Hold.{holdEndOf}
-use Rattle.theorem_sound.specs.Moves.{listenTokenFrom, activeIdleFrom, useTokenFrom, claimTokenFrom, awaitDataResponseFrom, passTokenFrom, checkTokenPassFrom, awaitStatusResponseFrom, In, Known, Low, Clock, HeldFits, GapAddressed, GapCounted, Move, waits, marks, sends, pends, holds, turns, gaps, listens, idles, cycles, claims, listen-token, active-idle, use-token, claim-token, await-data-response, pass-token, check-token-pass, await-status-response, goes-offline, Moves, then}
+use Rattle.theorem_sound.specs.Moves.{passiveIdleFrom, listenTokenFrom, activeIdleFrom, useTokenFrom, claimTokenFrom, awaitDataResponseFrom, passTokenFrom, checkTokenPassFrom, awaitStatusResponseFrom, In, Known, KnownWith, Low, Clock, HeldFits, GapAddressed, GapCounted, Move, waits, marks, sends, pends, holds, turns, gaps, listens, passives, idles, cycles, claims, passive-idle, listen-token, active-idle, use-token, claim-token, await-data-response, pass-token, check-token-pass, await-status-response, goes-offline, Moves, then}
 use Rattle.theorem_sound.specs.Lines.{Addressed, CollidedOnce, KnownIn, HeldIn, LastToken, SoundCore}
 use Rattle.theorem_sound.specs.Kept.{moves-keep, marked-known}
 use Rattle.theorem_sound.specs.Keeps.{RingGood, either}
@@ -48,6 +50,11 @@ pub record HeardMade (p : Parameters) (n : ℕ) (now : Micros) (x₀ : State) (c
   pub heard-moves : Moves p n now x₀ c₀ (h .state) (h .core)
   pub heard-ends : E (h .state)
   pub heard-ring : RingGood p (h .ring)
+
+-- what is counted of a step changes nothing else of it
+pub event-made : {p : Parameters} {n : ℕ} {now : Micros} {x₀ : State} {c₀ : Core} {E : State → Type 0} (s : RingStep) (x : Event) → RingMade p n now x₀ c₀ E s → RingMade p n now x₀ c₀ E (withEvent s x)
+unfolding withEvent
+event-made s x k = record { made-step = record { moves = k .made-step .moves; ends = k .made-step .ends }; made-ring = k .made-ring }
 
 -- a new token's data fit
 pub new-token : (n : ℕ) (now : Micros) → Clock now → HeldFits n (withTokenTime now)
@@ -95,13 +102,9 @@ module _ {p : Parameters} {n : ℕ} {now : Micros} {x₀ : State} {c₀ : Core} 
   pub last-here : {x : State} {c : Core} → Came p n now x₀ c₀ x c → LastToken x (c .«last_token_time»)
   last-here k = sound-at k .last-token
 
-  -- a state that is not Offline is an online station's
-  pub online-here : {x : State} {c : Core} → Came p n now x₀ c₀ x c → (stateNumber x ≡ 0 → ⊥) → c .online ≡ true
-  online-here {c} k z = go (c .online) refl
-    where
-      go : (b : Bool) → c .online ≡ b → c .online ≡ true
-      go true e = e
-      go false e = absurd (z (rw (sound-at k .offline e) refl))
+  -- a state that is not Offline is that of a station that is not offline
+  pub connected-here : {x : State} {c : Core} → Came p n now x₀ c₀ x c → (stateNumber x ≡ 0 → ⊥) → c .«connectivity_state» ≡ connectivity.Offline → ⊥
+  connected-here k z e = z (rw (sound-at k .offline e) refl)
 
   -- one move more
   moved : {x y : State} {c d : Core} → Came p n now x₀ c₀ x c → Move p n now x c y d → Came p n now x₀ c₀ y d
@@ -150,6 +153,9 @@ module _ {p : Parameters} {n : ℕ} {now : Micros} {x₀ : State} {c₀ : Core} 
   pub listen-fields : {q : OptionAddress} {k : ℕ} {c : Core} (q' : OptionAddress) (k' : ℕ) → Low q' → k' ≤ 1 → Came p n now x₀ c₀ (ListenToken q k) c → Came p n now x₀ c₀ (ListenToken q' k') c
   listen-fields q' k' l o k = moved k (listens _ q' _ k' l o)
 
+  pub passive-fields : {q : OptionAddress} {c : Core} (q' : OptionAddress) → Low q' → KnownWith q' (c .«last_bus_activity») → Came p n now x₀ c₀ (PassiveIdle q) c → Came p n now x₀ c₀ (PassiveIdle q') c
+  passive-fields q' l w k = moved k (passives _ q' l w)
+
   pub idle-fields : {q m : OptionAddress} {k : ℕ} {c : Core} (q' m' : OptionAddress) (k' : ℕ) → Low q' → Low m' → k' ≤ 1 → Came p n now x₀ c₀ (ActiveIdle q m k) c → Came p n now x₀ c₀ (ActiveIdle q' m' k') c
   idle-fields q' m' k' l h o k = moved k (idles _ q' _ m' _ k' l h o)
 
@@ -160,7 +166,10 @@ module _ {p : Parameters} {n : ℕ} {now : Micros} {x₀ : State} {c₀ : Core} 
   claim-again k = moved k claims
 
   -- transitions
-  pub to-listen : {x : State} {c : Core} → In listenTokenFrom x → c .online ≡ true → Came p n now x₀ c₀ x c → Came p n now x₀ c₀ toListenToken c
+  pub to-passive : {x : State} {c : Core} → In passiveIdleFrom x → c .«connectivity_state» ≡ connectivity.Passive → Came p n now x₀ c₀ x c → Came p n now x₀ c₀ toPassiveIdle c
+  to-passive i o k = moved k (passive-idle i o)
+
+  pub to-listen : {x : State} {c : Core} → In listenTokenFrom x → (c .«connectivity_state» ≡ connectivity.Offline → ⊥) → Came p n now x₀ c₀ x c → Came p n now x₀ c₀ toListenToken c
   to-listen i o k = moved k (listen-token i o)
 
   pub to-idle : {x : State} {c : Core} → In activeIdleFrom x → Known (c .«last_bus_activity») → Came p n now x₀ c₀ x c → Came p n now x₀ c₀ toActiveIdle c
@@ -204,3 +213,11 @@ module _ {p : Parameters} {n : ℕ} {now : Micros} {x₀ : State} {c₀ : Core} 
   pub heard-made : {E : State → Type 0} {x : State} {c : Core} (r : Ring) (o : Outcome) → Came p n now x₀ c₀ x c → E x → RingGood p r → HeardMade p n now x₀ c₀ E (heardOf x c r o)
   unfolding heardOf
   heard-made r o k e g = record { heard-moves = k .by; heard-ends = e; heard-ring = g }
+
+  pub collision-made : {E : State → Type 0} {x : State} {c : Core} (r : Ring) → Came p n now x₀ c₀ x c → E x → RingGood p r → HeardMade p n now x₀ c₀ E (collisionOf x c r)
+  unfolding collisionOf
+  collision-made r k e g = record { heard-moves = k .by; heard-ends = e; heard-ring = g }
+
+  -- where a step ends may be said in more words
+  pub ends-where : {E F : State → Type 0} {s : RingStep} → ((x : State) → E x → F x) → RingMade p n now x₀ c₀ E s → RingMade p n now x₀ c₀ F s
+  ends-where f k = record { made-step = record { moves = k .made-step .moves; ends = f _ (k .made-step .ends) }; made-ring = k .made-ring }

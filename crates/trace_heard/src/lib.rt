@@ -1,6 +1,6 @@
 // Who was heard in a trace (request P7): the run over its entries with a table beside the station, fed with what each poll consumed.
-// It needs no room for answers. It leans on trace for the entries, on heard for the table, on trace_headers and station for the
-// start.
+// It needs no room for answers. It leans on trace for the entries, on heard_telegrams and heard_shown for the table, on
+// trace_headers and station for the start.
 ghost use mathlib.Core.Path.{_≡_};
 ghost use Prim.Native.Nat.{_≤_, _^_};
 ghost use lib.ListN.{length, drop};
@@ -43,7 +43,7 @@ fn listen(
         let end = begin + length;
         let polled = trace::answer_entry(station, links, kind, &trace[begin..end]);
         let answer = polled.answer;
-        heard::hear_record(table, &trace[begin..end], applications, answer.consumed);
+        heard_telegrams::hear_record(table, &trace[begin..end], applications, answer.consumed);
         station = polled.station;
         at = end;
         entries += 1;
@@ -79,7 +79,7 @@ pub fn trace_heard(trace: &[u8], address: u8, entry: &mut [u8]) -> u64
                 trace,
                 &mut table,
             );
-            heard::summary(&table, address, entry);
+            heard_shown::summary(&table, address, entry);
             number
         }
         Created::Refused(refused) => refused as u64,

@@ -14,6 +14,8 @@ mod proved {
             entry: *mut u8,
             entry_len: usize,
         ) -> u64;
+        /// The call that gives the counts of a finished trace: document 02's P6.
+        pub fn amsulfezd_trace_counts(trace: *const u8, trace_len: usize, counts: *mut u8, counts_len: usize) -> u64;
         /// The call that reads a frame: document 02's P1.
         pub fn amsulfezd_read_frame(frame: *const u8, frame_len: usize) -> u64;
         /// The call that writes a frame: document 02's P1.
@@ -55,6 +57,12 @@ pub fn other_edition(header: &[u8], out: &mut [u8]) -> u64 {
 pub fn trace_heard(trace: &[u8], address: u8, entry: &mut [u8]) -> u64 {
     // Safety: as above.
     unsafe { proved::amsulfezd_trace_heard(trace.as_ptr(), trace.len(), address, entry.as_mut_ptr(), entry.len()) }
+}
+
+/// Asks the proved call for the counts.
+pub fn trace_counts(trace: &[u8], counts: &mut [u8]) -> u64 {
+    // Safety: as above.
+    unsafe { proved::amsulfezd_trace_counts(trace.as_ptr(), trace.len(), counts.as_mut_ptr(), counts.len()) }
 }
 
 /// Reads a frame by the proved call.

@@ -1,5 +1,5 @@
 //! Runs generated traces through the oracle and through a copy of it for each planted error, their headers through the call
-//! that moves them, the call that is asked who was heard, the settings table where the list says so, and the calls on frames
+//! that moves them, the calls that are asked who was heard and for the counts, the settings table where the list says so, and the calls on frames
 //! and on captures for the errors in those, and prints for each error which run shows it. Status 0: each is shown by the run
 //! that the list names.
 #![forbid(unsafe_code)]
@@ -28,7 +28,9 @@ use oracle::captures::compare::{made as made_of_captures, Call};
 use oracle::captures::tries::{parts as parts_of_captures, Try as CaptureTry};
 use oracle::comparison::calls::{first_difference as first_call, shortened, Left as CallLeft, Parts, Try};
 use oracle::comparison::hex;
-use oracle::comparison::run::{first_difference, hears_otherwise, moves_otherwise, parts_from_oracle, run, Left};
+use oracle::comparison::run::{
+    counts_otherwise, first_difference, hears_otherwise, moves_otherwise, parts_from_oracle, run, Left,
+};
 use oracle::comparison::shorten::shorten;
 use oracle::frames::compare::made as made_of_frames;
 use oracle::frames::tries::{parts as parts_of_frames, Try as FrameTry};
@@ -36,12 +38,13 @@ use oracle::generator::trace;
 use oracle::settings_table::table;
 use oracle::trace::replay_trace;
 
-/// What is run of a copy: its trace call, the call that moves a header, the call that is asked who was heard, and its settings
-/// table where the error can stand in that.
+/// What is run of a copy: its trace call, the call that moves a header, the calls that are asked who was heard and for the
+/// counts, and its settings table where the error can stand in that.
 pub struct Runs {
     traces: fn(&[u8], &mut [u8]) -> u64,
     moves: fn(&[u8], &mut [u8]) -> u64,
     heard: fn(&[u8], u8, &mut [u8]) -> u64,
+    counts: fn(&[u8], &mut [u8]) -> u64,
     table: fn() -> String,
 }
 
@@ -93,7 +96,7 @@ fn shown_by_traces() -> Vec<Option<(String, String)>> {
         let expected = run(&replay_trace, &made);
         left.retain(|i| {
             let copy = &copies::RUNS[*i];
-            if !matches!(PLANTED[*i].by, By::Moves | By::Heard) {
+            if !matches!(PLANTED[*i].by, By::Moves | By::Heard | By::Counts) {
                 let got = run(&copy.traces, &made);
                 if let Some(entry) = first_difference(&expected, &got) {
                     let words = format!("trace {}, entry {}: {}", index, entry, kind_of(&expected, &got));
@@ -102,7 +105,7 @@ fn shown_by_traces() -> Vec<Option<(String, String)>> {
                     shown[*i] = Some((words, format!("{} entries", shortest)));
                 }
             }
-            if !matches!(PLANTED[*i].by, By::Traces | By::Heard) {
+            if !matches!(PLANTED[*i].by, By::Traces | By::Heard | By::Counts) {
                 if let Some(found) = moves_otherwise(&copy.moves, &made) {
                     let kind = kind_of(&found.expected, &found.got).replace("answers", "writes");
                     let words = format!("trace {}, room for {}: {}", index, found.expected.buffer.len(), kind);
@@ -116,6 +119,14 @@ fn shown_by_traces() -> Vec<Option<(String, String)>> {
                     let room = found.expected.buffer.len();
                     let words = format!("trace {}, asked for {}, room for {}: {}", index, found.address, room, kind);
                     let differs = |trace: &_| found.differs_on(&copy.heard, trace);
+                    shown[*i] = Some((words, format!("{} entries", shorten(&differs, &made).entries.len())));
+                }
+            }
+            if !matches!(PLANTED[*i].by, By::Traces | By::Moves | By::Heard) {
+                if let Some(found) = counts_otherwise(&copy.counts, &made) {
+                    let kind = kind_of(&found.expected, &found.got).replace("answers", "counts");
+                    let words = format!("trace {}, room for {}: {}", index, found.expected.buffer.len(), kind);
+                    let differs = |trace: &_| counts_otherwise(&copy.counts, trace).is_some();
                     shown[*i] = Some((words, format!("{} entries", shorten(&differs, &made).entries.len())));
                 }
             }
@@ -214,7 +225,8 @@ fn main() {
 /// Prints the table of the errors in the station, its traces, headers and settings; gives how many were not found.
 fn trace_table() -> usize {
     let table = table();
-    let (mut by_traces, mut by_moves, mut by_heard, mut by_table, mut explained, mut missed) = (0, 0, 0, 0, 0, 0);
+    let (mut by_traces, mut by_moves, mut by_heard, mut by_counts) = (0, 0, 0, 0);
+    let (mut by_table, mut explained, mut missed) = (0, 0, 0);
     println!("| No. | File | Text | Planted | Run | Shown by | Shortest |");
     println!("|---|---|---|---|---|---|---|");
     for (i, (error, shown)) in PLANTED.iter().zip(shown_by_traces()).enumerate() {
@@ -235,6 +247,10 @@ fn trace_table() -> usize {
                 by_heard += 1;
                 format!("questions | {} | {}", words, shortest)
             }
+            (By::Counts, Some((words, shortest))) => {
+                by_counts += 1;
+                format!("counts | {} | {}", words, shortest)
+            }
             (By::SettingsTable, _) => match shown_by_table(&table, &copies::RUNS[i]) {
                 Some(line) => {
                     by_table += 1;
@@ -249,18 +265,20 @@ fn trace_table() -> usize {
             (By::Traces, None) => missing("NOT FOUND by traces".to_string()),
             (By::Moves, None) => missing("NOT FOUND by moves".to_string()),
             (By::Heard, None) => missing("NOT FOUND by questions".to_string()),
+            (By::Counts, None) => missing("NOT FOUND by counts".to_string()),
             (By::Nothing(_), Some((words, _))) => missing(format!("{}, though said to be hidden", words)),
         };
         println!("| {} | `{}.rs` | {} | {} | {} |", i + 1, error.file, cell(error.old), cell(error.new), cells);
     }
     println!();
     println!(
-        "{} planted errors: {} found by traces of seed {}, {} by moves of their headers, {} by questions who was heard, {} by the settings table, {} explained, {} missed.",
+        "{} planted errors: {} found by traces of seed {}, {} by moves of their headers, {} by questions who was heard, {} by counts, {} by the settings table, {} explained, {} missed.",
         PLANTED.len(),
         by_traces,
         SEED,
         by_moves,
         by_heard,
+        by_counts,
         by_table,
         explained,
         missed

@@ -27,8 +27,13 @@ fn status(words: &[String]) -> i32 {
                     let other_edition = |header: &[u8], out: &mut [u8]| program.other_edition(header, out);
                     let trace_heard =
                         |trace: &[u8], address: u8, entry: &mut [u8]| program.trace_heard(trace, address, entry);
-                    let calls =
-                        Calls { replay_trace: &replay_trace, other_edition: &other_edition, trace_heard: &trace_heard };
+                    let trace_counts = |trace: &[u8], counts: &mut [u8]| program.trace_counts(trace, counts);
+                    let calls = Calls {
+                        replay_trace: &replay_trace,
+                        other_edition: &other_edition,
+                        trace_heard: &trace_heard,
+                        trace_counts: &trace_counts,
+                    };
                     compare::main(USAGE, calls, &[seed.clone(), count.clone()])
                 }
                 Err(error) => {

@@ -4,30 +4,12 @@
 use super::capture::{line_of, ADDED, ENTRY, MOST};
 use super::tries::Try;
 use crate::comparison::calls::{Made, Meets};
-use crate::coverage::Points;
-use crate::frames::frame::{frame_of, read, SC, SD1, SD2, SD3, SD4};
+use crate::coverage::Point::{self, Numbered, Said};
+use crate::coverage::{Points, Tally};
+use crate::frames::frame::{frame_of, read, SD1, SD4};
+use crate::frames::met::{name_of, STARTS};
 use crate::records::{Decision, Place, PollRecord, Telegram, LAST_CLOCK};
 use crate::trace::Entry;
-use std::collections::HashMap;
-use std::fmt;
-
-/// A point: words, or words and a number.
-#[derive(Debug, Clone, Copy, PartialEq, Eq, Hash)]
-enum Point {
-    Said(&'static str),
-    Numbered(&'static str, usize),
-}
-
-impl fmt::Display for Point {
-    fn fmt(&self, f: &mut fmt::Formatter) -> fmt::Result {
-        match self {
-            Point::Said(words) => f.write_str(words),
-            Point::Numbered(words, number) => write!(f, "{} {}", words, number),
-        }
-    }
-}
-
-use Point::{Numbered, Said};
 
 const TEXT: &str = "text imported";
 const TAKEN: &str = "line taken as the record's telegram";
@@ -55,11 +37,8 @@ const WHERE_ENTRY: &str = "refused entry";
 /// What has been met.
 #[derive(Default)]
 pub struct Met {
-    counts: HashMap<(&'static str, Point), u64>,
+    tally: Tally,
 }
-
-/// The names of the start bytes.
-const STARTS: [(u8, &str); 5] = [(SD1, "SD1"), (SD2, "SD2"), (SD3, "SD3"), (SD4, "SD4"), (SC, "SC")];
 
 /// The bytes beside the digits, and what else a digit is not.
 const BESIDE: [(u8, &str); 13] = [
@@ -95,7 +74,7 @@ type Before = Option<(u64, usize)>;
 
 impl Met {
     fn hit(&mut self, group: &'static str, point: Point) {
-        *self.counts.entry((group, point)).or_insert(0) += 1;
+        self.tally.hit(group, point);
     }
 
     fn see_text(&mut self, text: &[u8], room: usize, made: &Made) {
@@ -134,7 +113,7 @@ impl Met {
             (false, false) => "no letter",
         };
         self.hit(CASE_TAKEN, Said(case));
-        if let Some((_, name)) = STARTS.iter().find(|(byte, _)| *byte == bytes[0]) {
+        if let Some(name) = name_of(bytes[0]) {
             self.hit(FRAME_TAKEN, Said(name));
         }
         if let Ok((telegram, _)) = read(bytes) {
@@ -435,9 +414,7 @@ impl Meets<Try> for Met {
         let which = ["behind lines of the same entry", "first of its entry"].into_iter().map(Said);
         points.group(NO_ROOM_TEXT, which.chain(numbered("bytes left:", 0..29)));
         points.group(WHERE_ENTRY, ["the first", "a later one"]);
-        for ((group, point), count) in &self.counts {
-            points.hit_times(group, point, *count);
-        }
+        self.tally.count_in(&mut points);
         points
     }
 }

@@ -1,8 +1,10 @@
 //! Runs generated traces through the oracle and through another `replay_trace`, their headers through `other_edition` of both,
-//! asks `trace_heard` of both for every address, and holds the number and every byte of the buffer to each other.
+//! asks `trace_heard` of both for every address and both `trace_counts`, and holds the number and every byte of the buffer to
+//! each other.
 
 use super::run::{
-    first_difference, hears_otherwise, moves_otherwise, parts_from_oracle, run, Ask, Call, Calls, Move, Question,
+    counts_otherwise, first_difference, hears_otherwise, moves_otherwise, parts_from_oracle, run, Ask, Call, Calls,
+    Count, Move, Question,
 };
 use super::shorten::shorten;
 use super::words;
@@ -69,8 +71,27 @@ fn describe_question(ask: Ask, trace: &Trace, found: Question) -> String {
         found.address,
         found.expected.buffer.len(),
         trace.fill,
-        words::heard(&found.expected),
-        words::heard(&found.got),
+        words::asked(&found.expected),
+        words::asked(&found.got),
+    )
+}
+
+/// What both calls left, on a trace that is counted otherwise.
+fn describe_count(call: Call, trace: &Trace, found: Count) -> String {
+    let found = counts_otherwise(call, trace).unwrap_or(found);
+    format!(
+        "  the shortest trace found that differs, {} entries:
+    {}
+  a buffer of {} bytes filled with {:02x}; left in it (claims, removals, meetings) and returned:
+    the oracle:  {}
+    the other:   {}
+",
+        trace.entries.len(),
+        words::hex(&trace.bytes()),
+        found.expected.buffer.len(),
+        trace.fill,
+        words::asked(&found.expected),
+        words::asked(&found.got),
     )
 }
 
@@ -101,6 +122,12 @@ pub fn compare_traces(calls: Calls, seed: u64, count: u64) -> (String, bool) {
             let at = format!("seed {}, trace {}", seed, index);
             return (format!("traces: {}: an address was heard otherwise\n{}", at, said), false);
         }
+        if let Some(found) = counts_otherwise(calls.trace_counts, &made) {
+            let shortest = shorten(&|trace| counts_otherwise(calls.trace_counts, trace).is_some(), &made);
+            let said = describe_count(calls.trace_counts, &shortest, found);
+            let at = format!("seed {}, trace {}", seed, index);
+            return (format!("traces: {}: the life is counted otherwise\n{}", at, said), false);
+        }
         met.see(&made);
     }
     let points = met.points();
@@ -117,6 +144,7 @@ pub fn compare_traces(calls: Calls, seed: u64, count: u64) -> (String, bool) {
     }
     say(format!("their headers moved to the other edition and back, {} calls, 0 differ", met.moves));
     say(format!("each asked for every address that was heard or not, {} calls, 0 differ", met.asked));
+    say(format!("each asked for the counts of its station's life, {} calls, 0 differ", met.counted));
     say(format!("seed {}, {} traces, {} entries, 0 differ", seed, met.traces, met.entries));
     let reached = missed.is_empty() || count < ENOUGH;
     (said, reached && points.unnamed().is_empty())

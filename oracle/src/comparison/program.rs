@@ -1,11 +1,12 @@
 //! The calls in another process: a program that reads calls from its standard input and writes what each left to its
 //! standard output. So the proved library is compared where this machine cannot link it but can run it.
 //!
-//! A call is a byte that says which, 0 for `replay_trace`, 1 for `other_edition` and 2 for `trace_heard`, a byte that is the
-//! address asked for and 0 in the others, the lengths of the bytes that are lent and of the buffer, 8 bytes each, most
+//! A call is a byte that says which, 0 for `replay_trace`, 1 for `other_edition`, 2 for `trace_heard` and 3 for `trace_counts`, a
+//! byte that is the address asked for in `trace_heard` and 0 in the others, the lengths of the bytes that are lent and of the buffer, 8 bytes each, most
 //! significant first, then these bytes and the buffer. What it left is the number, 8 bytes, a byte that is 1 if nothing but the
 //! buffer was changed, and the buffer.
 
+use crate::counts::trace_counts;
 use crate::editions::other_edition;
 use crate::heard::trace_heard;
 use crate::trace::replay_trace;
@@ -18,6 +19,7 @@ use std::process::{Child, Command, Stdio};
 const REPLAY_TRACE: u8 = 0;
 const OTHER_EDITION: u8 = 1;
 const TRACE_HEARD: u8 = 2;
+const TRACE_COUNTS: u8 = 3;
 
 /// A program with its arguments, and the process that runs it. After a failure it is started anew, so that a trace that
 /// ends it can be made short.
@@ -46,6 +48,11 @@ impl Program {
     /// Asks the program who was heard.
     pub fn trace_heard(&self, trace: &[u8], address: u8, entry: &mut [u8]) -> u64 {
         self.make([TRACE_HEARD, address], trace, entry)
+    }
+
+    /// Asks the program for the counts.
+    pub fn trace_counts(&self, trace: &[u8], counts: &mut [u8]) -> u64 {
+        self.make([TRACE_COUNTS, 0], trace, counts)
     }
 
     /// Has the program make the call. That it does not answer is a panic, which the comparison counts as a difference.
@@ -115,6 +122,7 @@ pub fn serve() -> Result<()> {
             REPLAY_TRACE => replay_trace(&lent, &mut buffer),
             OTHER_EDITION => other_edition(&lent, &mut buffer),
             TRACE_HEARD => trace_heard(&lent, address, &mut buffer),
+            TRACE_COUNTS => trace_counts(&lent, &mut buffer),
             _ => return Err(Error::new(ErrorKind::Other, "there is no such call")),
         };
         output.write_all(&[&number.to_be_bytes()[..], &[1], &buffer].concat())?;

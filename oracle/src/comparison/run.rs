@@ -1,5 +1,7 @@
 //! Makes a call on a trace or a header, and finds where what it left parts from what the oracle's call left.
 
+use crate::counts::{self, count, trace_counts};
+use crate::coverage::counts::ROOMS as COUNT_ROOMS;
 use crate::coverage::heard::questions;
 use crate::coverage::moves::{lent, ROOMS};
 use crate::editions::other_edition;
@@ -19,11 +21,16 @@ pub struct Calls<'a> {
     pub replay_trace: Call<'a>,
     pub other_edition: Call<'a>,
     pub trace_heard: Ask<'a>,
+    pub trace_counts: Call<'a>,
 }
 
 /// The oracle's own.
-pub const ORACLE: Calls =
-    Calls { replay_trace: &replay_trace, other_edition: &other_edition, trace_heard: &trace_heard };
+pub const ORACLE: Calls = Calls {
+    replay_trace: &replay_trace,
+    other_edition: &other_edition,
+    trace_heard: &trace_heard,
+    trace_counts: &trace_counts,
+};
 
 /// What a call left: the number it returned, `None` if it panicked, and the whole buffer.
 #[derive(Debug, Clone, PartialEq, Eq)]
@@ -124,5 +131,22 @@ fn first_question(ask: Ask, trace: &Trace, questions: &[(u8, usize)]) -> Option<
         let expected = run_on(&|_, entry| asked(&run, address, entry), &bytes, room, trace.fill);
         let got = run_on(&|trace, entry| ask(trace, address, entry), &bytes, room, trace.fill);
         (expected != got).then_some(Question { address, expected, got })
+    })
+}
+
+/// Counts on which a call parts from the oracle.
+pub struct Count {
+    pub expected: Left,
+    pub got: Left,
+}
+
+/// The first room with which a call parts from the oracle on this trace's counts, if it does. The oracle runs the trace once.
+pub fn counts_otherwise(call: Call, trace: &Trace) -> Option<Count> {
+    let bytes = trace.bytes();
+    let run = count(&bytes);
+    COUNT_ROOMS.iter().find_map(|&room| {
+        let expected = run_on(&|_, counts| counts::asked(&run, counts), &bytes, room, trace.fill);
+        let got = run_on(call, &bytes, room, trace.fill);
+        (expected != got).then_some(Count { expected, got })
     })
 }

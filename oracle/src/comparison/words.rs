@@ -51,8 +51,8 @@ pub fn moved(left: &Left) -> String {
     format!("{}: {}", hex(&left.buffer), returned(left, "bytes written, number"))
 }
 
-/// What a call that was asked for an address left.
-pub fn heard(left: &Left) -> String {
+/// What a call left that was asked for an address or for the counts.
+pub fn asked(left: &Left) -> String {
     format!("{}: {}", hex(&left.buffer), returned(left, "entries, ending"))
 }
 

@@ -79,7 +79,7 @@ pub const EVENTS: [&str; 71] = [
     "telegrams listed without pending bytes",
 ];
 
-/// What happened in this poll of a station that is online.
+/// What happened in this poll of a station that is not offline. What happens in PassiveIdle is told elsewhere.
 pub fn events(poll: &Poll) -> Vec<&'static str> {
     let mut met = Vec::new();
     let (was, record) = (&poll.was, &poll.record);
@@ -95,15 +95,16 @@ pub fn events(poll: &Poll) -> Vec<&'static str> {
         let lost = waited >= poll.parameters.token_lost_timeout().total_micros() as i64;
         let expired = waited >= poll.parameters.slot_time().total_micros() as i64;
         when(true, "pending bytes grew and no more is asked");
-        when(was.state <= ACTIVE_IDLE && lost, "pending bytes grew where the token was lost");
+        let listens = [LISTEN_TOKEN, ACTIVE_IDLE].contains(&poll.handled_in());
+        when(listens && lost, "pending bytes grew where the token was lost");
         let waits = [AWAIT_DATA_RESPONSE, CHECK_TOKEN_PASS, AWAIT_STATUS_RESPONSE].contains(&was.state);
         when(waits && expired, "pending bytes grew where the slot had expired");
     }
     if poll.answer.outcome == 2 && poll.answer.sent == Sent::Nothing {
         return met;
     }
-    match was.state {
-        OFFLINE | LISTEN_TOKEN => listen_token(poll, &mut when),
+    match poll.handled_in() {
+        LISTEN_TOKEN => listen_token(poll, &mut when),
         ACTIVE_IDLE => active_idle(poll, &mut when),
         USE_TOKEN => use_token(poll, &mut when),
         AWAIT_DATA_RESPONSE => await_data_response(poll, &mut when),
@@ -128,7 +129,7 @@ fn gone(poll: &Poll, when: When) {
     when(!poll.record.telegrams.is_empty(), "telegrams are gone while a request waits for its pause");
 }
 
-fn is_request_to(telegram: &Telegram, own: u8) -> bool {
+pub fn is_request_to(telegram: &Telegram, own: u8) -> bool {
     matches!(telegram, Telegram::Request { status_request: true, destination, .. } if *destination == own)
 }
 
@@ -147,7 +148,7 @@ fn listen_token(poll: &Poll, when: When) {
                 "ListenToken: answers not ready, goes to ActiveIdle",
             );
         }
-        _ if was.status_request.is_some() => return gone(poll, when),
+        _ if poll.request().is_some() => return gone(poll, when),
         _ if poll.answer.consumed == 0 => return,
         _ => {}
     }

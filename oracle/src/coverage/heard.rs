@@ -228,7 +228,7 @@ fn not_consumed(was: u8, answer: &Answer) -> &'static str {
         (_, 2, Sent::Nothing) => "not consumed: a transmission goes on",
         (AWAIT_DATA_RESPONSE | AWAIT_STATUS_RESPONSE, ..) => "not consumed: behind the first where a reply is awaited",
         (_, _, Sent::Token { .. }) => "not consumed: the token is claimed or passed",
-        (LISTEN_TOKEN | ACTIVE_IDLE, ..) => "not consumed: a request waits",
+        (LISTEN_TOKEN | ACTIVE_IDLE | PASSIVE_IDLE, ..) => "not consumed: a request waits",
         _ => "not consumed: the token is held",
     }
 }

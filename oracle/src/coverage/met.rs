@@ -1,19 +1,22 @@
 //! A trace is walked entry by entry with the oracle's station, and each entry is counted under what it was and what it
 //! did. What traces have to reach is named here; a pair of states that is said to be out of reach and is met is an error.
 
+use super::counts::{self, Living};
 use super::events::{events, EVENTS};
 use super::heard::{self, Hearing};
 use super::moves;
+use super::passive::{self, Passive};
 use super::points::Points;
 use super::poll::{Poll, WALKS_ALONE, WITNESSED};
 use super::refusals;
 use crate::editions::Edition;
+use crate::lines;
 use crate::records::{state::*, Answer, Notice, PollRecord, Sent, Telegram, LAST_CLOCK};
 use crate::ring::Next;
 use crate::trace::{Entry, Header, Runner, Trace, ANSWER};
 
-/// The states by document 01's numbers.
-const STATES: [&str; 9] = [
+/// The states by document 01's numbers, and document 02's 9.
+pub const STATES: [&str; 10] = [
     "Offline",
     "ListenToken",
     "ActiveIdle",
@@ -23,12 +26,13 @@ const STATES: [&str; 9] = [
     "PassToken",
     "CheckTokenPass",
     "AwaitStatusResponse",
+    "PassiveIdle",
 ];
 
 /// For each state by its number, the numbers that belong to it.
-type OfStates = [&'static [u8]; 9];
+pub type OfStates = [&'static [u8]; 10];
 
-/// For each state, the states in which a poll can leave it.
+/// For each state, the states in which a poll can leave it where the station is not passive.
 ///
 /// The other pairs cannot be reached by a poll, because of what the published text does:
 /// - Offline: a poll that finds the station online goes to ListenToken and on from there. A fresh
@@ -48,6 +52,7 @@ type OfStates = [&'static [u8]; 9];
 ///   PassToken is not left standing.
 /// - AwaitStatusResponse takes a reply (PassToken), something else (ActiveIdle), or passes the token
 ///   at once when the slot has expired (CheckTokenPass, or UseToken if alone).
+/// - PassiveIdle with the station online again: as Offline, but that the activity may be known in other ways too.
 const REACHED_BY_POLLS: OfStates = [
     &[0, 1, 4],
     &[0, 1, 2, 4],
@@ -58,21 +63,23 @@ const REACHED_BY_POLLS: OfStates = [
     &[3, 6, 7, 8],
     &[1, 2, 3, 7],
     &[2, 3, 6, 7, 8],
+    &[0, 1, 4],
 ];
 
 const OUTCOMES: [&str; 5] = ["none", "offline", "transmission", "bus", "delay"];
 
 /// For each state, the outcomes that a poll in it can have.
 const OUTCOMES_OF: OfStates =
-    [&[1, 2, 3, 4], &[2, 3, 4], &[2, 3, 4], &[2, 4], &[2, 4], &[2, 3, 4], &[2, 4], &[2, 3, 4], &[2, 3, 4]];
+    [&[1, 2, 3, 4], &[2, 3, 4], &[2, 3, 4], &[2, 4], &[2, 4], &[2, 3, 4], &[2, 4], &[2, 3, 4], &[2, 3, 4], &[2, 3, 4]];
 
 const SENT: [&str; 5] = ["nothing", "token", "status request", "status response", "application"];
 
 /// For each state, what a poll in it can send.
-const SENT_OF: OfStates = [&[0, 1], &[0, 1, 3], &[0, 1, 3], &[0, 4], &[0, 1], &[0, 4], &[0, 1, 2], &[0, 1], &[0, 1]];
+const SENT_OF: OfStates =
+    [&[0, 1], &[0, 1, 3], &[0, 1, 3], &[0, 4], &[0, 1], &[0, 4], &[0, 1, 2], &[0, 1], &[0, 1], &[0, 1]];
 
 /// The states in which a station can be alone: all but CheckTokenPass, which it enters and keeps with another as next.
-const ALONE_IN: [u8; 8] = [
+const ALONE_IN: [u8; 9] = [
     OFFLINE,
     LISTEN_TOKEN,
     ACTIVE_IDLE,
@@ -81,22 +88,25 @@ const ALONE_IN: [u8; 8] = [
     AWAIT_DATA_RESPONSE,
     PASS_TOKEN,
     AWAIT_STATUS_RESPONSE,
+    PASSIVE_IDLE,
 ];
 
 /// The entries whose answers carry the next station. Offline makes a fresh station, which is alone.
-const ANSWERED: [&str; 4] = ["poll", "online", "offline", "refused entry"];
+const ANSWERED: [&str; 5] = ["poll", "online", "passive", "offline", "refused entry"];
 
-/// Company that comes and goes while the station stays online, by the number of stations in its ring.
+/// Company that comes and goes while the station stays online or passive, by the number of stations in its ring.
 const COMPANY: [&str; 4] =
     ["alone, then two", "alone, then more than two", "two, then alone", "alone, then two, then alone"];
 
 /// The questions of time, each asked at -1, 0 and +1 microseconds from where its answer changes.
-const QUESTIONS: [&str; 13] = [
+const QUESTIONS: [&str; 15] = [
     "a transmission going on",
     "lost token in ListenToken",
     "lost token in ActiveIdle",
     "pause before an answer in ListenToken",
     "pause before an answer in ActiveIdle",
+    "pause before an answer in PassiveIdle",
+    "lost token, not asked in PassiveIdle",
     "pause in ClaimToken",
     "pause in UseToken",
     "pause in PassToken",
@@ -110,7 +120,8 @@ const QUESTIONS: [&str; 13] = [
 const SHIFTS: [&str; 3] = ["-1", "0", "+1"];
 
 /// The states that take telegrams.
-const HEARING: [u8; 5] = [LISTEN_TOKEN, ACTIVE_IDLE, AWAIT_DATA_RESPONSE, CHECK_TOKEN_PASS, AWAIT_STATUS_RESPONSE];
+const HEARING: [u8; 6] =
+    [LISTEN_TOKEN, ACTIVE_IDLE, AWAIT_DATA_RESPONSE, CHECK_TOKEN_PASS, AWAIT_STATUS_RESPONSE, PASSIVE_IDLE];
 
 const KINDS: [&str; 9] = [
     "short confirmation",
@@ -165,20 +176,24 @@ fn pairs<A: ToString, B: ToString>(first: &[A], link: &str, second: &[B]) -> Vec
 /// What was met.
 pub struct Met {
     points: Points,
-    /// Traces and entries walked, calls that move a header, and calls that ask who was heard.
+    /// Traces and entries walked, calls that move a header, calls that ask who was heard, and calls that ask for the counts.
     pub traces: u64,
     pub entries: u64,
     pub moves: u64,
     pub asked: u64,
+    pub counted: u64,
 }
 
 impl Default for Met {
     fn default() -> Self {
         let mut points = Points::default();
-        let tables: [(&str, &OfStates, &[&str], &str); 3] = [
+        let tables: [(&str, &OfStates, &[&str], &str); 6] = [
             ("poll", &REACHED_BY_POLLS, &STATES, " -> "),
             ("outcome", &OUTCOMES_OF, &OUTCOMES, ": "),
             ("sent", &SENT_OF, &SENT, ": "),
+            ("poll while passive", &passive::REACHED, &STATES, " -> "),
+            ("outcome while passive", &passive::OUTCOMES_OF, &OUTCOMES, ": "),
+            ("sent while passive", &passive::SENT_OF, &SENT, ": "),
         ];
         for (group, table, names, link) in tables {
             let of = |(state, list): (&&'static str, &&'static [u8])| {
@@ -187,11 +202,13 @@ impl Default for Met {
             };
             points.group(group, STATES.iter().zip(table).flat_map(of));
         }
-        points.group("refused entry", pairs(&[12, 13, 14, 15, 16], " in ", &STATES));
-        points.group("command or transmitting", pairs(&["online", "offline", "transmitting"], " in ", &STATES));
+        points.group("refused entry", pairs(&[12, 13, 14, 15], " in ", &STATES));
+        let commands = ["online", "offline", "passive", "transmitting"];
+        points.group("command or transmitting", pairs(&commands, " in ", &STATES));
         refusals::name_points(&mut points);
         moves::name_points(&mut points);
         heard::name_points(&mut points);
+        counts::name_points(&mut points);
         points.group("entries behind", ["16 bytes", "14 bytes"]);
         points.group("ending", ENDINGS);
         points.group("answer buffer", ["all used", "bytes left over", "eight or more left over"]);
@@ -203,10 +220,11 @@ impl Default for Met {
         let hearing = HEARING.map(|state| STATES[usize::from(state)]);
         points.group("heard", pairs(&pairs(&hearing, ": ", &KINDS), ", ", &LAST));
         points.group("token witnessed", WITNESSED);
+        points.group("token witnessed in PassiveIdle", WITNESSED);
         points.group("reply to a gap question", pairs(&STATION_TYPES, ", ", &OK));
         let alone_in = ALONE_IN.map(|state| STATES[usize::from(state)]);
         let offline = ["offline in Offline".to_string()];
-        let answered = [ANSWERED[0], ANSWERED[1], ANSWERED[3]];
+        let answered = [ANSWERED[0], ANSWERED[1], ANSWERED[2], ANSWERED[4]];
         let nobody = pairs(&answered, " in ", &alone_in).into_iter().chain(offline);
         points.group("answered with nobody", nobody);
         let neighboured = STATES.iter().skip(1).copied().collect::<Vec<_>>();
@@ -215,7 +233,8 @@ impl Default for Met {
         points.group("gap walk alone", WALKS_ALONE);
         points.group("reply to a gap question alone", pairs(&STATION_TYPES, ", ", &OK));
         points.group("event", CLOCKS.iter().chain(&EVENTS));
-        Met { points, traces: 0, entries: 0, moves: 0, asked: 0 }
+        passive::name_points(&mut points);
+        Met { points, traces: 0, entries: 0, moves: 0, asked: 0, counted: 0 }
     }
 }
 
@@ -226,6 +245,7 @@ impl Met {
         let bytes = trace.bytes();
         self.moves += moves::see(&mut self.points, trace);
         self.asked += heard::see(&mut self.points, trace);
+        self.counted += counts::see(&mut self.points, trace);
         refusals::see_start(&mut self.points, &bytes);
         let header = match Header::read(&bytes) {
             Some(header) if header.refusal().is_some() => return,
@@ -240,7 +260,7 @@ impl Met {
         self.points.hit("applications", header.applications);
         let mut runner = Runner::new(&header);
         let (mut room, mut clock, mut company) = (trace.room, None, Company::default());
-        let mut hearing = Hearing::default();
+        let mut kept = Kept::default();
         if rest.is_empty() {
             return self.points.hit("ending", "0: no entry");
         }
@@ -266,7 +286,7 @@ impl Met {
                 ends(trace.room == 0, "18: a buffer of no bytes");
                 return ends(room > 0, "18: 1 to 7 bytes left");
             }
-            self.see_entry(&header, &mut runner, entry, &mut clock, &mut hearing);
+            self.see_entry(&header, &mut runner, entry, &mut clock, &mut kept);
             for case in company.after(&runner) {
                 self.points.hit("company", COMPANY[case]);
             }
@@ -288,15 +308,18 @@ impl Met {
         runner: &mut Runner,
         entry: Entry,
         clock: &mut Option<u64>,
-        hearing: &mut Hearing,
+        kept: &mut Kept,
     ) {
         self.entries += 1;
         let was = runner.station.watch();
         let state = STATES[usize::from(was.state)];
         let ring = runner.station.inspect_token_ring();
-        let (next, ready, size) = (ring.next(), ring.ready_for_ring(), ring.size());
+        let (next, ready, laps, size) = (ring.next(), ring.ready_for_ring(), ring.laps(), ring.size());
+        lines::take();
         let answer = runner.entry(entry);
+        let said = lines::take();
         self.see_next_station(entry, &answer);
+        kept.passive.see_entry(&mut self.points, entry, &was, &answer);
         let bytes = match entry {
             _ if answer.refusal != 0 => {
                 if let Entry::Poll(bytes) = entry {
@@ -305,14 +328,16 @@ impl Met {
                 return self.points.hit("refused entry", format_args!("{} in {}", answer.refusal, state));
             }
             Entry::Online => return self.points.hit("command or transmitting", format_args!("online in {}", state)),
-            Entry::Offline | Entry::Passive => {
-                hearing.offline();
+            Entry::Passive => return self.points.hit("command or transmitting", format_args!("passive in {}", state)),
+            Entry::Offline => {
+                kept.hearing.offline();
+                kept.living.offline();
                 return self.points.hit("command or transmitting", format_args!("offline in {}", state));
             }
             Entry::Poll(bytes) => bytes,
         };
         let record = PollRecord::decode(runner.applications, bytes).expect("an accepted record");
-        hearing.see(&mut self.points, header.address, was.state, &record, &answer);
+        kept.hearing.see(&mut self.points, header.address, was.state, &record, &answer);
         let earlier = clock.replace(record.clock);
         let places = [
             earlier.map_or(false, |earlier| record.clock < earlier),
@@ -329,22 +354,26 @@ impl Met {
             was,
             next,
             ready,
+            laps,
             size,
             record,
             answer,
             is: runner.station.watch(),
             size_after: runner.station.inspect_token_ring().size(),
         };
+        kept.passive.see_poll(&mut self.points, &poll);
+        kept.living.see(&mut self.points, &poll, said);
         self.see_poll(header, &poll);
     }
 
     /// Counts who is next in an answer, by the state that the same answer carries.
     fn see_next_station(&mut self, entry: Entry, answer: &Answer) {
         let answered = match entry {
-            _ if answer.refusal != 0 => 3,
+            _ if answer.refusal != 0 => 4,
             Entry::Poll(_) => 0,
             Entry::Online => 1,
-            Entry::Offline | Entry::Passive => 2,
+            Entry::Passive => 2,
+            Entry::Offline => 3,
         };
         let nobody = answer.next_station == 127;
         let group = if nobody { "answered with nobody" } else { "answered with a station" };
@@ -356,9 +385,14 @@ impl Met {
         let (was, record, answer) = (&poll.was, &poll.record, &poll.answer);
         let state = STATES[usize::from(was.state)];
         let consumed = usize::from(answer.consumed);
-        self.points.hit("poll", format_args!("{} -> {}", state, STATES[usize::from(poll.is.state)]));
-        self.points.hit("outcome", format_args!("{}: {}", state, OUTCOMES[usize::from(answer.outcome)]));
-        self.points.hit("sent", format_args!("{}: {}", state, SENT[usize::from(answer.sent.kind())]));
+        let [reached, outcome, sent] = if was.passive {
+            ["poll while passive", "outcome while passive", "sent while passive"]
+        } else {
+            ["poll", "outcome", "sent"]
+        };
+        self.points.hit(reached, format_args!("{} -> {}", state, STATES[usize::from(poll.is.state)]));
+        self.points.hit(outcome, format_args!("{}: {}", state, OUTCOMES[usize::from(answer.outcome)]));
+        self.points.hit(sent, format_args!("{}: {}", state, SENT[usize::from(answer.sent.kind())]));
         let told = poll.consumed_as_document_01_says();
         if consumed != told {
             let said = format!("{} takes {} telegrams, document 01 says {}", state, consumed, told);
@@ -367,7 +401,7 @@ impl Met {
         if record.transmitting {
             self.points.hit("command or transmitting", format_args!("transmitting in {}", state));
         }
-        if !was.online {
+        if was.offline() {
             return;
         }
         self.points.hit("ring of size", poll.size_after);
@@ -380,14 +414,20 @@ impl Met {
         for event in events(poll) {
             self.points.hit("event", event);
         }
-        let hears = STATES[usize::from(was.state.max(LISTEN_TOKEN))];
+        let handled_in = poll.handled_in();
+        let hears = STATES[usize::from(handled_in)];
         for (i, telegram) in record.telegrams[..consumed].iter().enumerate() {
             let last = LAST[usize::from(i + 1 == record.telegrams.len())];
             let kind = KINDS[kind_of(telegram, poll.own)];
             self.points.hit("heard", format_args!("{}: {}, {}", hears, kind, last));
         }
-        if [OFFLINE, LISTEN_TOKEN, ACTIVE_IDLE].contains(&was.state) {
-            poll.witnessed().iter().for_each(|case| self.points.hit("token witnessed", WITNESSED[*case]));
+        let witnesses = match handled_in {
+            LISTEN_TOKEN | ACTIVE_IDLE => Some("token witnessed"),
+            PASSIVE_IDLE => Some("token witnessed in PassiveIdle"),
+            _ => None,
+        };
+        if let Some(group) = witnesses {
+            poll.witnessed().iter().for_each(|case| self.points.hit(group, WITNESSED[*case]));
         }
         poll.walks_alone().iter().for_each(|case| self.points.hit("gap walk alone", WALKS_ALONE[*case]));
         if let Some((station_type, ok)) = poll.gap_reply() {
@@ -417,17 +457,25 @@ impl Met {
     }
 }
 
+/// What stands beside the station through a trace: who was heard, and the counts of its life.
+#[derive(Default)]
+struct Kept {
+    hearing: Hearing,
+    living: Living,
+    passive: Passive,
+}
+
 /// How many stations the ring had, as far back as `COMPANY` looks.
 #[derive(Default)]
 struct Company {
-    /// The sizes in their order since the station came online, without repetitions.
+    /// The sizes in their order since the station was last offline, without repetitions.
     sizes: Vec<usize>,
 }
 
 impl Company {
     /// What an entry made of it, as numbers of `COMPANY`.
     fn after(&mut self, runner: &Runner) -> Vec<usize> {
-        if !runner.station.watch().online {
+        if runner.station.watch().offline() {
             self.sizes.clear();
             return Vec::new();
         }

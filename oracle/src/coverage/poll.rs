@@ -33,9 +33,10 @@ pub struct Poll<'a> {
     pub parameters: &'a Parameters,
     pub own: u8,
     pub was: Watched,
-    /// The ring before: the next station, whether it is ready, its size.
+    /// The ring before: the next station, whether it is ready, its laps, its size.
     pub next: Next,
     pub ready: bool,
+    pub laps: u8,
     pub size: usize,
     pub record: PollRecord,
     pub answer: Answer,
@@ -44,6 +45,16 @@ pub struct Poll<'a> {
 }
 
 impl Poll<'_> {
+    /// The state in which the poll is handled.
+    pub fn handled_in(&self) -> u8 {
+        self.was.handled_in()
+    }
+
+    /// The request that waits for its answer in that state.
+    pub fn request(&self) -> Option<u8> {
+        self.was.status_request.filter(|_| self.handled_in() == self.was.state)
+    }
+
     /// How long it is since the last activity, where nothing is being transmitted.
     pub fn waited(&self) -> Option<i64> {
         let last = self.was.last_bus_activity?.total_micros();
@@ -121,18 +132,18 @@ impl Poll<'_> {
     /// "Consumed: none where a transmission is found going on (outcome 2, nothing sent). Else the two reply-waiting states
     /// the first telegram, if any; ListenToken and ActiveIdle all, but none in a poll that claims or has a request to
     /// answer; CheckTokenPass all, but none once the slot has expired; any other poll none." A claim and an expired slot
-    /// are seen by the token that is then sent.
+    /// are seen by the token that is then sent. Document 02: "PassiveIdle consumes telegrams .. as ListenToken does".
     pub fn consumed_as_document_01_says(&self) -> usize {
         let all = self.record.telegrams.len();
         let sends_token = matches!(self.answer.sent, Sent::Token { .. });
-        if !self.was.online || (self.answer.outcome == 2 && self.answer.sent == Sent::Nothing) {
+        if self.was.offline() || (self.answer.outcome == 2 && self.answer.sent == Sent::Nothing) {
             return 0;
         }
-        match self.was.state {
+        match self.handled_in() {
             AWAIT_DATA_RESPONSE | AWAIT_STATUS_RESPONSE => all.min(1),
-            OFFLINE..=ACTIVE_IDLE if sends_token || self.was.status_request.is_some() => 0,
+            LISTEN_TOKEN | ACTIVE_IDLE | PASSIVE_IDLE if sends_token || self.request().is_some() => 0,
             CHECK_TOKEN_PASS if sends_token => 0,
-            OFFLINE..=ACTIVE_IDLE | CHECK_TOKEN_PASS => all,
+            LISTEN_TOKEN | ACTIVE_IDLE | PASSIVE_IDLE | CHECK_TOKEN_PASS => all,
             _ => 0,
         }
     }
@@ -152,9 +163,10 @@ impl Poll<'_> {
         let slot = waited - p.slot_time().total_micros() as i64;
         let lost = waited - p.token_lost_timeout().total_micros() as i64;
         let silent = self.record.telegrams.is_empty();
-        let answers = was.status_request.is_some() && lost < 0;
-        match was.state {
-            OFFLINE | LISTEN_TOKEN => {
+        let request = self.request().is_some();
+        let answers = request && lost < 0;
+        match self.handled_in() {
+            LISTEN_TOKEN => {
                 asked.push(("lost token in ListenToken", lost));
                 asked.extend(answers.then_some(("pause before an answer in ListenToken", pause)));
             }
@@ -168,6 +180,10 @@ impl Poll<'_> {
                 let question =
                     if was.first_cycle_done { "end of hold, a cycle done" } else { "end of hold, no cycle done" };
                 asked.extend((pause >= 0).then_some((question, end)));
+            }
+            PASSIVE_IDLE => {
+                asked.push(("lost token, not asked in PassiveIdle", lost));
+                asked.extend(request.then_some(("pause before an answer in PassiveIdle", pause)));
             }
             CLAIM_TOKEN => asked.push(("pause in ClaimToken", pause)),
             AWAIT_DATA_RESPONSE if silent => asked.push(("slot in AwaitDataResponse", slot)),

@@ -4,28 +4,10 @@
 use super::frame::{check_byte, END, LENGTHS, SC, SD1, SD2, SD3, SD4, STATUS_REQUEST};
 use super::tries::Try;
 use crate::comparison::calls::{Made, Meets};
-use crate::coverage::{stray_points, Points};
+use crate::coverage::Point::{self, Numbered, Said};
+use crate::coverage::{stray_points, Points, Tally};
 use crate::records::{split, Telegram, TELEGRAM};
 use std::collections::HashMap;
-use std::fmt;
-
-/// A point: words, or words and a number.
-#[derive(Debug, Clone, Copy, PartialEq, Eq, Hash)]
-enum Point {
-    Said(&'static str),
-    Numbered(&'static str, usize),
-}
-
-impl fmt::Display for Point {
-    fn fmt(&self, f: &mut fmt::Formatter) -> fmt::Result {
-        match self {
-            Point::Said(words) => f.write_str(words),
-            Point::Numbered(words, number) => write!(f, "{} {}", words, number),
-        }
-    }
-}
-
-use Point::{Numbered, Said};
 
 const READ: &str = "frame read";
 const TELEGRAM_READ: &str = "telegram read";
@@ -48,20 +30,16 @@ const CHECKED: [&str; 3] = ["SD1", "SD2", "SD3"];
 /// What has been met, and how many calls of each sort were made.
 #[derive(Default)]
 pub struct Met {
-    counts: HashMap<(&'static str, Point), u64>,
+    tally: Tally,
     stray: HashMap<String, u64>,
 }
 
+/// The start bytes with their names.
+pub(crate) const STARTS: [(u8, &str); 5] = [(SD1, "SD1"), (SD2, "SD2"), (SD3, "SD3"), (SD4, "SD4"), (SC, "SC")];
+
 /// The name of a start byte.
-fn name_of(start: u8) -> Option<&'static str> {
-    match start {
-        SD1 => Some("SD1"),
-        SD2 => Some("SD2"),
-        SD3 => Some("SD3"),
-        SD4 => Some("SD4"),
-        SC => Some("SC"),
-        _ => None,
-    }
+pub(crate) fn name_of(start: u8) -> Option<&'static str> {
+    STARTS.iter().find(|(byte, _)| *byte == start).map(|(_, name)| *name)
 }
 
 /// One of three things, by the start byte's name.
@@ -83,7 +61,7 @@ fn faults(frame: &[u8], body: std::ops::Range<usize>, checked: bool) -> Vec<u8> 
 
 impl Met {
     fn hit(&mut self, group: &'static str, point: Point) {
-        *self.counts.entry((group, point)).or_insert(0) += 1;
+        self.tally.hit(group, point);
     }
 
     fn see_frame(&mut self, frame: &[u8], returned: u64) {
@@ -244,8 +222,8 @@ impl Meets<Try> for Met {
 
     fn points(&self) -> Points {
         let mut points = Points::default();
-        let starts = [SD1, SD2, SD3, SD4, SC].map(usize::from);
-        let names = ["SD1", "SD2", "SD3", "SD4", "SC"].map(Said);
+        let starts = STARTS.map(|(byte, _)| usize::from(byte));
+        let names = STARTS.map(|(_, name)| Said(name));
         points.group(READ, names.into_iter().chain(starts.map(|s| Numbered("with bytes after it: start byte", s))));
         let telegrams = [
             "token",
@@ -313,9 +291,7 @@ impl Meets<Try> for Met {
         let rooms = lengths.into_iter().flat_map(|(name, n)| (0..n).map(move |room| Numbered(name, room)));
         points.group(WORD_REFUSED, words.chain(rooms));
         points.group(BAD_WORD, stray_points());
-        for ((group, point), count) in &self.counts {
-            points.hit_times(group, point, *count);
-        }
+        self.tally.count_in(&mut points);
         for (point, count) in &self.stray {
             points.hit_times(BAD_WORD, point, *count);
         }

@@ -21,6 +21,8 @@ pub struct Maker {
     circle: usize,
     /// How many tokens of the circle were heard.
     heard: usize,
+    /// Whether the station is told to be passive often, or now and then.
+    often_passive: bool,
     clock: u64,
 }
 
@@ -42,7 +44,8 @@ impl Maker {
             1 => LAST_CLOCK - seed.below(3_000_000),
             _ => seed.below(1 << 34),
         };
-        Maker { seed, header, runner: Runner::new(&header), others, circle: 0, heard: 0, clock }
+        let often_passive = seed.one_in(4);
+        Maker { seed, header, runner: Runner::new(&header), others, circle: 0, heard: 0, often_passive, clock }
     }
 
     /// The next entry, aimed at the station as it is; the station then does it.
@@ -65,10 +68,20 @@ impl Maker {
         bytes
     }
 
-    /// A command now and then; mostly online where the station is offline.
+    /// A command now and then; mostly online where the station is offline. A passive station is told to be online sooner or
+    /// later, and more often before its next poll.
     fn command(&mut self, watched: &Watched) -> Option<u8> {
-        if !watched.online && !self.seed.one_in(4) {
+        if watched.offline() && !self.seed.one_in(4) {
+            return Some(if self.often_passive && self.seed.one_in(3) { 2 } else { 0 });
+        }
+        let moves_next = watched.passive && watched.state <= ACTIVE_IDLE;
+        let patience = if moves_next { 4 } else { 16 };
+        if watched.passive && self.seed.one_in(patience) {
             return Some(0);
+        }
+        let noted = watched.online && watched.status_request.is_some();
+        if self.often_passive && watched.online && self.seed.one_in(if noted { 8 } else { 20 }) {
+            return Some(2);
         }
         match self.seed.below(200) {
             0 => Some(1),
@@ -117,6 +130,11 @@ impl Maker {
     fn clock(&mut self, watched: &Watched, hears: bool) -> u64 {
         let last = match watched.last_bus_activity {
             Some(last) => last.total_micros(),
+            // a passive station may have been polled and know of no activity still
+            None if self.seed.one_in(if watched.state == PASSIVE_IDLE { 3 } else { 12 }) => return self.clock,
+            None if watched.state == PASSIVE_IDLE && self.seed.one_in(3) => {
+                return self.near(self.clock as i64 + self.lost())
+            }
             None => return (self.clock + self.seed.below(3 * self.slot() as u64)).min(LAST_CLOCK),
         };
         match self.seed.below(60) {
@@ -133,7 +151,7 @@ impl Maker {
         let pause = last + self.time(33);
         match watched.state {
             // a request to answer, a claim, a token to use or pass: the pause
-            LISTEN_TOKEN | ACTIVE_IDLE if watched.status_request.is_some() => self.near(pause),
+            LISTEN_TOKEN | ACTIVE_IDLE | PASSIVE_IDLE if watched.status_request.is_some() => self.near(pause),
             CLAIM_TOKEN | PASS_TOKEN => self.near(pause),
             USE_TOKEN => {
                 let end = self.hold_end(watched).total_micros();
@@ -144,8 +162,8 @@ impl Maker {
                 }
             }
             // listening: what is heard comes soon, else the token is lost
-            OFFLINE..=ACTIVE_IDLE if hears => self.soon(last),
-            OFFLINE..=ACTIVE_IDLE => self.near(last + self.lost()),
+            OFFLINE..=ACTIVE_IDLE | PASSIVE_IDLE if hears => self.soon(last),
+            OFFLINE..=ACTIVE_IDLE | PASSIVE_IDLE => self.near(last + self.lost()),
             // waiting: the reply comes soon, else the slot expires
             _ if hears && !self.seed.one_in(8) => self.soon(last),
             _ => self.near(last + self.slot()),
@@ -238,9 +256,17 @@ impl Maker {
         Telegram::Response { destination, source, station_type, status }
     }
 
-    /// Tokens that another station sends by our address: collisions.
+    /// Tokens that another station sends by our address: collisions; now and then each with a token of the next station behind
+    /// it, which ends the row.
     fn collisions(&mut self) -> Vec<Telegram> {
-        (0..self.seed.between(1, 3)).map(|_| Telegram::token(self.header.address, self.address())).collect()
+        let (own, next) = (self.header.address, self.neighbours().0);
+        if self.seed.one_in(3) {
+            let rows = self.seed.between(2, 3);
+            return (0..rows)
+                .flat_map(|_| [Telegram::token(own, self.address()), Telegram::token(next, next)])
+                .collect();
+        }
+        (0..self.seed.between(1, 3)).map(|_| Telegram::token(own, self.address())).collect()
     }
 
     /// The tokens of the others' circle from where it stands, as far as there are others.
@@ -265,6 +291,8 @@ impl Maker {
             return Vec::new();
         }
         match watched.state {
+            PASSIVE_IDLE => self.heard_passive(watched),
+            OFFLINE | LISTEN_TOKEN | ACTIVE_IDLE if watched.passive => self.heard_passive(watched),
             OFFLINE | LISTEN_TOKEN => self.heard_listening(),
             ACTIVE_IDLE => self.heard_idle(watched),
             AWAIT_DATA_RESPONSE | AWAIT_STATUS_RESPONSE => self.heard_waiting(watched),
@@ -279,7 +307,8 @@ impl Maker {
         let others = self.others.len();
         if self.heard < others && !self.seed.one_in(30) {
             // a large ring has to be heard once
-            return self.circle_tokens(8);
+            let count = self.seed.between(6, 8);
+            return self.circle_tokens(count);
         }
         match self.seed.below(20) {
             0..=8 if others > 0 => {
@@ -296,6 +325,26 @@ impl Maker {
             14 => self.collisions(),
             15 => self.any_telegrams(4),
             _ => Vec::new(),
+        }
+    }
+
+    /// As in listening, with requests of addresses that no ring has, and our own address as source.
+    fn heard_passive(&mut self, watched: &Watched) -> Vec<Telegram> {
+        if watched.last_bus_activity.is_none() && self.seed.coin() {
+            return Vec::new();
+        }
+        let own = self.header.address;
+        match self.seed.below(12) {
+            0 => vec![Telegram::status_request(self.seed.pick(&[126, 127]), own)],
+            1 => vec![Telegram::status_request(own, own)],
+            2 => vec![Telegram::token(own, self.address()); self.seed.between(1, 3) as usize],
+            3 => {
+                let source = self.address();
+                vec![Telegram::status_request(source, own), self.any_telegram()]
+            }
+            4 => self.any_telegrams(8),
+            5..=6 => Vec::new(),
+            _ => self.heard_listening(),
         }
     }
 
@@ -339,7 +388,8 @@ impl Maker {
             4 => vec![Telegram::token(previous, own)],
             5 => vec![Telegram::status_request(next, own)],
             6 => vec![Telegram::ShortConfirmation],
-            7 => vec![Telegram::token(own, next); 2],
+            7 if self.seed.coin() => vec![Telegram::token(own, next); 2],
+            7 => self.collisions(),
             8 => vec![self.any_telegram()],
             _ => Vec::new(),
         };

@@ -64,13 +64,13 @@ impl Bus {
 }
 
 /// The trace with so many entries, and how many of them leave the station in each state.
-pub fn ordinary_trace(entries: usize) -> (Vec<u8>, [u64; 9]) {
+pub fn ordinary_trace(entries: usize) -> (Vec<u8>, [u64; 10]) {
     let header = header();
     let mut runner = Runner::new(&header);
     let mut bytes = header.write();
     let mut now = 1000;
     let mut bus = Bus::new(now);
-    let mut states = [0; 9];
+    let mut states = [0; 10];
     if entries > 0 {
         runner.entry(Entry::Online);
         bytes.push(0);

@@ -2,7 +2,7 @@
 //! the call that gives the entry of one address.
 
 use crate::records::{join, Answer, PollRecord, Telegram};
-use crate::trace::{start, Entry, Runner};
+use crate::trace::{start, whole_entries, Entry, Runner};
 
 /// "for the 126 addresses": 0 to 125.
 const ADDRESSES: usize = 126;
@@ -81,17 +81,11 @@ pub struct Summarized {
 
 /// Runs a trace to its end, which needs no room for answers; or the number of a refused header.
 pub fn summarize(trace: &[u8]) -> Result<Summarized, u8> {
-    let (header, mut rest) = start(trace)?;
+    let (header, rest) = start(trace)?;
+    let (entries, ending) = whole_entries(rest);
     let mut runner = Runner::new(&header);
-    let mut made = Summarized::default();
-    while !rest.is_empty() {
-        let (entry, after) = match Entry::first(rest) {
-            Some(found) => found,
-            None => {
-                made.ending = 17;
-                break;
-            }
-        };
+    let mut made = Summarized { ending, ..Summarized::default() };
+    for entry in entries {
         let answer = runner.entry(entry);
         if let Entry::Poll(bytes) = entry {
             if let Ok(record) = PollRecord::decode(runner.applications, bytes) {
@@ -99,7 +93,6 @@ pub fn summarize(trace: &[u8]) -> Result<Summarized, u8> {
             }
         }
         made.entries += 1;
-        rest = after;
     }
     Ok(made)
 }

@@ -16,7 +16,7 @@ pub const ANSWER: [usize; 16] = [5, 3, 4, 3, 7, 2, 3, 1, 8, 4, 2, 3, 7, 3, 7, 2]
 /// The clock's last value.
 pub const LAST_CLOCK: u64 = (1 << 48) - 1;
 
-/// "State after the entry, 0..8", by the names of the Rust.
+/// "State after the entry, 0..8", by the names of the Rust, and document 02's "PassiveIdle (state 9".
 pub mod state {
     pub const OFFLINE: u8 = 0;
     pub const LISTEN_TOKEN: u8 = 1;
@@ -27,6 +27,7 @@ pub mod state {
     pub const PASS_TOKEN: u8 = 6;
     pub const CHECK_TOKEN_PASS: u8 = 7;
     pub const AWAIT_STATUS_RESPONSE: u8 = 8;
+    pub const PASSIVE_IDLE: u8 = 9;
 }
 
 /// What a bit is worth at each place of its byte, from the left.
@@ -303,7 +304,8 @@ pub enum Notice {
     Timeout { application: u8, address: u8 },
 }
 
-/// An answer. "An entry refused with 12 to 16 gets an answer with number, state, next application and next station."
+/// An answer. "An entry refused with 12 to 16 gets an answer with number, state, next application and next station."; since
+/// document 02, P10, "16 no longer occurs".
 #[derive(Debug, Clone, Copy, PartialEq, Eq)]
 pub struct Answer {
     pub refusal: u8,

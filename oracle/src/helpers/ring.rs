@@ -152,6 +152,10 @@ impl TokenRing {
         self.ready
     }
 
+    pub fn laps(&self) -> u8 {
+        self.laps
+    }
+
     pub fn size(&self) -> usize {
         self.members.iter().filter(|member| **member).count()
     }

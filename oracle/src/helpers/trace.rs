@@ -152,7 +152,7 @@ impl Runner {
         match entry {
             Entry::Online => self.station.set_online(),
             Entry::Offline => self.station.set_offline(),
-            Entry::Passive => return self.answer(16),
+            Entry::Passive => self.station.set_passive(),
             Entry::Poll(bytes) => match PollRecord::decode(self.applications, bytes) {
                 Ok(record) => return self.poll(&record),
                 Err((number, _)) => return self.answer(number),
@@ -232,6 +232,21 @@ pub fn start(trace: &[u8]) -> Result<(Header, &[u8]), u8> {
         Some(number) => Err(number),
         None => Ok((header, &trace[Edition::of(trace).length()..])),
     }
+}
+
+/// The whole entries of what follows a header; and 17 where it ends inside one, else 0.
+pub fn whole_entries(mut rest: &[u8]) -> (Vec<Entry<'_>>, u8) {
+    let mut entries = Vec::new();
+    while !rest.is_empty() {
+        match Entry::first(rest) {
+            Some((entry, after)) => {
+                entries.push(entry);
+                rest = after;
+            }
+            None => return (entries, 17),
+        }
+    }
+    (entries, 0)
 }
 
 /// The entries answered, and the ending number.

@@ -9,4 +9,5 @@ poll-done-spec =
     tie.close
     (tie.spec
     (λ c κs. search needs)
-    (λ c. simp (← c .answer-of .ensures)))
+    (λ c κs. search needs)
+    (λ c. simp (← c .before .counted .ensures, ← c .answer-of .ensures)))

@@ -9,6 +9,4 @@ set-online-spec =
     tie.close
     (tie.spec
     (λ c κs. search needs)
-    (λ c κs. search needs)
-    (λ c κs. search needs)
-    (λ c. simp (← c .before .before .with-online .ensures, ← c .before .done .ensures, ← c .poll-done .ensures)))
+    (λ c. simp (← c .connected .ensures)))

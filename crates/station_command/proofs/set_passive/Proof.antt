@@ -9,4 +9,4 @@ set-passive-spec =
     tie.close
     (tie.spec
     (λ c κs. search needs)
-    (λ c. simp (← c .refused .ensures)))
+    (λ c. simp (← c .connected .ensures)))

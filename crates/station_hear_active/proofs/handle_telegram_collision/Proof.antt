@@ -10,7 +10,7 @@ handle-telegram-collision-spec =
     tie.close
     (tie.spec
     (λ c κs. search needs)
-    (λ c. λ l. simp (eq-eqb _ _ (c .before .if1 .taken), ← c .hearing .ensures))
+    (λ c. λ l. simp (eq-eqb _ _ (c .before .if1 .taken), ← c .colliding .ensures))
     (λ c κs. search needs)
     (λ c κs. search needs)
-    (λ c. λ l. simp (ne-eqb _ _ (c .before .before .if1 .left), ← c .before .transition-listen-token .ensures, ← c .hearing2 .ensures)))
+    (λ c. λ l. simp (ne-eqb _ _ (c .before .before .if1 .left), ← c .before .transition-listen-token .ensures, ← c .colliding2 .ensures)))

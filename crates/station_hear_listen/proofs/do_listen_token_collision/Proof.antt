@@ -10,8 +10,8 @@ do-listen-token-collision-spec =
     tie.close
     (tie.spec
     (λ c κs. search needs)
-    (λ c. simp (eq-eqb _ _ (c .before .if1 .taken), ← c .hearing .ensures))
+    (λ c. simp (eq-eqb _ _ (c .before .if1 .taken), ← c .colliding .ensures))
     (λ c κs. search needs)
     (λ c κs. search needs)
     (λ c κs. search needs)
-    (λ c. simp (ne-eqb _ _ (c .before .before .before .before .if1 .left), ← c .before .before .before .fresh-core .ensures, ← c .before .fresh .ensures, ← c .hearing2 .ensures)))
+    (λ c. simp (ne-eqb _ _ (c .before .before .before .before .if1 .left), ← c .before .before .before .fresh-core .ensures, ← c .before .fresh .ensures, ← c .colliding2 .ensures)))

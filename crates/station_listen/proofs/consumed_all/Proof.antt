@@ -1,4 +1,4 @@
-use mathlib.Core.Path.{refl}
+use borrow.Author.Needs.{needs}
 use Rattle.station_listen.specs.Listen.{consumedAll}
 use Rattle.station_listen.proofs.consumed_all.Statement.{statement}
 use Rattle.station_listen.proofs.consumed_all.Tie as tie
@@ -8,4 +8,5 @@ unfolding consumedAll
 consumed-all-spec =
     tie.close
     (tie.spec
-    (λ c. λ l. refl))
+    (λ c κs. search needs)
+    (λ c. λ l. simp (← c .meetings .ensures)))

@@ -10,7 +10,8 @@ do-active-idle-spec =
     (tie.spec
     (λ c κs. search needs)
     (λ c κs. search needs)
-    (λ c. simp (← c .before .before .before .token-lost .ensures, c .before .if1 .taken, ← c .do-claim-token .ensures))
+    (λ c κs. search needs)
+    (λ c. simp (← c .before .before .before .before .token-lost .ensures, c .before .before .if1 .taken, ← c .before .do-claim-token .ensures, ← c .with-event .ensures))
     (λ c. search needs)
     (λ c κs. search needs)
     (λ c. search needs)

@@ -9,7 +9,4 @@ do-active-idle-respond-spec =
     tie.close
     (tie.spec
     (λ c κs. search needs)
-    (λ c κs. search needs)
-    (λ c. λ l. simp (← c .before .before .before .wait-synchronization-pause .ensures, c .before .if1 .taken, ← c .transmit .ensures))
-    (λ c κs. search needs)
-    (λ c. λ l. simp (← c .before .before .before .wait-synchronization-pause .ensures, c .before .if1 .left, ← c .done .ensures)))
+    (λ c. λ l. simp (← c .respond .ensures)))

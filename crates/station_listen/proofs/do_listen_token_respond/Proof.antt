@@ -11,7 +11,4 @@ do-listen-token-respond-spec =
     (λ c κs. search needs)
     (λ c κs. search needs)
     (λ c κs. search needs)
-    (λ c κs. search needs)
-    (λ c. simp (← c .before .before .before .before .before .wait-synchronization-pause .ensures, c .before .before .before .if1 .taken, ← c .before .before .do-listen-token-state .ensures, ← c .before .do-listen-token-answered .ensures, ← c .transmit .ensures))
-    (λ c κs. search needs)
-    (λ c. simp (← c .before .before .before .wait-synchronization-pause .ensures, c .before .if1 .left, ← c .done .ensures)))
+    (λ c. simp (← c .before .before .do-listen-token-answered .ensures, ← c .before .do-listen-token-state .ensures, ← c .respond .ensures)))

@@ -19,6 +19,6 @@ poll-accepted-spec =
     tie.close
     (tie.spec
     (λ c κs. search needs)
-    (λ c κs. clock-fits _ _ (c .before .before .before .before .read-head .ensures))
+    (λ c κs. clock-fits _ _ (c .before .before .before .before .before .read-head .ensures))
     (λ c κs. search needs)
-    (λ c. simp (← c .before .before .before .before .before .before .before .read-head .ensures, ← c .before .before .poll-inner .ensures, ← c .poll-done .ensures)))
+    (λ c. simp (← c .before .before .before .before .before .before .before .before .read-head .ensures, ← c .before .before .poll-inner .ensures, ← c .poll-done .ensures)))

@@ -10,6 +10,7 @@ poll-inner-spec =
     (tie.spec
     (λ c κs. search needs)
     (λ c κs. search needs)
-    (λ c. simp (c .before .before .before .if1 .taken, ← c .before .before .poll-inner-connected .ensures, ← c .poll-inner-online .ensures))
+    (λ c. simp (← c .before .before .is-offline .ensures, c .before .if1 .taken, ← c .done .ensures))
     (λ c κs. search needs)
-    (λ c. simp (c .before .if1 .left, ← c .done .ensures)))
+    (λ c κs. search needs)
+    (λ c. simp (← c .before .before .before .before .is-offline .ensures, c .before .before .before .if1 .left, ← c .before .before .poll-inner-entered .ensures, ← c .poll-inner-online .ensures)))

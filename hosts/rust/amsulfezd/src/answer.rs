@@ -1,4 +1,4 @@
-//! Document 01, "Answer, 64 bits", and document 02 (P5) for the next station.
+//! Document 01, "Answer, 64 bits", and document 02 for the next station (P5) and the state PassiveIdle (P10).
 
 use crate::bits::{Reader, Writer};
 use crate::number::{unknown, with_number, UnknownNumber};
@@ -36,6 +36,7 @@ pub enum State {
     PassToken = 6,
     CheckTokenPass = 7,
     AwaitStatusResponse = 8,
+    PassiveIdle = 9,
 }
 
 /// Every outcome, in the order of its number.
@@ -58,6 +59,7 @@ pub const STATES: &[State] = &[
     State::PassToken,
     State::CheckTokenPass,
     State::AwaitStatusResponse,
+    State::PassiveIdle,
 ];
 
 impl From<Outcome> for u8 {
@@ -192,8 +194,9 @@ pub struct Answer {
 }
 
 impl Answer {
-    /// Whether some entry can be answered so: only 12 to 16 refuse an entry, and then with nothing but the number, the
-    /// state, the next application and the next station; at most 8 telegrams are consumed; nobody sends 0 bytes.
+    /// Whether some entry can be answered so: only 12 to 16 refuse an entry (16 in versions before document 02, P10), and then
+    /// with nothing but the number, the state, the next application and the next station; at most 8 telegrams are consumed;
+    /// nobody sends 0 bytes.
     fn is_possible(&self) -> bool {
         let refused_well = match self.refusal {
             None => true,

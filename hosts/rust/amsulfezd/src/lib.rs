@@ -8,8 +8,10 @@
 //! | [`refusal`] | the refusal numbers of documents 01 and 02 and their words |
 //! | [`run`] | what the call returns, and the text that the program `replay` prints |
 //! | [`heard`] | when an address was heard: the entry's bytes, and the text of all of them |
+//! | [`counts`] | how often a station claimed the token, removed a neighbour and met its own address: bytes and text |
 //! | `replay` | the calls on traces, safe; only where the static library is linked |
 //! | [`frame`] | the bytes of frames; reading and writing them, safe, only where the static library is linked |
+//! | `settings` | settings in a header's bytes, safe; only where the static library is linked |
 //! | [`capture`] | a bus monitor's text; importing and exporting it, safe, only where the static library is linked |
 //! | [`number`] | the error of a number that the documents do not have |
 //! | [`words`] | numbers and settings in words |
@@ -48,6 +50,7 @@
 pub mod answer;
 mod bits;
 pub mod capture;
+pub mod counts;
 pub mod frame;
 pub mod heard;
 pub mod number;
@@ -56,5 +59,7 @@ pub mod refusal;
 #[cfg(linked)]
 pub mod replay;
 pub mod run;
+#[cfg(linked)]
+pub mod settings;
 pub mod trace;
 pub mod words;

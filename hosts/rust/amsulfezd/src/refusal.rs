@@ -23,6 +23,7 @@ pub enum Refusal {
     TelegramCount = 13,
     ZeroBit = 14,
     NoBytes = 15,
+    /// Of versions before document 02, P10: passive is accepted now, and no answer has this number any more.
     Passive = 16,
     Cut = 17,
     NoRoom = 18,
@@ -150,7 +151,7 @@ impl Refusal {
             Refusal::RecordLength => {
                 Some("must be 8 + 6 for each application + 4 for each telegram")
             }
-            Refusal::Passive => Some("this station has no passive state"),
+            Refusal::Passive => Some("that version had no passive state"),
             Refusal::GapRoom => Some("must be at least slot bits + 100"),
             Refusal::CaptureLine => Some("the time must have no leading zero and be below 2^48"),
             _ => None,

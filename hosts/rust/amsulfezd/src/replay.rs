@@ -1,10 +1,11 @@
 //! The proved calls, safe. Only where the static library is linked (see `build.rs`).
 
 use crate::answer::{Answer, ANSWER_LENGTH};
+use crate::counts::{Counts, COUNTS_LENGTH};
 use crate::heard::{Heard, HEARD_LENGTH};
 use crate::refusal::Refusal;
 use crate::run::{from_buffer, Run};
-use crate::trace::entries;
+use crate::trace::{entries, Edition};
 
 extern "C" {
     /// The proved call as `hosts/c/amsulfezd.h` documents it.
@@ -30,6 +31,14 @@ extern "C" {
         address: u8,
         entry: *mut u8,
         entry_len: usize,
+    ) -> u64;
+
+    /// The proved call as `hosts/c/amsulfezd.h` documents it.
+    fn amsulfezd_trace_counts(
+        trace: *const u8,
+        trace_len: usize,
+        counts: *mut u8,
+        counts_len: usize,
     ) -> u64;
 }
 
@@ -110,6 +119,11 @@ pub fn trace_heard(trace: &[u8], address: u8, entry: &mut [u8]) -> Result<Run, R
             entry.len(),
         )
     };
+    run_or_refusal(returned)
+}
+
+/// What a call returned that asks something of a trace's run.
+fn run_or_refusal(returned: u64) -> Result<Run, Refusal> {
     match returned % 256 {
         0 | 17 => Ok(Run::try_from(returned).expect("0 and 17 are ending numbers")),
         number => Err(Refusal::try_from(number as u8)
@@ -142,6 +156,56 @@ pub fn heard(trace: &[u8], address: u8) -> Result<(Run, Option<Heard>), Refusal>
     let run = trace_heard(trace, address, &mut entry)?;
     let heard = Heard::from_bytes(&entry).expect("the call is proved to write an entry");
     Ok((run, heard))
+}
+
+/// Runs a trace and writes the counts of its station's life to the first 12 bytes of `counts`; the bytes after them keep their
+/// value. It needs no room for answers. The run ends with [`Refusal::Cut`] where the trace ends inside an entry, and the counts
+/// are then those of the whole ones. Refused, in this order, with nothing written: the header's number, [`Refusal::NoRoom`]. A
+/// trace that ends inside its header is a run of no entries that ends with [`Refusal::Cut`], and writes nothing either.
+pub fn trace_counts(trace: &[u8], counts: &mut [u8]) -> Result<Run, Refusal> {
+    // SAFETY: as for `replay`.
+    let returned = unsafe {
+        amsulfezd_trace_counts(
+            trace.as_ptr(),
+            trace.len(),
+            counts.as_mut_ptr(),
+            counts.len(),
+        )
+    };
+    run_or_refusal(returned)
+}
+
+/// The longest trace that is run.
+const LONGEST: u64 = 1 << 32;
+
+/// Runs a trace and says how often its station claimed the token, removed a neighbour and met its own address.
+///
+/// ```
+/// use amsulfezd::counts::Counts;
+/// use amsulfezd::record::{Poll, Telegram};
+/// use amsulfezd::refusal::Refusal;
+/// use amsulfezd::replay::counts;
+/// use amsulfezd::trace::{Header, TraceBuilder};
+///
+/// // A token from our own address, and after the lost-token time, 6,400 us, a claim; offline keeps both.
+/// let mut trace = TraceBuilder::new(Header::new(5, 6, 1));
+/// trace.online();
+/// trace.poll(&Poll::at(1_000).telegram(Telegram::token(5, 9)))?;
+/// trace.poll(&Poll::at(7_400))?;
+/// trace.offline();
+/// let trace = trace.into_bytes();
+/// let (run, life) = counts(&trace).expect("an accepted header");
+/// assert_eq!((run.entries, life), (4, Counts { claims: 1, removals: 0, meetings: 1 }));
+/// assert_eq!(counts(&trace[..15]), Err(Refusal::Cut));
+/// # Ok::<(), amsulfezd::record::Unfit>(())
+/// ```
+pub fn counts(trace: &[u8]) -> Result<(Run, Counts), Refusal> {
+    let mut bytes = [0; COUNTS_LENGTH];
+    let run = trace_counts(trace, &mut bytes)?;
+    if trace.len() < Edition::of(trace).header_length() || trace.len() as u64 > LONGEST {
+        return Err(Refusal::Cut);
+    }
+    Ok((run, Counts::from_bytes(&bytes)))
 }
 
 /// Moves the header at the start of `header`, which may be a whole trace, to the other edition: 14 bytes for 16, 16 for 14.

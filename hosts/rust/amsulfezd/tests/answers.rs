@@ -79,12 +79,38 @@ fn a_status_response_carries_its_type_and_a_refusal_its_number() {
     };
     assert_eq!(Answer::try_from(word), Ok(answer));
     let refused = Answer {
+        refusal: Some(Refusal::RecordLength),
+        outcome: Outcome::None,
+        ..LISTENS
+    };
+    assert_eq!(u64::from(refused), 0x6010_0000_0000_01fc);
+    assert_eq!(Answer::try_from(0x6010_0000_0000_01fc), Ok(refused));
+}
+
+/// Document 02, P10: PassiveIdle is 9, and its answer to a request says "slave". 16 is no longer answered; a stored answer of an
+/// earlier version is read all the same.
+#[test]
+fn a_passive_station_and_the_refusal_of_earlier_versions() {
+    let bits = "00000 010 1001 011 0001001 00 000 0 00000110 0000 00 000 0000000 000 0000111 00";
+    let word = u64::from_str_radix(&bits.replace(' ', ""), 2).unwrap();
+    let answer = Answer {
+        outcome: Outcome::Transmission,
+        state: State::PassiveIdle,
+        sent: Sent::StatusResponse {
+            to: 9,
+            station_type: StationType::Slave,
+        },
+        next_station: NextStation::Station(7),
+        ..LISTENS
+    };
+    assert_eq!(u64::from(answer), word);
+    assert_eq!(Answer::try_from(word), Ok(answer));
+    let earlier = Answer {
         refusal: Some(Refusal::Passive),
         outcome: Outcome::None,
         ..LISTENS
     };
-    assert_eq!(u64::from(refused), 0x8010_0000_0000_01fc);
-    assert_eq!(Answer::try_from(0x8010_0000_0000_01fc), Ok(refused));
+    assert_eq!(Answer::try_from(0x8010_0000_0000_01fc), Ok(earlier));
 }
 
 /// Document 02, P5: 127 is nobody, in the answers of polls, commands and refused entries alike; 126 is no next station.
@@ -101,7 +127,7 @@ fn the_next_station_is_an_address_or_nobody() {
     for word in [
         0x0000_0000_0000_01fc, // a command
         0x0310_0000_0000_01fc, // a poll
-        0x8010_0000_0000_01fc, // a refused entry
+        0x6010_0000_0000_01fc, // a refused entry
     ] {
         assert_eq!(next(word), NextStation::Nobody);
         assert_eq!(next(word - (127 << 2)), NextStation::Station(0));
@@ -122,7 +148,7 @@ fn the_next_station_is_an_address_or_nobody() {
 fn words_that_no_answer_has() {
     for word in [
         0x0510_0000_0000_0014, // outcome 5
-        0x0390_0000_0000_0014, // state 9
+        0x03a0_0000_0000_0014, // state 10
         0x9810_0000_0000_0014, // refusal 19
         0x031a_0000_0000_0014, // sent kind 5
         0x0310_0000_00c0_0014, // notice 3
@@ -135,8 +161,8 @@ fn words_that_no_answer_has() {
         0x0238_0000_0000_0014, // an application's telegram of 0 bytes
         0x8810_0000_0000_0014, // refusal 17, which ends a trace and refuses no entry
         0xc810_0000_0000_0014, // refusal 25, which a header meets and no entry
-        0x8310_0000_0000_0014, // a refusal with an outcome
-        0x8010_0000_0100_0014, // a refusal with a telegram consumed
+        0x6310_0000_0000_0014, // a refusal with an outcome
+        0x6010_0000_0100_0014, // a refusal with a telegram consumed
         0x0310_0000_0000_01f8, // next station 126
     ] {
         let error = Answer::try_from(word).expect_err("not an answer");
@@ -165,7 +191,8 @@ fn states_outcomes_and_types_have_document_01s_numbers() {
         );
     }
     assert_eq!(u8::from(State::AwaitStatusResponse), 8);
-    assert!(State::try_from(9).is_err());
+    assert_eq!(u8::from(State::PassiveIdle), 9);
+    assert!(State::try_from(10).is_err());
     assert_eq!(u8::from(Outcome::Delay), 4);
     assert_eq!(Outcome::try_from(2), Ok(Outcome::Transmission));
     assert!(Outcome::try_from(5).is_err());

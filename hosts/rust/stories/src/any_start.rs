@@ -191,7 +191,7 @@ fn from_claim_token() -> Story {
 
 /// A station whose gap count has come above its gap wait of 1, with 9 in the ring: it has the token and passes it on, with 6 to be
 /// asked. Its last activity is 3,700.
-fn question_due(story: &mut Story) {
+pub fn question_due(story: &mut Story) {
     join(story, 1000, &[9]);
     takes_token(story, 2700, 9);
     declines(story, 2766);
@@ -212,7 +212,7 @@ fn question_due(story: &mut Story) {
 }
 
 /// Gap wait 1, and HSA 10, so that 6, 7 and 8 lie in the gap between 5 and 9.
-fn with_gap() -> Header {
+pub fn with_gap() -> Header {
     Header {
         gap_wait: 1,
         hsa: 10,

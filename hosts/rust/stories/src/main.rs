@@ -8,11 +8,13 @@ mod applications;
 mod bus;
 mod captures;
 mod collisions;
+mod counts;
 mod editions;
 mod fine_points;
 mod gap_room;
 mod heard;
 mod night;
+mod passive;
 mod refusals;
 mod ring;
 mod story;
@@ -53,11 +55,14 @@ fn stories() -> Vec<Story> {
     all.push(fine_points::story());
     all.push(twelve_mbaud::story());
     all.push(gap_room::story());
+    all.extend(passive::stories());
     all.extend(refusals::stories());
     all.extend(gap_room::headers());
     all.extend(editions::stories());
     all.push(captures::site());
     all.extend(heard::stories());
+    counts::state(&mut all);
+    all.extend(counts::stories());
     all
 }
 
@@ -82,7 +87,7 @@ fn counted() -> String {
     format!("{} traces and {} captures", stories().len(), captures)
 }
 
-/// The files of a story: path and content. Few stories have notes, and few say who was heard.
+/// The files of a story: path and content. Few stories have notes, few say who was heard, and many state the counts.
 fn files(folder: &Path, story: &Story) -> Vec<(PathBuf, Vec<u8>)> {
     let path = |ending: &str| folder.join(format!("{}.{}", story.name, ending));
     let mut files = vec![
@@ -97,6 +102,10 @@ fn files(folder: &Path, story: &Story) -> Vec<(PathBuf, Vec<u8>)> {
     let heard = story.heard_text();
     if !heard.is_empty() {
         files.push((path("heard"), heard.into_bytes()));
+    }
+    let counts = story.counts_text();
+    if !counts.is_empty() {
+        files.push((path("counts"), counts.into_bytes()));
     }
     files
 }

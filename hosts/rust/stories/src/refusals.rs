@@ -46,10 +46,11 @@ fn entries() -> Story {
     let mut story = Story::new(
         "refused-entries",
         station_5(),
-        "Every refusal of an entry: 12 to 16",
-        "Bad records and the command passive, in several states. Each gets an answer with its number, the state, the next application\n\
-         and the next station, and changes nothing: the bad records' clock, where they have one, is 50,000, at which a\n\
-         listening station would have claimed the token; it does so at 7,400, as if they had not been there.",
+        "Every refusal of an entry: 12 to 15",
+        "Bad records, in several states. Each gets an answer with its number, the state, the next application and the next\n\
+         station, and changes nothing: the bad records' clock, where they have one, is 50,000, at which a listening station\n\
+         would have claimed the token; it does so at 7,400, as if they had not been there. Nor does a bad record move a\n\
+         station that is told to be passive. Passive itself was refused with 16 in earlier versions.",
     );
     story.online("put online");
     story.bad_record(
@@ -150,7 +151,6 @@ fn entries() -> Story {
         Refusal::ZeroBit,
         "a response with the last of the 9 zero bits set",
     );
-    story.passive("refused in every state");
     story.poll(
         Poll::at(7399),
         bus(ListenToken),
@@ -161,7 +161,6 @@ fn entries() -> Story {
         sends_token(ClaimToken, 5),
         "6,400 us of silence: it claims the token",
     );
-    story.passive("refused in ClaimToken too; the second claim is still owed");
     story.poll(
         Poll::at(7532),
         sends_token(UseToken, 5),
@@ -178,7 +177,18 @@ fn entries() -> Story {
         Refusal::RecordLength,
         "a bad record is refused offline too",
     );
-    story.passive("and so is passive");
+    story.passive("told to be passive: accepted; the state is Offline until the next poll");
+    story.bad_record(
+        &record(13, &[]),
+        Refusal::RecordLength,
+        "a record that is refused is no poll: the state is Offline still",
+    );
+    story.poll(Poll::at(9000), bus(PassiveIdle), "it is passive");
+    story.bad_record(
+        &with_telegram(from_9_to_5(0) | 1 << STATUS_REQUEST),
+        Refusal::ZeroBit,
+        "a token with the status-request bit is refused in PassiveIdle too",
+    );
     story
 }
 

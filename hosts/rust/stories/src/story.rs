@@ -3,6 +3,7 @@
 //! The answers are statements of their own, written down field by field. Nothing here works out what a station does.
 
 use amsulfezd::answer::{Answer, NextStation, Notice, Outcome, Sent, State};
+use amsulfezd::counts::{self, Counts};
 use amsulfezd::heard::{self, Heard};
 use amsulfezd::record::{Poll, StationType, Telegram};
 use amsulfezd::refusal::Refusal;
@@ -59,7 +60,7 @@ impl Expected {
     }
 }
 
-/// The poll of a station that is not online.
+/// The poll of a station that is offline.
 pub fn stays_offline() -> Expected {
     Expected::of(Outcome::Offline, State::Offline)
 }
@@ -143,6 +144,13 @@ pub fn heard(clock: u64, telegrams: &[Telegram]) -> Poll {
     poll
 }
 
+/// What a story says of the counts.
+pub enum Stated {
+    Counts(Counts, &'static str),
+    /// There are none: the header is refused.
+    Nothing,
+}
+
 /// A trace with its story.
 pub struct Story {
     /// The files' name below `traces/`, without ending.
@@ -159,6 +167,8 @@ pub struct Story {
     notes: Vec<(u64, &'static str)>,
     /// Every address that was heard, in their order, with its entry and why it is so; empty where the story does not say.
     heard: Vec<(u8, Heard, &'static str)>,
+    /// The counts of the station's life, and why they are so; none where the story does not say.
+    pub counts: Option<Stated>,
     /// Bytes left out at the end, and the refusal that ends the run.
     cut: usize,
     ending: Option<Refusal>,
@@ -186,6 +196,7 @@ impl Story {
             lines: Vec::new(),
             notes: Vec::new(),
             heard: Vec::new(),
+            counts: None,
             cut: 0,
             ending: None,
             state: State::Offline,
@@ -216,6 +227,7 @@ impl Story {
         self.tale = tale;
         self.notes.clear();
         self.heard.clear();
+        self.counts = None;
         self
     }
 
@@ -257,6 +269,16 @@ impl Story {
         self.heard.push((address, entry, why));
     }
 
+    /// The counts of the station's life: claims, removals, meetings of its own address.
+    pub fn counts(&mut self, claims: u32, removals: u32, meetings: u32, why: &'static str) {
+        let counts = Counts {
+            claims,
+            removals,
+            meetings,
+        };
+        self.counts = Some(Stated::Counts(counts, why));
+    }
+
     /// The station is put online: the state stays as it is until the next poll.
     pub fn online(&mut self, why: &str) {
         self.trace.online();
@@ -281,10 +303,11 @@ impl Story {
         self.alone();
     }
 
-    /// The station is told to be passive: refused in every state.
+    /// The station is told to be passive: the state stays as it is until the next poll.
     pub fn passive(&mut self, why: &str) {
         self.trace.passive();
-        self.refused("passive", Refusal::Passive, why);
+        let expected = Expected::of(Outcome::None, self.state);
+        self.answered("passive", None, expected, why);
     }
 
     /// A poll and the answer to it.
@@ -379,11 +402,24 @@ impl Story {
 
     /// The text that `replay` is to print.
     pub fn answers(&self) -> String {
-        let run = Run {
+        to_text(&self.answers, &self.run())
+    }
+
+    /// How the run ends.
+    fn run(&self) -> Run {
+        Run {
             entries: self.answers.len() as u64,
             ending: self.ending,
-        };
-        to_text(&self.answers, &run)
+        }
+    }
+
+    /// The text that `counts_file` is to print; empty where the story does not state the counts.
+    pub fn counts_text(&self) -> String {
+        match self.counts {
+            None => String::new(),
+            Some(Stated::Counts(counts, _)) => counts::to_text(Some(counts), &self.run()),
+            Some(Stated::Nothing) => counts::to_text(None, &self.run()),
+        }
     }
 
     /// The notes beside the trace, a line for each; empty if there are none.
@@ -401,11 +437,7 @@ impl Story {
         }
         let entries: Vec<(u8, Heard)> =
             self.heard.iter().map(|&(a, entry, _)| (a, entry)).collect();
-        let run = Run {
-            entries: self.answers.len() as u64,
-            ending: self.ending,
-        };
-        heard::to_text(&entries, &run)
+        heard::to_text(&entries, &self.run())
     }
 
     /// The story in words.
@@ -440,6 +472,12 @@ impl Story {
                 None => "0 (the trace was read to its end)".to_string(),
             }
         ));
+        if let Some(Stated::Counts(counts, why)) = &self.counts {
+            text.push_str(&format!(
+                "Counts: claims {}, removals {}, meetings of our own address {}\n     {}\n",
+                counts.claims, counts.removals, counts.meetings, why
+            ));
+        }
         if !self.heard.is_empty() {
             text.push_str("\nWho was heard, and when; no other address was.\n\n");
         }

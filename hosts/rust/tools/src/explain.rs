@@ -1,6 +1,7 @@
 //! One line in words for each entry of a trace, made from the trace and the answers that the proved program or library
 //! gave. Nothing is worked out anew: the state before an entry is the one that the answer before it carries.
 
+use crate::counts::sentence;
 use crate::view::{Note, View};
 use amsulfezd::answer::{Answer, NextStation, Notice, Outcome, Sent, State};
 use amsulfezd::record::{Poll, Telegram};
@@ -12,7 +13,7 @@ use amsulfezd::words::settings;
 pub use amsulfezd::words::thousands;
 use std::fmt;
 
-/// Explains a run: the settings, a line for each entry that is shown, and how it ended.
+/// Explains a run: the settings, a line for each entry that is shown, how it ended, and the counts.
 pub fn explain(
     trace: &[u8],
     answers: &[Answer],
@@ -28,11 +29,16 @@ pub fn explain(
         Some(settings) => format!("{}\n{}\n", settings, range),
         None => String::new(),
     };
+    let counts = match &view.counts {
+        Some(counts) => format!("{}\n", sentence(counts)),
+        None => String::new(),
+    };
     Ok(format!(
-        "{}{}{}\n",
+        "{}{}{}\n{}",
         heading,
         table(&explained.lines, view),
-        explained.ending
+        explained.ending,
+        counts
     ))
 }
 
@@ -149,6 +155,8 @@ impl std::error::Error for NotThisTrace {}
 /// What was known before an entry.
 struct Before {
     state: State,
+    /// Whether the last command was passive, and was accepted.
+    passive: bool,
     next_application: u8,
     next_station: NextStation,
 }
@@ -161,6 +169,7 @@ fn lines<'a>(
 ) -> Result<Vec<Line<'a>>, NotThisTrace> {
     let mut before = Before {
         state: State::Offline,
+        passive: false,
         next_application: 0,
         next_station: NextStation::Nobody,
     };
@@ -172,6 +181,11 @@ fn lines<'a>(
         lines.push(line);
         before = Before {
             state: answer.state,
+            passive: match entry {
+                Entry::Online | Entry::Offline => false,
+                Entry::Passive => before.passive || answer.refusal.is_none(),
+                Entry::Poll(_) | Entry::Cut(_) => before.passive,
+            },
             next_application: answer.next_application,
             next_station: answer.next_station,
         };
@@ -194,12 +208,18 @@ fn line<'a>(
     let poll = Poll::from_bytes(record, usize::from(header.applications));
     let (came, did) = match entry {
         Entry::Cut(_) => return None,
-        Entry::Online => ("command: online".to_string(), online(answer)),
+        Entry::Online => ("command: online".to_string(), online(before, answer)),
         Entry::Offline => (
             "command: offline".to_string(),
             "is offline: a fresh station".to_string(),
         ),
-        Entry::Passive => ("command: passive".to_string(), refused(answer.refusal?)),
+        Entry::Passive => {
+            let did = match answer.refusal {
+                Some(refusal) => refused(refusal),
+                None => passive(before, answer),
+            };
+            ("command: passive".to_string(), did)
+        }
         Entry::Poll(_) => match answer.refusal {
             Some(refusal) => (
                 format!("record of {}", counted(record.len(), "byte")),
@@ -355,10 +375,27 @@ pub fn telegram_words(telegram: &Telegram) -> String {
 }
 
 /// What online did.
-fn online(answer: &Answer) -> String {
+fn online(before: &Before, answer: &Answer) -> String {
     match answer.state {
         State::Offline => "is online from now on; it moves with the next poll",
+        State::PassiveIdle if before.passive => {
+            "is online from now on; it moves with the next poll"
+        }
+        _ if before.passive => "is online again, and stays as it is",
         _ => "nothing: it is online already",
+    }
+    .to_string()
+}
+
+/// What passive did.
+fn passive(before: &Before, answer: &Answer) -> String {
+    match answer.state {
+        _ if before.passive => "nothing: it is passive already",
+        State::Offline | State::ListenToken | State::ActiveIdle => {
+            "is passive from now on; it moves with the next poll"
+        }
+        State::PassiveIdle => "is passive again, and stays as it is",
+        _ => "is passive from now on; it goes on until it listens or is idle in the ring",
     }
     .to_string()
 }
@@ -391,6 +428,9 @@ fn did(own: u8, before: &Before, poll: &Poll, answer: &Answer) -> String {
             application, address
         ),
     };
+    if before.state != State::PassiveIdle && answer.state == State::PassiveIdle {
+        text.push_str("is passive now; ");
+    }
     text.push_str(&match answer.sent {
         Sent::Nothing => waited(own, before, poll, answer),
         Sent::Token { to } => sent_token(own, before, answer, to),
@@ -541,10 +581,11 @@ fn waited_in_quiet(own: u8, before: &Before, poll: &Poll, answer: &Answer) -> St
     }
 }
 
-/// Says so if the sender of a telegram that counts has our own address: any in ListenToken, a token in ActiveIdle.
+/// Says so if the sender of a telegram has our own address: of any in ListenToken and PassiveIdle, of a token in ActiveIdle.
 fn own_address(own: u8, poll: &Poll, state: State) -> &'static str {
     let counts = |telegram: &&Telegram| {
-        state == State::ListenToken || matches!(telegram, Telegram::Token { .. })
+        matches!(state, State::ListenToken | State::PassiveIdle)
+            || matches!(telegram, Telegram::Token { .. })
     };
     let mut counted = poll.telegrams.iter().filter(counts);
     if counted.any(|telegram| telegram.source() == Some(own)) {
@@ -558,6 +599,7 @@ fn own_address(own: u8, poll: &Poll, state: State) -> &'static str {
 fn not_taken(own: u8, poll: &Poll, state: State) -> String {
     let why = match state {
         State::ListenToken => "as it only listens",
+        State::PassiveIdle => "as it is passive",
         _ => "which is not the station before it",
     };
     match poll.telegrams.last() {

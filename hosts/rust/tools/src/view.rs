@@ -1,14 +1,18 @@
-//! What is shown of a replay: all its entries or a range of them, and the notes that stand beside the trace.
+//! What is shown of a replay: all its entries or a range of them, the notes that stand beside the trace, and the counts of the
+//! station's life.
 
 use crate::explain::thousands;
+use amsulfezd::counts::Counts;
 use std::fmt;
 
-/// What is shown of a replay. Of itself it shows every entry and no note.
+/// What is shown of a replay. Of itself it shows every entry, no note and no counts.
 #[derive(Debug, Clone, Default)]
 pub struct View {
     /// None shows every entry.
     pub range: Option<Range>,
     pub notes: Vec<Note>,
+    /// The counts at the end of the whole trace, as the proved call gave them; none if they are not shown, or there are none.
+    pub counts: Option<Counts>,
 }
 
 impl View {
@@ -30,13 +34,13 @@ pub struct Range {
 }
 
 impl Range {
-    /// The range that the words after `FROM=` and `TO=` ask for, of so many answered entries. Without the one it begins
+    /// The range that the words after `--from` and `--to` ask for, of so many answered entries. Without the one it begins
     /// with the first entry, without the other it ends with the last.
     pub fn of(from: Option<&str>, to: Option<&str>, entries: usize) -> Result<Range, BadRange> {
-        let first = from.map_or(Ok(1), |word| entry_number("FROM", word, entries))?;
-        let last = to.map_or(Ok(entries), |word| entry_number("TO", word, entries))?;
+        let first = from.map_or(Ok(1), |word| entry_number("--from", word, entries))?;
+        let last = to.map_or(Ok(entries), |word| entry_number("--to", word, entries))?;
         if first > last {
-            return Err(BadRange(format!("FROM={} is after TO={}", first, last)));
+            return Err(BadRange(format!("--from {} is after --to {}", first, last)));
         }
         Ok(Range {
             first,
@@ -60,11 +64,11 @@ impl fmt::Display for Range {
 fn entry_number(name: &str, word: &str, entries: usize) -> Result<usize, BadRange> {
     match decimal(word) {
         None | Some(0) => Err(BadRange(format!(
-            "{}={} is not an entry's number; they count from 1",
+            "{} {} is not an entry's number; they count from 1",
             name, word
         ))),
         Some(number) if number > entries as u64 => Err(BadRange(format!(
-            "{}={} is beyond the trace; entries answered: {}",
+            "{} {} is beyond the trace; entries answered: {}",
             name, number, entries
         ))),
         Some(number) => Ok(number as usize),

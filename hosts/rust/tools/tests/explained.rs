@@ -5,17 +5,20 @@ mod common;
 use amsulfezd::record::{Poll, Telegram};
 use amsulfezd::run::from_text;
 use amsulfezd::trace::{Header, TraceBuilder};
-use amsulfezd_tools::explain::explain as explained;
+use amsulfezd_tools::explain::{explain as explained, NotThisTrace};
+use amsulfezd_tools::from_replay::Replay;
 use amsulfezd_tools::view::{Note, View};
-use common::{fails_with, package, printed, refuses_bad_input, run, trace};
+use common::{fails_with, made, package, printed, refuses_bad_input, trace};
 use std::path::Path;
-use std::process::Output;
 
-const PROGRAM: &str = env!("CARGO_BIN_EXE_explain");
+/// The words of a replay.
+fn words(replay: &Replay) -> Result<String, NotThisTrace> {
+    explained(&replay.trace, &replay.answers, &replay.run, &replay.view)
+}
 
-/// Runs the program on a trace with this text as its answers.
-fn explain(trace: &Path, answers: &[u8]) -> Output {
-    run(PROGRAM, trace, answers)
+/// The words of a trace with this text as its answers.
+fn explain(trace: &Path, answers: &[u8]) -> Result<String, String> {
+    made(words, trace, answers)
 }
 
 /// Each stored output is what explain prints of the trace of that name and its expected answers.
@@ -32,6 +35,12 @@ fn stored_outputs() {
         "applications",
         "unexpected",
         "fine-points",
+        "passive/spare-logger",
+        "passive/listen-token",
+        "passive/claim-token",
+        "passive/passive-idle",
+        "passive/own-address",
+        "passive/no-poll-between",
         "refused-entries",
         "cut-entry",
         "headers/03-hsa",
@@ -47,7 +56,7 @@ fn stored_outputs() {
             .join("tests/explained")
             .join(format!("{}.txt", name.replace('/', "-")));
         let expected = std::fs::read_to_string(&stored).expect("the stored output");
-        assert_eq!(printed(PROGRAM, name, &[]), expected, "{}", name);
+        assert_eq!(printed(words, name, (None, None)), expected, "{}", name);
         count += 1;
     }
     let stored = std::fs::read_dir(package().join("tests/explained")).expect("the folder");
@@ -57,17 +66,14 @@ fn stored_outputs() {
 #[test]
 fn answers_of_another_trace_are_found() {
     fails_with(
-        "explain",
         &explain(&trace("cut-entry.trace"), b"0 0\n"),
         "one cut short: yes",
     );
     fails_with(
-        "explain",
         &explain(&trace("headers/17-cut.trace"), b"0 0\n"),
         "not this trace's",
     );
     fails_with(
-        "explain",
         &explain(
             &trace("refused-entries.trace"),
             b"00000000000001fc\n03100000000001fc\n2 18\n",
@@ -96,10 +102,30 @@ fn a_listening_station_takes_no_token() {
     );
 }
 
+/// An answer of an earlier version, which refused passive, is put into words, and is nothing that the station then is.
+#[test]
+fn passive_as_earlier_versions_answered_it() {
+    let mut trace = TraceBuilder::new(Header::new(5, 6, 1));
+    trace.online();
+    trace.passive();
+    trace.online();
+    let answers = "00000000000001fc\n80000000000001fc\n00000000000001fc\n3 0\n";
+    let (answers, run) = from_text(answers).expect("a run");
+    let text = explained(&trace.into_bytes(), &answers, &run, &View::default());
+    let text = text.expect("an explanation");
+    assert!(
+        text.contains(
+            "refused with 16 (passive): that version had no passive state; nothing changes"
+        ),
+        "{}",
+        text
+    );
+}
+
 /// A change of the next station is said; a station that is alone is said to be alone, and 127 stands in no line.
 #[test]
 fn a_lone_station_is_alone() {
-    let text = printed(PROGRAM, "alone", &[]);
+    let text = printed(words, "alone", (None, None));
     let said: Vec<&str> = text
         .lines()
         .filter_map(|line| line.rsplit_once("; "))
@@ -108,7 +134,11 @@ fn a_lone_station_is_alone() {
         .collect();
     assert_eq!(said, ["next station is now 0", "is alone now"]);
     for name in ["alone", "night", "joining", "example12"] {
-        assert!(!printed(PROGRAM, name, &[]).contains("127"), "{}", name);
+        assert!(
+            !printed(words, name, (None, None)).contains("127"),
+            "{}",
+            name
+        );
     }
     // an answer that says so in CheckTokenPass, which no station gives, is still put into words
     let mut trace = TraceBuilder::new(Header::new(5, 6, 1));
@@ -124,17 +154,17 @@ fn a_lone_station_is_alone() {
 #[test]
 fn a_range_has_its_lines() {
     let squeezed = |text: &str| text.split_whitespace().collect::<Vec<_>>().join(" ");
-    let whole = printed(PROGRAM, "night", &[]);
+    let whole = printed(words, "night", (None, None));
     let whole: Vec<String> = whole.lines().map(squeezed).collect();
     let entries: Vec<&String> = whole.iter().filter(|line| !line.starts_with('*')).collect();
     let note = "* 7,800,000,000 us the panel's plug is pulled";
-    for (options, first, last, noted) in [
-        (&["FROM=24", "TO=27"][..], 24, 27, true),
-        (&["FROM=25", "TO="], 25, 36, false),
-        (&["FROM=", "TO=23"], 1, 23, false),
-        (&["TO=7", "FROM=7"], 7, 7, false),
+    for (range, first, last, noted) in [
+        ((Some("24"), Some("27")), 24, 27, true),
+        ((Some("25"), None), 25, 36, false),
+        ((None, Some("23")), 1, 23, false),
+        ((Some("7"), Some("7")), 7, 7, false),
     ] {
-        let text = printed(PROGRAM, "night", options);
+        let text = printed(words, "night", range);
         let mut lines: Vec<String> = text.lines().map(squeezed).collect();
         assert_eq!(lines[1], format!("Entries {} to {} of 36", first, last));
         assert_eq!(lines.iter().any(|line| line == note), noted, "{}", text);
@@ -145,8 +175,9 @@ fn a_range_has_its_lines() {
             .iter()
             .zip(wanted)
             .all(|(line, wanted)| line == *wanted));
-        assert_eq!(lines.len(), 3 + (last + 1 - first) + 2);
-        assert_eq!(lines.last(), whole.last(), "the same ending");
+        assert_eq!(lines.len(), 3 + (last + 1 - first) + 3);
+        let ending = |lines: &[String]| lines[lines.len() - 2..].to_vec();
+        assert_eq!(ending(&lines), ending(&whole), "the same ending and counts");
     }
 }
 
@@ -196,9 +227,8 @@ fn notes_stand_at_their_time() {
 
 #[test]
 fn no_room_is_explained() {
-    let output = explain(&trace("example12.trace"), b"00000000000001fc\n1 18\n");
-    let printed = String::from_utf8(output.stdout).expect("text");
-    assert!(output.status.success());
+    let printed = explain(&trace("example12.trace"), b"00000000000001fc\n1 18\n");
+    let printed = printed.expect("an explanation");
     assert!(printed.ends_with(
         "There was no room for the answer to entry 2; answers before it, which stand: 1. Ending number 18.\n"
     ));
@@ -206,5 +236,5 @@ fn no_room_is_explained() {
 
 #[test]
 fn bad_input_is_one_line() {
-    refuses_bad_input("explain", PROGRAM);
+    refuses_bad_input(words);
 }

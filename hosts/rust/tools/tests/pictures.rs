@@ -7,20 +7,20 @@ mod common;
 mod drawing;
 
 use amsulfezd::answer::{Answer, NextStation, Notice, Outcome, Sent, State, STATES};
+use amsulfezd::counts;
 use amsulfezd::record::{Decision, Poll, StationType, Telegram};
 use amsulfezd::run::{from_text, to_text, Run};
 use amsulfezd::trace::{entries, Entry, Header, TraceBuilder};
+use amsulfezd_tools::counts::sentence;
 use amsulfezd_tools::explain::explain;
 use amsulfezd_tools::from_replay::Replay;
 use amsulfezd_tools::picture::picture;
 use amsulfezd_tools::view::{notes, Note, Range, View};
-use common::{package, printed, refuses_bad_input, run, trace};
+use common::{made, package, printed, refuses_bad_input, trace};
 use drawing::{places, read, Element};
 
-const PROGRAM: &str = env!("CARGO_BIN_EXE_picture");
-
 /// The traces whose pictures are stored.
-const STORED: [&str; 8] = [
+const STORED: [&str; 9] = [
     "example12",
     "night",
     "applications",
@@ -29,6 +29,7 @@ const STORED: [&str; 8] = [
     "refused-entries",
     "slow-reply",
     "cut-entry",
+    "passive/spare-logger",
 ];
 
 /// A replay with a trace of traces/, its expected answers and its notes.
@@ -42,6 +43,9 @@ fn stored_replay(name: &str) -> Replay {
     );
     if let Ok(text) = std::fs::read_to_string(trace(&format!("{}.notes", name))) {
         replay.view.notes = notes(&text).expect("notes");
+    }
+    if let Ok(text) = std::fs::read_to_string(trace(&format!("{}.counts", name))) {
+        replay.view.counts = counts::from_text(&text).expect("counts").0;
     }
     replay
 }
@@ -86,9 +90,9 @@ fn drawn(replay: &Replay) -> Element {
 fn stored_pictures() {
     let folder = package().join("tests/pictures");
     for name in STORED {
-        let file = folder.join(format!("{}.svg", name));
+        let file = folder.join(format!("{}.svg", name.replace('/', "-")));
         let stored = std::fs::read_to_string(&file).expect("the stored picture");
-        same_picture(name, &printed(PROGRAM, name, &[]), &stored);
+        same_picture(name, &printed(picture, name, (None, None)), &stored);
     }
     let files = std::fs::read_dir(&folder).expect("the folder");
     let pictures = files.filter(|file| {
@@ -109,7 +113,7 @@ fn same_picture(name: &str, drawn: &str, stored: &str) {
 fn the_picture_of_the_readme() {
     let file = package().join("../../../docs/night.svg");
     let stored = std::fs::read_to_string(file).expect("the picture of README.md");
-    let drawn = printed(PROGRAM, "night", &["FROM=18", "TO=30"]);
+    let drawn = printed(picture, "night", (Some("18"), Some("30")));
     same_picture("docs/night.svg", &drawn, &stored);
     let picture = read(&stored).expect("a well-formed picture");
     assert_eq!(picture.number("width"), 900);
@@ -406,7 +410,12 @@ fn shows_the_run(replay: &Replay) -> Element {
     assert_eq!(entries_drawn.len(), range.len());
     let explained = explain(&replay.trace, &replay.answers, &replay.run, &replay.view);
     let explained = explained.expect("an explanation");
-    let ending = explained.lines().last().expect("an ending");
+    let mut last = explained.lines().rev();
+    if let Some(counts) = &replay.view.counts {
+        assert_eq!(last.next(), Some(&sentence(counts)[..]));
+        assert_eq!(joined(&picture, "counts"), sentence(counts));
+    }
+    let ending = last.next().expect("an ending");
     assert_eq!(joined(&picture, "footer"), ending);
     let header = match Header::from_bytes(&replay.trace) {
         Some(header) => header,
@@ -644,8 +653,8 @@ fn known_counts() {
         .collect();
     assert_eq!(seconds, ["2:09:59", "2:10:00"]);
     let refused = drawn(&stored_replay("refused-entries"));
-    assert_eq!(count(&refused, "refusal alarm"), 23);
-    assert_eq!(count(&refused, "command"), 5);
+    assert_eq!(count(&refused, "refusal alarm"), 22);
+    assert_eq!(count(&refused, "command"), 3);
 }
 
 /// A trace of 500 entries: a ring with a second master and two slaves, with silence, bad records, commands, long gaps.
@@ -696,6 +705,29 @@ impl Long {
         }
     }
 
+    /// The token goes on, the station is passive for a while and is asked, and is let in again, or claims the lost token.
+    fn spare(&mut self, round: u32) {
+        self.poll(200, |poll| poll.telegram(Telegram::token(9, 9)).pending(3));
+        self.command(TraceBuilder::passive);
+        self.poll(200, |poll| {
+            poll.telegram(Telegram::status_request(9, 5)).pending(6)
+        });
+        self.poll(66, |poll| poll);
+        self.command(TraceBuilder::online);
+        if round % 12 == 1 {
+            self.poll(20_000, |poll| poll);
+            self.poll(132, |poll| poll);
+            self.poll(132, |poll| poll);
+            self.poll(1, |poll| poll);
+            self.poll(200, |poll| poll.telegram(Telegram::token(9, 9)).pending(3));
+            return;
+        }
+        self.poll(500, |poll| {
+            poll.telegram(Telegram::status_request(9, 5)).pending(6)
+        });
+        self.poll(66, |poll| poll);
+    }
+
     /// The token comes, two applications ask a slave each, the token goes on, the other master asks.
     fn round(&mut self, round: u32) {
         let response = |from: u8, to: u8| Telegram::response(from, to, StationType::Slave);
@@ -719,7 +751,7 @@ impl Long {
                     self.poll(466, |poll| poll);
                 }
             }
-            1 => self.command(TraceBuilder::passive),
+            1 => self.spare(round),
             2 => self.poll(2_000_000, |poll| {
                 poll.telegram(Telegram::token(9, 12))
                     .telegram(Telegram::ShortConfirmation)
@@ -765,8 +797,7 @@ fn the_long_trace_is_the_stored_one() {
 fn five_hundred_entries_stay_readable() {
     let replay = long_replay();
     assert_eq!(replay.answers.len(), 500);
-    // all but AwaitStatusResponse
-    for &state in &STATES[..8] {
+    for &state in STATES {
         let mut answers = replay.answers.iter();
         assert!(answers.any(|answer| answer.state == state), "{:?}", state);
     }
@@ -974,7 +1005,7 @@ fn every_leaving_ends_a_lane() {
     }
     assert_eq!(
         (count, back),
-        (19, 5),
+        (21, 4),
         "leavings, and stations that come back"
     );
 }
@@ -1037,10 +1068,11 @@ fn only_alarms_are_red() {
         });
         let gave_way = replay.answers.windows(2).filter(|two| {
             let (before, after) = (two[0].state, two[1].state);
-            let listens = after == State::ListenToken && before != State::Offline;
+            let moved = matches!(before, State::Offline | State::PassiveIdle);
+            let listens = after == State::ListenToken && !moved;
+            // two collisions in the poll that begins to listen lead from Offline to Offline
             two[1].outcome == Outcome::Bus
-                && before != after
-                && (listens || after == State::Offline)
+                && (after == State::Offline || (before != after && listens))
         });
         let wanted = leavings(replay).len() + claims.count() + gave_way.count();
         let events = drawn_events(&picture);
@@ -1353,25 +1385,25 @@ fn the_checker_finds_faults() {
 
 #[test]
 fn bad_input_is_one_line() {
-    refuses_bad_input("picture", PROGRAM);
+    refuses_bad_input(picture);
 }
 
-/// The program draws what the library draws, under the name of the trace's file, with the notes beside it.
+/// A picture has the name of the trace's file, and the notes beside it.
 #[test]
-fn the_program_names_the_picture_after_the_file() {
+fn a_picture_is_named_after_the_file() {
     let folder = std::env::temp_dir().join(format!("amsulfezd-named-{}", std::process::id()));
     std::fs::create_dir_all(&folder).expect("a folder");
     let file = folder.join("a & b.trace");
     let mut replay = stored_replay("night");
     replay.name = "a & b.trace".to_string();
+    replay.view.counts = None;
     std::fs::write(&file, &replay.trace).expect("the file is written");
     let notes = trace("night.notes");
     std::fs::copy(notes, folder.join("a & b.notes")).expect("the notes are copied");
     let answers = std::fs::read(trace("night.answers")).expect("the answers");
-    let output = run(PROGRAM, &file, &answers);
+    let printed = made(picture, &file, &answers);
     std::fs::remove_dir_all(&folder).expect("the folder goes");
-    let printed = String::from_utf8(output.stdout).expect("text");
-    assert!(printed == picture(&replay).expect("a picture"));
+    assert!(printed == Ok(picture(&replay).expect("a picture")));
 }
 
 /// No room for an answer: the picture ends with the mark 18.

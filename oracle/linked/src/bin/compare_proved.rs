@@ -2,6 +2,7 @@
 
 use oracle::comparison::compare;
 use oracle::comparison::run::{Call, Calls, ORACLE};
+use oracle::counts::COUNTS;
 use oracle::editions::Edition;
 use oracle::trace::{Header, LONGEST};
 
@@ -12,12 +13,13 @@ const PROVED: Calls = Calls {
     replay_trace: &linked::replay_trace,
     other_edition: &linked::other_edition,
     trace_heard: &linked::trace_heard,
+    trace_counts: &linked::trace_counts,
 };
 
 /// Traces of 2^32 bytes and one more, with good headers of both editions and a bad one and room for two answers: the longer
 /// ones are not replayed but refused with 17 before all else; their headers move as others do. Sixteen bytes are no room for
-/// what is asked of an address, which is said before the run, and of an address above 125 first of all. `None` if there is no
-/// room for such traces.
+/// what is asked of an address, which is said before the run, and of an address above 125 first of all; eleven are none for
+/// the counts. `None` if there is no room for such traces.
 fn longest_traces() -> Option<Result<(), String>> {
     for length in [LONGEST, LONGEST + 1] {
         let good = [Edition::First, Edition::Second].map(|edition| Header::EXAMPLE_12.write_as(edition));
@@ -26,11 +28,15 @@ fn longest_traces() -> Option<Result<(), String>> {
             let heard = |calls: Calls<'static>, address: u8| {
                 move |trace: &[u8], entry: &mut [u8]| (calls.trace_heard)(trace, address, entry)
             };
-            let calls: [(&str, Call, Call); 4] = [
+            let counts = |calls: Calls<'static>| {
+                move |trace: &[u8], counts: &mut [u8]| (calls.trace_counts)(trace, &mut counts[..COUNTS - 1])
+            };
+            let calls: [(&str, Call, Call); 5] = [
                 ("replay_trace", ORACLE.replay_trace, PROVED.replay_trace),
                 ("other_edition", ORACLE.other_edition, PROVED.other_edition),
                 ("trace_heard", &heard(ORACLE, 5), &heard(PROVED, 5)),
                 ("trace_heard for 126", &heard(ORACLE, 126), &heard(PROVED, 126)),
+                ("trace_counts", &counts(ORACLE), &counts(PROVED)),
             ];
             for (name, oracle, proved) in calls {
                 let (mut ours, mut theirs) = ([0xa5; 16], [0xa5; 16]);

@@ -15,6 +15,7 @@ use super::shapes::{
     refusal_shape,
 };
 use super::svg::{shortened, text_width, wrapped, Anchor, Px, Svg};
+use crate::counts::sentence;
 use crate::explain::{thousands, Explanation, Line};
 use crate::from_replay::Replay;
 use crate::heard::sentences;
@@ -39,11 +40,14 @@ pub fn draw(replay: &Replay, explained: &Explanation) -> String {
     }
     if let Some(entries) = &replay.heard {
         bottom += 6;
-        for sentence in sentences(entries) {
-            bottom = draw_text(&mut svg, "heard", bottom, width, &sentence);
+        for words in sentences(entries) {
+            bottom = draw_text(&mut svg, "heard", bottom, width, &words);
         }
     }
     bottom = draw_text(&mut svg, "footer", bottom + 6, width, &explained.ending);
+    if let Some(counts) = &replay.view.counts {
+        bottom = draw_text(&mut svg, "counts", bottom, width, &sentence(counts));
+    }
     let description = description(explained, &scene.events);
     let (width, height) = (scene.columns.width, bottom + MARGIN);
     whole(svg, &replay.name, &description, width, height)

@@ -34,6 +34,7 @@ text{fill:#222}
 .PassToken{fill:#ffe370}
 .CheckTokenPass{fill:#fdf3c0}
 .AwaitStatusResponse{fill:#d6c3a0}
+.PassiveIdle{fill:#bfe3dc}
 .plain{fill:#e9edf1}
 .token{color:#1b4fa8}
 .token .line{stroke-width:3}

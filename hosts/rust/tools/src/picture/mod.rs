@@ -22,14 +22,14 @@
 //!
 //! Nothing is worked out anew: a picture is made from the trace and the answers that the proved program or library gave.
 
-mod arrows;
+pub mod arrows;
 mod axis;
 mod draw;
 mod events;
 mod lanes;
 mod layout;
 mod legend;
-mod presence;
+pub mod presence;
 mod shapes;
 mod svg;
 

@@ -1,8 +1,9 @@
-//! What the tests of the programs that read a trace and its answers share.
+//! What the tests of texts that are made of a trace and its answers share.
 
-use std::io::{Error, ErrorKind, Write};
+use amsulfezd::run::from_text;
+use amsulfezd_tools::explain::NotThisTrace;
+use amsulfezd_tools::from_replay::Replay;
 use std::path::{Path, PathBuf};
-use std::process::{Command, Output, Stdio};
 
 /// The folder of this package.
 pub fn package() -> PathBuf {
@@ -14,114 +15,103 @@ pub fn trace(name: &str) -> PathBuf {
     package().join("../../../traces").join(name)
 }
 
-/// Runs a program on a trace with this text as its answers.
-pub fn run(program: &str, trace: &Path, answers: &[u8]) -> Output {
-    run_with(program, trace, &[], answers)
+/// What makes a text of a replay.
+pub type Make = fn(&Replay) -> Result<String, NotThisTrace>;
+
+/// The text of a trace's file with this text as its answers, or why there is none.
+pub fn made(make: Make, file: &Path, answers: &[u8]) -> Result<String, String> {
+    made_with(make, file, (None, None), answers)
 }
 
-/// The same with more words after the trace.
-pub fn run_with(program: &str, trace: &Path, options: &[&str], answers: &[u8]) -> Output {
-    let mut program = Command::new(program)
-        .arg(trace)
-        .args(options)
-        .stdin(Stdio::piped())
-        .stdout(Stdio::piped())
-        .stderr(Stdio::piped())
-        .spawn()
-        .expect("the program starts");
-    let mut input = program.stdin.take().expect("its input");
-    // A program that refuses its words ends without its input.
-    let taken = input.write_all(answers);
-    let refused = |error: &Error| error.kind() == ErrorKind::BrokenPipe;
-    assert!(taken.as_ref().err().map_or(true, refused), "{:?}", taken);
-    drop(input);
-    program.wait_with_output().expect("the program ends")
+/// The same of the entries from one number to another.
+pub fn made_with(
+    make: Make,
+    file: &Path,
+    (from, to): (Option<&str>, Option<&str>),
+    answers: &[u8],
+) -> Result<String, String> {
+    let trace = std::fs::read(file).map_err(|error| format!("{}: {}", file.display(), error))?;
+    let text = String::from_utf8_lossy(answers);
+    let (answers, run) = from_text(&text).map_err(|error| error.to_string())?;
+    let replay = Replay::of(Some(file), trace, answers, run, from, to)?;
+    make(&replay).map_err(|error| error.to_string())
 }
 
-/// What a program prints for a trace of traces/ with its expected answers and more words after the trace.
-pub fn printed(program: &str, name: &str, options: &[&str]) -> String {
-    let answers = std::fs::read(trace(&format!("{}.answers", name))).expect("the answers");
+/// What is made of a trace of traces/ with its expected answers, and its counts, where they are stated.
+pub fn printed(make: Make, name: &str, (from, to): (Option<&str>, Option<&str>)) -> String {
+    let text = |ending: &str| std::fs::read_to_string(trace(&format!("{}.{}", name, ending)));
     let file = trace(&format!("{}.trace", name));
-    let output = run_with(program, &file, options, &answers);
-    assert!(output.status.success(), "{}", name);
-    String::from_utf8(output.stdout).expect("text")
+    let (answers, run) = from_text(&text("answers").expect("the answers")).expect("a run");
+    let bytes = std::fs::read(&file).expect("the trace");
+    let mut replay = Replay::of(Some(&file), bytes, answers, run, from, to).expect(name);
+    if let Ok(counts) = text("counts") {
+        replay.view.counts = amsulfezd::counts::from_text(&counts).expect("counts").0;
+    }
+    make(&replay).expect(name)
 }
 
-/// One line that begins with the program's name, and a status that says that it failed.
-pub fn fails_with(name: &str, output: &Output, words: &str) {
-    let said = String::from_utf8_lossy(&output.stderr).to_string();
-    assert!(!output.status.success(), "{}", said);
-    assert!(output.stdout.is_empty(), "nothing is printed");
+/// There is no text, and these words say why, on one line.
+pub fn fails_with(made: &Result<String, String>, words: &str) {
+    let said = made.as_ref().expect_err(words);
     assert_eq!(said.lines().count(), 1, "{}", said);
-    assert!(
-        said.starts_with(&format!("{}: ", name)) && said.contains(words),
-        "{}",
-        said
-    );
+    assert!(said.contains(words), "{}", said);
 }
 
 /// Input that is no trace, or no answers of the trace, is answered by one line.
-pub fn refuses_bad_input(name: &str, program: &str) {
-    let run = |file: &str, answers: &[u8]| run(program, &trace(file), answers);
-    fails_with(name, &run("nosuch.trace", b""), "nosuch.trace");
-    fails_with(name, &run("example12.trace", b""), "no line");
+pub fn refuses_bad_input(make: Make) {
+    let of = |file: &str, answers: &[u8]| made(make, &trace(file), answers);
+    fails_with(&of("nosuch.trace", b""), "nosuch.trace");
+    fails_with(&of("example12.trace", b""), "no line");
     fails_with(
-        name,
-        &run("example12.trace", b"hello\n1 0\n"),
+        &of("example12.trace", b"hello\n1 0\n"),
         "16 hexadecimal digits",
     );
     let of_night = std::fs::read(trace("night.answers")).expect("the answers");
     fails_with(
-        name,
-        &run("example12.trace", &of_night),
+        &of("example12.trace", &of_night),
         "not this trace's: entries answered: 36",
     );
-    let asked = |options: &[&str]| run_with(program, &trace("night.trace"), options, &of_night);
-    for (options, words) in [
-        (&["FROM=abc"][..], "FROM=abc is not an entry's number"),
-        (&["FROM=1.5"], "FROM=1.5 is not an entry's number"),
-        (&["FROM=+2"], "FROM=+2 is not an entry's number"),
-        (&["TO=-1"], "TO=-1 is not an entry's number"),
+    let asked = |range| made_with(make, &trace("night.trace"), range, &of_night);
+    for (from, to, words) in [
+        (Some("abc"), None, "--from abc is not an entry's number"),
+        (Some("1.5"), None, "--from 1.5 is not an entry's number"),
+        (Some("+2"), None, "--from +2 is not an entry's number"),
+        (None, Some("-1"), "--to -1 is not an entry's number"),
         (
-            &["FROM=0"],
-            "FROM=0 is not an entry's number; they count from 1",
+            Some("0"),
+            None,
+            "--from 0 is not an entry's number; they count from 1",
         ),
-        (&["FROM=10", "TO=9"], "FROM=10 is after TO=9"),
+        (Some("10"), Some("9"), "--from 10 is after --to 9"),
         (
-            &["FROM=37"],
-            "FROM=37 is beyond the trace; entries answered: 36",
-        ),
-        (
-            &["FROM=2", "TO=37"],
-            "TO=37 is beyond the trace; entries answered: 36",
+            Some("37"),
+            None,
+            "--from 37 is beyond the trace; entries answered: 36",
         ),
         (
-            &["TO=99999999999999999999"],
-            "TO=99999999999999999999 is not an entry's number",
+            Some("2"),
+            Some("37"),
+            "--to 37 is beyond the trace; entries answered: 36",
         ),
-        (&["LAST=3"], "usage: "),
-        (&["FROM"], "usage: "),
+        (
+            None,
+            Some("99999999999999999999"),
+            "--to 99999999999999999999 is not an entry's number",
+        ),
     ] {
-        fails_with(name, &asked(options), words);
+        fails_with(&asked((from, to)), words);
     }
     let refused = trace("headers/03-hsa.trace");
-    let output = run_with(program, &refused, &["FROM=1"], b"0 3\n");
     fails_with(
-        name,
-        &output,
-        "FROM=1 is beyond the trace; entries answered: 0",
+        &made_with(make, &refused, (Some("1"), None), b"0 3\n"),
+        "--from 1 is beyond the trace; entries answered: 0",
     );
-    let usage = Command::new(program)
-        .stdin(Stdio::null())
-        .output()
-        .expect("the program runs");
-    fails_with(name, &usage, &format!("usage: {} TRACE", name));
-    refuses_bad_notes(name, program);
+    refuses_bad_notes(make);
 }
 
 /// Notes that are none are answered by one line that names the file and the line in it.
-fn refuses_bad_notes(name: &str, program: &str) {
-    let folder = std::env::temp_dir().join(format!("amsulfezd-{}-{}", name, std::process::id()));
+fn refuses_bad_notes(make: Make) {
+    let folder = std::env::temp_dir().join(format!("amsulfezd-notes-{}", std::process::id()));
     std::fs::create_dir_all(&folder).expect("a folder");
     let file = folder.join("night.trace");
     std::fs::copy(trace("night.trace"), &file).expect("the trace is copied");
@@ -143,7 +133,7 @@ fn refuses_bad_notes(name: &str, program: &str) {
         (b"1000 \xff\n", "night.notes: "),
     ] {
         std::fs::write(folder.join("night.notes"), notes).expect("the notes are written");
-        fails_with(name, &run(program, &file, &answers), words);
+        fails_with(&made(make, &file, &answers), words);
     }
     std::fs::remove_dir_all(&folder).expect("the folder goes");
 }

@@ -1,0 +1,3 @@
+-- The bus tick by tick; what a setup that is not refused has.
+pub mod Run
+pub mod Sized

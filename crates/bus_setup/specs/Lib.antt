@@ -1,0 +1,3 @@
+-- The definitions, then what the loops lean on.
+pub mod Setup
+pub mod Laws

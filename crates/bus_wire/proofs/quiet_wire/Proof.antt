@@ -1,0 +1,11 @@
+use mathlib.Core.Path.{refl}
+use Rattle.bus_wire.specs.Kept.{quiet}
+use Rattle.bus_wire.proofs.quiet_wire.Statement.{statement}
+use Rattle.bus_wire.proofs.quiet_wire.Tie as tie
+
+pub quiet-wire-spec : {M : Type 1} → statement M
+unfolding quiet
+quiet-wire-spec =
+    tie.close
+    (tie.spec
+    (λ c. refl))

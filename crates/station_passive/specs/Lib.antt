@@ -1,0 +1,2 @@
+-- The definitions; there are no laws.
+pub mod Passive

@@ -1,0 +1,7 @@
+-- The statement first; then a station's entries and its part of the report, what its header starts, and the proof; then what a record
+-- lists.
+pub mod Statement
+pub mod Parts
+pub mod Start
+pub mod Theorem
+pub mod Delivered

@@ -1,0 +1,3 @@
+-- Definitions first, then what the proofs of the run's loop and of the call use.
+pub mod TraceCounts
+pub mod Laws

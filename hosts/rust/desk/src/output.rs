@@ -1,0 +1,86 @@
+//! What a command writes: a file, which gets its name when it is whole, or standard output.
+
+use crate::failure::Failure;
+use crate::input::Input;
+use clap::{Arg, ArgMatches};
+use std::io::{ErrorKind, Write};
+use std::path::{Path, PathBuf};
+
+/// The option that names a file.
+pub fn option() -> Arg {
+    Arg::new("OUT")
+        .short('o')
+        .long("output")
+        .value_name("FILE")
+        .help("writes to this file; else to standard output")
+}
+
+/// Where the words say that the output goes.
+fn named(words: &ArgMatches) -> Option<&str> {
+    words
+        .get_one::<String>("OUT")
+        .map(String::as_str)
+        .filter(|&name| name != "-")
+}
+
+/// The ending of the output's name, after its last point.
+pub fn ending(words: &ArgMatches) -> Option<&str> {
+    named(words).and_then(|name| Path::new(name).extension()?.to_str())
+}
+
+/// Writes a text.
+pub fn text(words: &ArgMatches, input: Option<&Input>, text: &str) -> Result<(), Failure> {
+    write(words, input, text.as_bytes())
+}
+
+/// Writes bytes that are no text. They do not go to a terminal.
+pub fn bytes(words: &ArgMatches, input: Option<&Input>, bytes: &[u8]) -> Result<(), Failure> {
+    if named(words).is_none() && console::Term::stdout().features().is_attended() {
+        return Err(Failure::Usage(
+            "the output is no text and does not go to a terminal: name a file with -o".to_string(),
+        ));
+    }
+    write(words, input, bytes)
+}
+
+fn write(words: &ArgMatches, input: Option<&Input>, bytes: &[u8]) -> Result<(), Failure> {
+    match named(words) {
+        None => {
+            let mut out = std::io::stdout().lock();
+            match out.write_all(bytes).and_then(|()| out.flush()) {
+                // A reader that is gone has enough.
+                Err(error) if error.kind() == ErrorKind::BrokenPipe => Ok(()),
+                written => written.map_err(|error| Failure::of_file("standard output", error)),
+            }
+        }
+        Some(name) => {
+            let same =
+                |path: &PathBuf| path.canonicalize().ok() == Path::new(name).canonicalize().ok();
+            if input
+                .and_then(|input| input.path.as_ref())
+                .map_or(false, same)
+            {
+                return Err(Failure::Usage(format!(
+                    "{} is the file that it is made from",
+                    name
+                )));
+            }
+            whole_file(Path::new(name), bytes).map_err(|error| Failure::of_file(name, error))
+        }
+    }
+}
+
+/// Writes a file beside the one that is named and gives it the name when it is whole.
+fn whole_file(file: &Path, bytes: &[u8]) -> std::io::Result<()> {
+    if file.exists() && !file.is_file() {
+        // A pipe or a device has no unfinished state.
+        return std::fs::write(file, bytes);
+    }
+    let mut part = file.as_os_str().to_os_string();
+    part.push(format!(".part-{}", std::process::id()));
+    let written = std::fs::write(&part, bytes).and_then(|()| std::fs::rename(&part, file));
+    if written.is_err() {
+        let _ = std::fs::remove_file(&part);
+    }
+    written
+}
