@@ -1,9 +1,9 @@
 #!/usr/bin/env python3
 """Writes docs/EDITS.md: for each public call of each library the must-fail edits that speak for it. An edit speaks for a call
 where it changes the call's own code, code of its crate that the call goes through, or a definition that the contract of either
-cites; where a call is thin, its body one call of another crate whose contract it has word for word, where it speaks for that one;
-and, where a call has fewer than two of these, where it speaks for a function that calls it. Fails where fewer than two edits speak
-for a call. Constants and `requires` lines are not read: an edit of one speaks for no call here.
+cites; for a call for hosts, where it speaks for a call of another crate that it passes on; and, where a call has fewer than two of
+these, where it speaks for a function that calls it. Fails where fewer than two edits speak for a call. Constants and `requires`
+lines are not read: an edit of one speaks for no call here.
 
     python3 scripts/edits.py [--check]"""
 import glob
@@ -15,6 +15,7 @@ from common import Parser, crates, fail, read, write
 
 TABLE = "docs/EDITS.md"
 ENOUGH = 2
+HOSTS = "amsulfezd"
 
 
 @dataclass
@@ -124,14 +125,9 @@ def own(f, by_name, edits):
     return sorted(set(spoken))
 
 
-def thin_over(f, by_name):
-    """The call of another crate that a function is thin over: its body is that call, and its contract that one's, word for word."""
-    body = f.text[re.search(r"\n *\{\n|\{\n", f.text).start():].strip(" \n{}")
-    if len(f.calls) != 1 or not re.fullmatch(r"\w+::\w+\([^()]*\)", body):
-        return None
-    other = by_name[next(iter(f.calls))]
-    same = re.findall(r"ensures \{.*\}", f.text) == re.findall(r"ensures \{.*\}", other.text)
-    return other if same and other.crate != f.crate else None
+def passed_on(f, by_name):
+    """The calls of other crates that a call for hosts makes: it rearranges what they take and give."""
+    return [by_name[name] for name in sorted(f.calls) if by_name[name].crate != f.crate] if f.crate == HOSTS else []
 
 
 def callers_of(f, by_name):
@@ -160,8 +156,7 @@ def rows(listed):
             edits[name] = (crate, touched(crate, edit, functions[crate], definitions[crate]))
     for f in by_name.values():
         if f.public:
-            mine, below = own(f, by_name, edits), thin_over(f, by_name)
-            mine = sorted(set(mine + own(below, by_name, edits))) if below else mine
+            mine = sorted({name for g in [f] + passed_on(f, by_name) for name in own(g, by_name, edits)})
             callers = sorted({name for g in callers_of(f, by_name) for name in own(g, by_name, edits)} - set(mine))
             yield f, mine, callers if len(mine) < ENOUGH else []
 
@@ -174,9 +169,8 @@ def main():
         "# Which must-fail edit speaks for which call",
         "",
         "Made by `python3 scripts/edits.py`; do not edit it. An edit of the second column changes the call's own code, code of its crate",
-        "that it goes through, or a definition that a contract of these cites; for a call that is thin over one of another crate, with the",
-        "same contract, the second column has that one's too. Where there are fewer than two, the third has those of the functions that",
-        "call it.",
+        "that it goes through, or a definition that a contract of these cites; for a call for hosts the second column has those of the calls",
+        "of other crates that it passes on, too. Where there are fewer than two, the third has those of the functions that call it.",
         "",
         "| Call | Edits of its own | Edits of its callers |",
         "|---|---|---|",
