@@ -254,10 +254,14 @@ build_desk() {
     desk=("${emulator[@]}" "$PWD/$linked/amsulfezd")
 }
 
-# build_oracle WORD..: builds a part of oracle/ into target/oracle; the words are cargo's.
+# oracle_cargo WORD..: cargo on oracle/, into target/oracle.
+oracle_cargo() {
+    CARGO_TARGET_DIR=target/oracle cargo "$@" --offline --quiet --manifest-path oracle/Cargo.toml
+}
+
+# build_oracle WORD..: builds a part of oracle/; the words are cargo's.
 build_oracle() {
-    CARGO_TARGET_DIR=target/oracle cargo build --offline --quiet --manifest-path oracle/Cargo.toml "$@" ||
-        fail "oracle/ does not build ($*)"
+    oracle_cargo build "$@" || fail "oracle/ does not build ($*)"
 }
 
 # The proved library is there and named for cargo, made from the sources as they are, so that no older one is compared.

@@ -21,7 +21,7 @@ trap 'wait "$library" || true' EXIT
 build_oracle --release
 
 # That the comparison can fail: wrong calls, each of which must be reported.
-tests=$(CARGO_TARGET_DIR=target/oracle cargo test --release --offline --quiet --manifest-path oracle/Cargo.toml 2>&1) || {
+tests=$(oracle_cargo test --release 2>&1) || {
     echo "$tests"
     fail "the tests of oracle/ fail"
 }

@@ -1,7 +1,7 @@
 #!/usr/bin/env bash
 # make test: first what is checked in seconds, then every crate of crates.txt proved from nothing, the must-fail edits and the
-# programs (rt ci), then the comparisons and the hosts' tests. Each part says how long it took. The last line printed is
-# rt ci's own, 'N passed, 0 failed', and only if all of it held.
+# programs (rt ci), then the comparisons and, beside them, the hosts' tests. Each part says how long it took. The last line printed
+# is rt ci's own, 'N passed, 0 failed', and only if all of it held.
 set -euo pipefail
 cd "$(dirname "$0")/.." || exit 1
 me="make test"
@@ -13,6 +13,29 @@ part() {
     shift
     "$@" || fail "this does not hold: $name"
     echo "$me: $name: $((SECONDS - begun)) s"
+}
+
+# beside NAME COMMAND..: a part that runs beside those after it. What it prints is shown by `joined`, which waits for it.
+beside() {
+    beside_name=$1
+    (part "$@") >"$log.beside" 2>&1 &
+    beside_job=$!
+}
+joined() {
+    local status=0
+    wait "$beside_job" || status=$?
+    cat "$log.beside"
+    [ "$status" -eq 0 ] || fail "this does not hold: $beside_name"
+}
+
+# Builds the Rust that needs no proof while the proofs go on, on what they leave of the processors: crates of one level wait for
+# each other. What fails here fails again in its part, and is said there.
+build_early() {
+    while [ ! -d target/stamp ]; do
+        kill -0 $$ 2>/dev/null || return
+        sleep 1
+    done
+    nice -n 19 bash scripts/build_early.sh >/dev/null 2>&1 || true
 }
 
 # Sets RT_JOBS, how many crates or edits rt checks at a time. A check takes up to 1.9 GB. Crates of one level are proved side by
@@ -35,6 +58,8 @@ choose_jobs() {
 
 # Runs rt ci. All that it prints goes on at once but for its last line, which is kept back in `verdict`.
 prove() {
+    rm -rf target || fail "target/ could not be removed"
+    build_early &
     rt ci 2>&1 | tee "$log" | awk 'NR > 1 { print line; fflush() } { line = $0 }' ||
         fail "rt ci ended with status ${PIPESTATUS[0]}: $(tail -n 1 "$log")"
     verdict=$(tail -n 1 "$log")
@@ -52,7 +77,7 @@ find_runner
 need_c_compiler
 choose_jobs
 log=$(mktemp) || fail "no temporary file could be made"
-trap 'rm -f "$log"' EXIT
+trap 'rm -f "$log" "$log.beside"; jobs -p | xargs -r kill 2>/dev/null' EXIT
 
 part "the formatter's layout (rt fmt)" rt fmt --check
 part "the shell scripts (shellcheck)" shellcheck --external-sources .ci/run scripts/*.sh
@@ -61,8 +86,11 @@ part "the tables of crates" python3 scripts/figures.py --check
 part "a claim for each public call" python3 scripts/determined.py
 part "two must-fail edits for each public call" python3 scripts/edits.py --check
 part "the proofs (rt ci)" prove
+part "the library" build_staticlib
+export LIBRARY_BUILT=yes
+beside "the hosts" bash scripts/hosts.sh
 part "the comparison with Rust" bash scripts/compare.sh
 part "the listed differences" quietly "an answer is not as listed" bash scripts/differences.sh
-part "the hosts" bash scripts/hosts.sh
+joined
 
 echo "$verdict"
