@@ -39,7 +39,7 @@ build_early() {
 }
 
 # Sets RT_JOBS, how many crates or edits rt checks at a time. A check takes up to 1.9 GB. Crates of one level are proved side by
-# side, and the next level waits for all of them; edits go in batches, and the next batch waits too: with eight at a time two cores
+# side, and the next level waits for all of them; edits go in batches, and the next batch waits too: with eleven at a time two cores
 # wait less.
 choose_jobs() {
     local free
@@ -51,7 +51,7 @@ choose_jobs() {
     free=$(awk '/^MemAvailable:/ { print int($2 / 1024) }' /proc/meminfo 2>/dev/null) || free=0
     RT_JOBS=$((${free:-0} / 2000))
     [ "$RT_JOBS" -ge 1 ] || RT_JOBS=1
-    [ "$RT_JOBS" -le 8 ] || RT_JOBS=8
+    [ "$RT_JOBS" -le 11 ] || RT_JOBS=11
     export RT_JOBS
     echo "$me: $RT_JOBS crates at a time, by ${free:-0} MiB of memory that are free; RT_JOBS=n says otherwise"
 }
