@@ -5,9 +5,9 @@ ghost use Prim.Native.Nat.{_*_, _≤_, _^_};
 ghost use lib.ListN.{length};
 ghost use Rattle.bus_run.specs.Run.{simulateNumber, simulateInto};
 ghost use Rattle.bus.specs.Reports.{answersStored, Reported};
+use bus_ticks::Bus;
 use bus_ticks::open_bus;
 use bus_ticks::tick;
-use bus_ticks::Bus;
 use codec_fields::store;
 
 // Writes the answers of a tick, 8 bytes each, from a place on; where there is no room for one it is left out.

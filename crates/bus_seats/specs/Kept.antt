@@ -14,27 +14,16 @@ use Rattle.codec_decisions.specs.declared.Decision.the-variants.{Decline}
 use Rattle.codec_records_written.specs.Stored.{headStored, decisionStored}
 use Rattle.settings.specs.declared.Parameters.{Parameters}
 use Rattle.station.specs.Whole.{Station, stationAt}
-use Rattle.station.specs.Parts.{freshStation}
-use Rattle.station_command.specs.Command.{onlineOf}
 use Rattle.station_poll.specs.Poll.{pollOf}
-use Rattle.trace.specs.Trace.{settingsAt}
-use Rattle.bus_setup.specs.Setup.{stationHeader, placedOf}
 use Rattle.bus_wire.specs.declared.Waiting.{Waiting}
 use Rattle.bus_wire.specs.declared.Wire.{Wire}
 use Rattle.bus_wire.specs.Wire.{sentTelegram, bytesTime}
-use Rattle.bus_wire.specs.Kept.{laterOf, sentOn, arrivesAt, nothingWaits, joinedOf, leftOf}
+use Rattle.bus_wire.specs.Kept.{laterOf, sentOn, arrivesAt, joinedOf, leftOf}
 use Rattle.bus_seats.specs.declared.Seat.{Seat}
 use Rattle.bus_seats.specs.declared.Record.{Record}
 use Rattle.bus_seats.specs.declared.Turn.{Turn}
 use Rattle.bus_seats.specs.declared.Place.{Place}
-use Rattle.bus_run.specs.Run.{settingsIn, headAt}
-
--- a seat at the start
-pub record SeatStarts (setup : List ℕ) (n place : ℕ) (c : Seat) : Type 0 where
-  pub station :
-      stationAt (c .station) (c .links) ≡ onlineOf (freshStation (settingsIn (settingsAt (stationHeader setup (placedOf setup n place)))) 1) .station
-  pub waiting : c .waiting ≡ nothingWaits
-  pub until : c .until ≡ 0
+use Rattle.bus_run.specs.Run.{headAt}
 
 -- the telegrams that a record lists
 unfoldable pub offeredOf : Waiting → Wire → ℕ → ℕ → Waiting

@@ -24,12 +24,7 @@ use Rattle.codec_records_written.specs.Stored.{headStored, decisionStored, tele
 use Rattle.codec_records_written.specs.Whole.{recordBytes, decisionsStored, telegramsStored, recordStored}
 use Rattle.codec_records_written.specs.Written.{round-trip}
 use Rattle.settings.specs.declared.Parameters.{Parameters}
-use Rattle.settings.specs.declared.Created.{Created}
-use Rattle.station.specs.Whole.{Station, Started, stationAt}
-use Rattle.station.specs.Parts.{freshStation, newStation}
-use Rattle.station_command.specs.Command.{onlineOf}
-use Rattle.trace.specs.Trace.{settingsAt}
-use Rattle.bus_setup.specs.Setup.{stationHeader, placedOf}
+use Rattle.station.specs.Whole.{Station, stationAt}
 use Rattle.station_answer.specs.Answer.{Polled}
 use Rattle.station_poll.specs.Poll.{pollOf}
 use Rattle.bus_wire.specs.declared.Waiting.{Waiting}
@@ -43,7 +38,7 @@ use Rattle.codec_answers.specs.declared.Answer.{Answer}
 use Rattle.station.specs.declared.Station.{Station as StationKept}
 use Rattle.bus_seats.specs.declared.Record.{Record}
 use Rattle.bus_seats.specs.declared.Turn.{Turn}
-use Rattle.bus_run.specs.Run.{settingsIn, Seat, Bus, given, headAt, declines, telegramIn, recordOf, recordFor, polledFor, answerFor, seatAfter}
+use Rattle.bus_run.specs.Run.{Seat, Bus, given, headAt, declines, telegramIn, recordOf, recordFor, polledFor, answerFor, seatAfter}
 use Rattle.bus_seats.specs.Kept.{offeredOf, recordLengthOf, wordOf, wordsStored, recordStoredOf, recordKept, RecordIs, TurnIs}
 
 -- The words are written one by one.
@@ -175,19 +170,6 @@ module _ (tick now place : ℕ) (b : Bus) (heard : Wire) (c : SeatKept) (r : Tur
         waits = rw (turn .waiting-after, turn-answer) (waits-left offers (answerFor tick b now place .consumed));
         until-is = turn .until-after ∙ g .until-is;
       }
-
--- A seat at the start, from what its calls ensure.
-pub seat-opened :
-    (setup : List ℕ) (n place j : ℕ) (header : List ℕ) (created : Created) (p : Parameters) (started : Started) (online : Polled)
-    → j ≡ placedOf setup n place
-    → header ≡ stationHeader setup j
-    → created ≡ settingsAt header
-    → p ≡ settingsIn created
-    → started ≡ newStation p 1
-    → online ≡ onlineOf (started .station)
-    → online .station ≡ onlineOf (freshStation (settingsIn (settingsAt (stationHeader setup (placedOf setup n place)))) 1) .station
-unfolding newStation
-seat-opened setup n place j header created p started online a b c d e f = rw (f, e, d, c, b, a)
 
 -- A record that is written into the front of an array.
 pub part-kept : (n : ℕ) (l part : List ℕ) → n ≤ length l → length part ≡ length (midOf 0 (n - 0) l) → take n (putMid 0 (n - 0) l part) ≡ part

@@ -1,15 +1,13 @@
-// The seats of a simulated bus (document 02, P12): a station with what waits for it, opened, and its turn at a tick. A station is polled
-// through `station_poll::poll` on record bytes that the record writer wrote, so that what it saw is a trace entry. Memory is fixed. It
-// leans on bus_setup for the station's header, on bus_wire for what is on the bus, and on the station's calls.
+// The seats of a simulated bus (document 02, P12): a station with what waits for it, and its turn at a tick. A station is polled through
+// `station_poll::poll` on record bytes that the record writer wrote, so that what it saw is a trace entry. Memory is fixed. It leans on
+// bus_wire for what is on the bus, on the record writer and on `station_poll`.
 ghost use mathlib.Core.Path.{_≡_};
 ghost use Prim.Native.Nat.{_≤_, _<_, _^_};
 ghost use lib.ListN.{length, take};
 ghost use Rattle.station.specs.Whole.{stationAt};
 ghost use Rattle.station_answer.specs.Answer.{polledAt};
 ghost use Rattle.station_poll.specs.Poll.{pollOf};
-ghost use Rattle.bus_run.specs.Run.{settingsIn};
-ghost use Rattle.bus_seats.specs.Kept.{SeatStarts, offeredOf, recordLengthOf, wordOf, wordsStored, recordStoredOf, RecordIs, TurnIs, untilAfter, wireAfter, PlaceIs};
-use bit_times::Baud;
+ghost use Rattle.bus_seats.specs.Kept.{offeredOf, recordLengthOf, wordOf, wordsStored, recordStoredOf, RecordIs, TurnIs, untilAfter, wireAfter, PlaceIs};
 use bus_wire::Waiting;
 use bus_wire::Wire;
 use codec_answers::Answer;
@@ -19,9 +17,7 @@ use codec_fields::store;
 use codec_records::Head;
 use codec_records_written::store_decision;
 use codec_records_written::store_head;
-use settings::Created;
 use settings::Parameters;
-use settings_watchdog::WatchdogFactors;
 use station::Station;
 use station_answer::Polled;
 
@@ -58,45 +54,6 @@ pub struct Place {
 struct Sending {
     wire: Wire,
     until: u64,
-}
-
-// The settings that a station's header gives.
-fn settings_in(created: Created) -> Parameters
-    ensures { λ r. ⌜ r ≡ settingsIn created ⌝ }
-{
-    match created {
-        Created::Accepted(p) => p,
-        Created::Refused(_) => Parameters {
-            token_rotation_bits: 32436,
-            slot_bits: 100,
-            address: 0,
-            baudrate: Baud::B9600,
-            gap_wait_rotations: 10,
-            highest_station_address: 126,
-            max_retry_limit: 1,
-            min_tsdr_bits: 11,
-            watchdog_factors: WatchdogFactors::None,
-        },
-    }
-}
-
-// The station at a place, fresh and online.
-pub fn open_seat(setup: &[u8], n: u8, place: u8) -> Seat
-    ensures { λ r. ⌜ SeatStarts (now (setup .entry)) n place r ⌝ }
-{
-    let mut header = [0u8; 16];
-    bus_setup::write_header(setup, bus_setup::placed(setup, n, place), &mut header);
-    let created = trace::trace_settings(&header);
-    let mut links = [127u8; 252];
-    let started = Station::new(settings_in(created), 1, &mut links);
-    let online = station_command::set_online(started.station, &links);
-    let station = online.station;
-    Seat {
-        station,
-        links,
-        waiting: bus_wire::nothing_waits(),
-        until: 0,
-    }
 }
 
 // The telegrams that a record lists: those that wait, and the one that arrives.

@@ -8,19 +8,45 @@ use native.Mathlib.Numerals.{add-one}
 use native.Mathlib.Nat.{eq-or-lt-of-le, suc-mul, zero-mul}
 use lib.ListN.{length, getD, set, replicate, length-set, length-replicate}
 use lib.Seq.{getD-set-same, getD-set-other}
-use Rattle.bus_setup.specs.Setup.{stationsOf, tickOf, ticksOf}
-use Rattle.bus_wire.specs.Kept.{quiet}
+use Rattle.settings.specs.declared.Parameters.{Parameters}
+use Rattle.settings.specs.declared.Created.{Created}
+use Rattle.station.specs.Whole.{Station, Started, stationAt}
+use Rattle.station.specs.Parts.{freshStation, newStation}
+use Rattle.station_answer.specs.Answer.{Polled}
+use Rattle.station_command.specs.Command.{onlineOf}
+use Rattle.trace.specs.Trace.{settingsAt}
+use Rattle.bus_setup.specs.Setup.{stationsOf, tickOf, ticksOf, stationHeader, placedOf}
+use Rattle.bus_wire.specs.Kept.{quiet, nothingWaits}
 use Rattle.bus_wire.specs.Waits.{waits-none}
 use Rattle.bus_wire.specs.Arrives.{wire-quiet, ownLatest}
-use Rattle.bus_run.specs.Run.{startSeat, busAfter, busAt}
+use Rattle.bus_run.specs.Run.{settingsIn, startSeat, busAfter, busAt}
 use Rattle.bus_seats.specs.declared.Seat.{Seat as SeatKept}
-use Rattle.bus_seats.specs.Kept.{SeatStarts}
 use Rattle.bus_seats.specs.Turns.{SeatIs}
 use Rattle.bus_ticks.specs.declared.Bus.{Bus as BusKept}
 use Rattle.bus_ticks.specs.declared.Ticked.{Ticked}
 use Rattle.bus_ticks.specs.Ticks.{BusIs, TickIs, Ticks}
 
 -- The start.
+
+-- a seat at the start
+pub record SeatStarts (setup : List ℕ) (n place : ℕ) (c : SeatKept) : Type 0 where
+  pub station :
+      stationAt (c .station) (c .links) ≡ onlineOf (freshStation (settingsIn (settingsAt (stationHeader setup (placedOf setup n place)))) 1) .station
+  pub waiting : c .waiting ≡ nothingWaits
+  pub until : c .until ≡ 0
+
+-- from what its calls ensure
+pub seat-opened :
+    (setup : List ℕ) (n place j : ℕ) (header : List ℕ) (created : Created) (p : Parameters) (started : Started) (online : Polled)
+    → j ≡ placedOf setup n place
+    → header ≡ stationHeader setup j
+    → created ≡ settingsAt header
+    → p ≡ settingsIn created
+    → started ≡ newStation p 1
+    → online ≡ onlineOf (started .station)
+    → online .station ≡ onlineOf (freshStation (settingsIn (settingsAt (stationHeader setup (placedOf setup n place)))) 1) .station
+unfolding newStation
+seat-opened setup n place j header created p started online a b c d e f = rw (f, e, d, c, b, a)
 
 -- a fresh station at each place, and nothing was sent
 pub record BusStarts (setup : List ℕ) (n : ℕ) (c : BusKept) : Type 0 where

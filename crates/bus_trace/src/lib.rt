@@ -9,9 +9,9 @@ ghost use Rattle.bus_setup.specs.Setup.{stationsOf, setupRefusal};
 ghost use Rattle.bus_run.specs.Run.{traceOf, traceNumber, traceInto};
 ghost use Rattle.bus_trace.specs.Traces.{byteIn, bytesIn, Traced};
 use bus_seats::Record;
+use bus_ticks::Bus;
 use bus_ticks::open_bus;
 use bus_ticks::tick;
-use bus_ticks::Bus;
 
 // Writes a byte; where there is no room for it, it is left out.
 fn put_byte(trace: &mut [u8], at: usize, byte: u8)

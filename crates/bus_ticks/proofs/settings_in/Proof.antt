@@ -1,7 +1,7 @@
--- `bus_seats::settings_in` meets its contract: settings, or those that stand for none. Assumes nothing.
+-- `bus_ticks::settings_in` meets its contract: settings, or those that stand for none. Assumes nothing.
 use borrow.Author.Needs.{needs}
-use Rattle.bus_seats.proofs.settings_in.Statement.{statement}
-use Rattle.bus_seats.proofs.settings_in.Tie as tie
+use Rattle.bus_ticks.proofs.settings_in.Statement.{statement}
+use Rattle.bus_ticks.proofs.settings_in.Tie as tie
 
 pub settings-in-spec : {M : Type 1} → statement M
 settings-in-spec =

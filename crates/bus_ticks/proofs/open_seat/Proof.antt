@@ -1,10 +1,10 @@
--- `bus_seats::open_seat` meets its contract: a fresh station of the header, online. Assumes nothing.
+-- `bus_ticks::open_seat` meets its contract: a fresh station of the header, online. Assumes nothing.
 use mathlib.Core.Path.{refl, sym, ap, _∙_}
 use borrow.Author.Needs.{needs}
 use Rattle.bus_setup.specs.Laws.{header-length}
-use Rattle.bus_seats.specs.Turns.{seat-opened}
-use Rattle.bus_seats.proofs.open_seat.Statement.{statement}
-use Rattle.bus_seats.proofs.open_seat.Tie as tie
+use Rattle.bus_ticks.specs.Starts.{seat-opened}
+use Rattle.bus_ticks.proofs.open_seat.Statement.{statement}
+use Rattle.bus_ticks.proofs.open_seat.Tie as tie
 
 slice-aggregate-trace-settings : tie.Need-slice-aggregate-trace-settings
 slice-aggregate-trace-settings c = rw (c .before .write-header .ensures) (sym (header-length _ _))
