@@ -114,7 +114,8 @@ enum amsulfezd_refusal {
     AMSULFEZD_REFUSAL_PASSIVE = 16,         /* passive; of earlier versions, no longer answered */
     AMSULFEZD_REFUSAL_CUT = 17,             /* trace ends inside header or entry, or is above 2^32 bytes */
     AMSULFEZD_REFUSAL_NO_ROOM = 18,         /* no 8 bytes left for an answer; no room for what is to be written */
-    /* Document 02's: 25 of a header, 26 of an address asked for, 31 to 33 of a capture, the others of a frame. */
+    /* Document 02's: 25 of a header, 26 of an address asked for, 27 to 30 and 35 of a simulation's setup, 31 to 33 of a capture,
+       the others of a frame. */
     AMSULFEZD_REFUSAL_FRAME_CUT = 19,         /* frame empty or cut short */
     AMSULFEZD_REFUSAL_START_BYTE = 20,        /* start byte */
     AMSULFEZD_REFUSAL_FRAME_HEADER = 21,      /* SD2 header: its repeated bytes differ, or the length is outside 4..249 */
@@ -123,10 +124,15 @@ enum amsulfezd_refusal {
     AMSULFEZD_REFUSAL_ADDRESS_EXTENSION = 24, /* address extension bit */
     AMSULFEZD_REFUSAL_GAP_ROOM = 25,          /* rotation with no room for a gap poll: below slot bits + 100 */
     AMSULFEZD_REFUSAL_ASKED_ADDRESS = 26,     /* who was heard: an address above 125 is asked for */
+    AMSULFEZD_REFUSAL_EQUAL_ADDRESSES = 27,   /* two stations of a setup with equal addresses */
+    AMSULFEZD_REFUSAL_TICK = 28,              /* a setup's tick outside 1..1,000,000 us */
+    AMSULFEZD_REFUSAL_STATIONS = 29,          /* a setup's number of stations outside 2..8; no station with that place */
+    AMSULFEZD_REFUSAL_BAUD_CODES = 30,        /* the baud codes of a setup's stations differ */
     AMSULFEZD_REFUSAL_CAPTURE_LINE = 31,      /* a capture's line that is not built as it should be, or bytes after its frame */
     AMSULFEZD_REFUSAL_CAPTURE_TIME = 32,      /* a time below the one before */
     AMSULFEZD_REFUSAL_CAPTURE_COUNT = 33,     /* more than 8 lines of one time */
-    AMSULFEZD_REFUSAL_FUNCTION_CODE = 34      /* top bit of the function code set; to be written: any other request */
+    AMSULFEZD_REFUSAL_FUNCTION_CODE = 34,     /* top bit of the function code set; to be written: any other request */
+    AMSULFEZD_REFUSAL_TICKS = 35              /* a setup with more than 1,000,000 ticks */
 };
 
 /* How a poll ended. */
@@ -741,6 +747,14 @@ static inline const char *amsulfezd_refusal_words(unsigned number)
         return "rotation with no room for a gap poll";
     case AMSULFEZD_REFUSAL_ASKED_ADDRESS:
         return "who was heard: an address above 125";
+    case AMSULFEZD_REFUSAL_EQUAL_ADDRESSES:
+        return "two stations with equal addresses";
+    case AMSULFEZD_REFUSAL_TICK:
+        return "tick";
+    case AMSULFEZD_REFUSAL_STATIONS:
+        return "number of stations, or no station with that place";
+    case AMSULFEZD_REFUSAL_BAUD_CODES:
+        return "baud codes differ";
     case AMSULFEZD_REFUSAL_CAPTURE_LINE:
         return "a line that is not a time, one space, a frame in pairs of hex digits and a line feed, or has bytes after its frame";
     case AMSULFEZD_REFUSAL_CAPTURE_TIME:
@@ -749,6 +763,8 @@ static inline const char *amsulfezd_refusal_words(unsigned number)
         return "more than 8 of one time";
     case AMSULFEZD_REFUSAL_FUNCTION_CODE:
         return "top bit of the function code set; to be written, any other request";
+    case AMSULFEZD_REFUSAL_TICKS:
+        return "more than 1,000,000 ticks";
     default:
         return "unknown";
     }
