@@ -5,6 +5,7 @@ mod programs;
 
 use oracle::comparison::calls::{oracle, Left};
 use oracle::comparison::hex;
+use oracle::records::Telegram;
 use oracle::simulations::compare::{compare_answers, compare_simulations, made, Simulate, Trace};
 use oracle::simulations::simulation::{simulate, simulated_trace, Setup};
 use oracle::simulations::tries::{bytes_of, setup_at_random, Try};
@@ -314,6 +315,46 @@ fn setups_at_random_are_accepted() {
         let setup = setup_at_random(5, index);
         assert!(Setup::read(&setup).is_ok(), "{}: {}", index, hex(&setup));
     }
+}
+
+/// The stories of traces/simulations, stated by hand, by the oracle: a setup's bytes, and each telegram with its fate.
+#[test]
+fn the_stories_hold() {
+    let folder = concat!(env!("CARGO_MANIFEST_DIR"), "/../traces/simulations");
+    let mut count = 0;
+    for file in std::fs::read_dir(folder).expect("the folder") {
+        let path = file.expect("a file").path();
+        if path.extension().and_then(|ending| ending.to_str()) != Some("bus") {
+            continue;
+        }
+        let stated = std::fs::read_to_string(&path).expect("a file");
+        let (digits, stated) = stated.split_once('\n').expect("the setup's bytes");
+        let pair = |at| u8::from_str_radix(&digits[at..at + 2], 16).expect("digits");
+        let bytes: Vec<u8> = (0..digits.len()).step_by(2).map(pair).collect();
+        let setup = Setup::read(&bytes).expect("an accepted setup");
+        let sent = setup.run(&mut |_, _, _, _| ());
+        let mut left = String::new();
+        for one in &sent {
+            let (what, to) = match one.telegram {
+                Telegram::Token { destination, .. } => ("token", destination),
+                Telegram::Request { destination, .. } => ("status-request", destination),
+                Telegram::Response { destination, .. } => ("status-response", destination),
+                Telegram::ShortConfirmation => panic!("nobody sends it"),
+            };
+            let clocks = (0..setup.ticks).map(|k| k * setup.tick);
+            let fate = match clocks.filter(|now| one.due(*now, setup.tick) && !one.lost(&sent)).collect::<Vec<u64>>()[..]
+            {
+                [] => "lost".to_string(),
+                [clock] => clock.to_string(),
+                _ => panic!("it is due twice"),
+            };
+            let from = setup.stations[one.place].address;
+            left.push_str(&format!("{} {} {} {} {}\n", one.start, from, what, to, fate));
+        }
+        assert_eq!(left, stated, "{}", path.display());
+        count += 1;
+    }
+    assert_eq!(count, 3);
 }
 
 const COMPARE_SIMULATIONS: &str = env!("CARGO_BIN_EXE_compare_simulations");
