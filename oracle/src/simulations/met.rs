@@ -104,6 +104,15 @@ impl Met {
         if number == 30 && stations.iter().any(|one| one[1] > 10) {
             self.hit(AS_GIVEN, Said("a baud code that is none"));
         }
+        if number == 30
+            && stations.windows(2).all(|two| two[0][1] == two[1][1] || two[1] == stations[stations.len() - 1])
+        {
+            self.hit(AS_GIVEN, Said("the last baud code alone differs"));
+        }
+        let side_by_side = stations.windows(2).any(|two| two[0][0] == two[1][0]);
+        if number == 27 && !side_by_side {
+            self.hit(AS_GIVEN, Said("equal addresses that are not given side by side"));
+        }
         if number == 1 && addresses.contains(&0x82) {
             self.hit(AS_GIVEN, Said("82h as address"));
         }
@@ -319,7 +328,14 @@ impl Meets<Try> for Met {
         };
         points.group(TWO_SETTINGS, pairs(in_one_station));
         points.group(TWO_STATIONS, pairs(in_two_stations));
-        points.group(AS_GIVEN, ["two addresses that are none", "a baud code that is none", "82h as address"]);
+        let as_given = [
+            "two addresses that are none",
+            "a baud code that is none",
+            "82h as address",
+            "the last baud code alone differs",
+            "equal addresses that are not given side by side",
+        ];
+        points.group(AS_GIVEN, as_given);
         points.group(ACCEPTED, numbered("stations:", STATIONS));
         points.group(CODE, numbered("code", 0..=10));
         points.group(GIVEN, ["rising", "another"]);

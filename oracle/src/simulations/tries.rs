@@ -111,6 +111,20 @@ fn with_faults() -> Vec<Try> {
         setups.push(bytes_of(400, 10, &stations));
         setups.push(bytes_of(400, 10, &stations)[..HEAD].to_vec());
     }
+    // of three stations and more, each with another baud code, and each two with one address
+    for count in 3..=STATIONS.count() + 1 {
+        let stations: Vec<Header> = (0..count as u8).map(|address| Header { address, ..Header::EXAMPLE_12 }).collect();
+        for i in 0..count {
+            let mut other = stations.clone();
+            other[i].baud = 7;
+            setups.push(bytes_of(400, 10, &other));
+            for j in 0..i {
+                let mut equal = stations.clone();
+                equal[i].address = equal[j].address;
+                setups.push(bytes_of(400, 10, &equal));
+            }
+        }
+    }
     let mut tries = Vec::new();
     for setup in setups {
         let (report, trace) = enough(&setup);
