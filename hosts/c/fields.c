@@ -446,6 +446,7 @@ static void test_header_2(void)
     }
     check(amsulfezd_written(1000 * 256 + 25) == 1000, "bytes written", "1000 * 256 + 25");
     check(amsulfezd_number(14 * 256 + 25) == 25, "refusal number", "14 * 256 + 25");
+    check(amsulfezd_ticks(UINT64_C(1000000) * 256) == 1000000, "ticks", "1000000 * 256");
 }
 
 static void test_commands(void)

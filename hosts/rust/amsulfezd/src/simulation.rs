@@ -241,6 +241,121 @@ fn station_of(address: &str, words: &[&str]) -> Result<Header, String> {
     Ok(station)
 }
 
+#[cfg(linked)]
+pub use linked::{simulate, simulate_whole, simulated_trace, simulated_trace_whole};
+
+#[cfg(linked)]
+mod linked {
+    use super::{LONGEST_ENTRY, TRACE_BEGIN};
+    use crate::answer::{Answer, ANSWER_LENGTH};
+    use crate::refusal::Refusal;
+
+    extern "C" {
+        /// The proved calls as `hosts/c/amsulfezd.h` documents them.
+        fn amsulfezd_simulate(
+            setup: *const u8,
+            setup_len: usize,
+            report: *mut u8,
+            report_len: usize,
+        ) -> u64;
+        fn amsulfezd_simulated_trace(
+            setup: *const u8,
+            setup_len: usize,
+            station: u8,
+            trace: *mut u8,
+            trace_len: usize,
+        ) -> u64;
+    }
+
+    /// What a call returned, taken apart: what was done × 256 + the refusal's number.
+    fn taken_apart(returned: u64) -> Result<usize, Refusal> {
+        match (returned % 256) as u8 {
+            0 => Ok((returned / 256) as usize),
+            number => Err(Refusal::try_from(number)
+                .expect("the calls are proved to return one of their numbers")),
+        }
+    }
+
+    /// Simulates a setup and writes the report: 8 bytes an answer, tick by tick, within a tick by rising address. Gives the
+    /// ticks. Refused, nothing is written.
+    ///
+    /// ```
+    /// use amsulfezd::refusal::Refusal;
+    /// use amsulfezd::simulation::{simulate, Setup};
+    /// use amsulfezd::trace::Header;
+    ///
+    /// let mut setup = Setup { tick: 2000, ticks: 3, stations: vec![Header::new(5, 6, 1), Header::new(2, 6, 1)] };
+    /// let mut report = [0; 8 * 2 * 3];
+    /// assert_eq!(simulate(&setup.to_bytes(), &mut report), Ok(3));
+    /// // at 4,000 us station 2 claims the token
+    /// assert_eq!(report[32..40], [0x02, 0x42, 0x08, 0x00, 0x30, 0x00, 0x01, 0xfc]);
+    /// setup.tick = 0;
+    /// assert_eq!(simulate(&setup.to_bytes(), &mut report), Err(Refusal::Tick));
+    /// ```
+    pub fn simulate(setup: &[u8], report: &mut [u8]) -> Result<usize, Refusal> {
+        // SAFETY: both pointers come from slices and are valid for the lengths given; as `report` is borrowed mutably the two do
+        // not overlap. The library keeps neither, and it is proved to stay inside them and to return.
+        let returned = unsafe {
+            amsulfezd_simulate(
+                setup.as_ptr(),
+                setup.len(),
+                report.as_mut_ptr(),
+                report.len(),
+            )
+        };
+        taken_apart(returned)
+    }
+
+    /// The stations and the ticks that a setup's bytes name, if its head is there and they can be run: the room that is made for a
+    /// setup that is refused need not be large.
+    fn asked_for(setup: &[u8]) -> (usize, usize) {
+        match *setup {
+            [stations @ 2..=8, _, _, _, _, a, b, c, d, ..] => {
+                let ticks = u32::from_be_bytes([a, b, c, d]);
+                (usize::from(stations), ticks.min(1_000_000) as usize)
+            }
+            _ => (0, 0),
+        }
+    }
+
+    /// Simulates with room for the report; gives the answers, tick by tick, within a tick by rising address.
+    pub fn simulate_whole(setup: &[u8]) -> Result<Vec<Answer>, Refusal> {
+        let (stations, ticks) = asked_for(setup);
+        let mut report = vec![0; ANSWER_LENGTH * stations * ticks];
+        simulate(setup, &mut report)?;
+        let answers = report.chunks(ANSWER_LENGTH).map(|bytes| {
+            let bytes: [u8; ANSWER_LENGTH] = bytes.try_into().expect("8 bytes");
+            Answer::try_from(u64::from_be_bytes(bytes))
+                .expect("the call is proved to write answers")
+        });
+        Ok(answers.collect())
+    }
+
+    /// Simulates a setup for one station and writes its trace: its header, online, and the record of each tick. `station` is its
+    /// place by rising address, from 0. Gives the bytes written. Refused, nothing is written.
+    pub fn simulated_trace(setup: &[u8], station: u8, trace: &mut [u8]) -> Result<usize, Refusal> {
+        // SAFETY: as for `simulate`.
+        let returned = unsafe {
+            amsulfezd_simulated_trace(
+                setup.as_ptr(),
+                setup.len(),
+                station,
+                trace.as_mut_ptr(),
+                trace.len(),
+            )
+        };
+        taken_apart(returned)
+    }
+
+    /// Simulates with room for the trace.
+    pub fn simulated_trace_whole(setup: &[u8], station: u8) -> Result<Vec<u8>, Refusal> {
+        let mut trace = vec![0; TRACE_BEGIN + LONGEST_ENTRY * asked_for(setup).1];
+        let written = simulated_trace(setup, station, &mut trace)?;
+        trace.truncate(written);
+        Ok(trace)
+    }
+}
+
 #[cfg(test)]
 mod tests {
     use super::*;
