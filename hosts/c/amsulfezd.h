@@ -40,7 +40,7 @@
  *
  * Stack. A call uses at most AMSULFEZD_STACK_BYTES of the caller's stack, its return address included, whatever the
  * trace's length; the two calls on a simulated bus, which keep eight stations there, at most AMSULFEZD_SIMULATION_STACK_BYTES.
- * Measured: 18,456 bytes for these two, else 4,840 bytes (amsulfezd_trace_heard, which keeps its table there), with the library of the
+ * Measured: 15,272 and 18,456 bytes for these two, else 5,304 bytes (amsulfezd_trace_heard, which keeps its table there), with the library of the
  * toolchain rattle-kit-5b. The method: the call runs on a stack of its own that was filled with a pattern, and the deepest
  * byte that changed is looked for, over all traces of traces/, one of 100,000 entries and 1,000 traces made at random,
  * which reach every state and every kind of send; each is replayed, asked for an address that was heard and for its

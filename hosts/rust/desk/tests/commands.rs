@@ -566,8 +566,8 @@ fn made_from_the_same_text() {
     let page = printed(&["manual"]);
     let completion = printed(&["completion", "bash"]);
     for command in [
-        "replay", "explain", "picture", "view", "heard", "import", "export", "frame", "header",
-        "settings", "watchdog",
+        "replay", "explain", "picture", "view", "heard", "import", "export", "simulate", "frame",
+        "header", "settings", "watchdog",
     ] {
         assert!(
             page.contains(&format!(".SS amsulfezd {}", command)),
@@ -610,7 +610,7 @@ fn simulations() {
             let sent = bus.lines().skip(1).map(|line| line.split(' '));
             let sent = sent.filter(|words| words.clone().nth(1) == Some(&station.to_string()));
             assert_eq!(
-                explained.matches(": sent ").count() + explained.matches("  sent ").count(),
+                explained.matches(" bytes)").count(),
                 sent.count(),
                 "{}",
                 explained

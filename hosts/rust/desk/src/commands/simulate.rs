@@ -43,7 +43,7 @@ pub fn command(command: Command) -> Command {
         .arg(clock("to", "the picture ends with this clock"))
         .after_help(examples(&[
             "amsulfezd simulate traces/simulations/two-loggers.setup",
-            "amsulfezd simulate traces/simulations/bad-slot-time.setup -o bench && amsulfezd view bench/station-2.trace -o 2.html",
+            "amsulfezd simulate traces/simulations/bad-slot-time.setup -o bench",
         ]))
 }
 
@@ -135,11 +135,12 @@ fn at_line(input: &Input, read: &SetupText, refusal: Refusal) -> Failure {
                 .map(|(_, line)| *line)
         }
         Refusal::Stations | Refusal::Cut | Refusal::NoRoom => None,
-        // the first station whose settings the proved call refuses as those of a header
+        // the first station whose settings the proved call refuses as those of a header; an address is none of edition 2's bytes
         _ => stations
             .clone()
             .find(|(station, _)| {
-                other_edition(&station.to_bytes(), &mut [0; HEADER_LENGTH]).is_err()
+                station.address > 125
+                    || other_edition(&station.to_bytes(), &mut [0; HEADER_LENGTH]).is_err()
             })
             .map(|(_, line)| *line),
     };
