@@ -2,7 +2,7 @@
 # they lack. Variables on the command line reach them through the environment. `make help` prints what stands after each ##,
 # variables in brackets first.
 .DEFAULT_GOAL := help
-.PHONY: help test replay explain heard counts picture view import export install watchdog compare speed figures
+.PHONY: help test replay explain heard counts picture view import export simulate install watchdog compare speed figures
 
 # The program, the trace that is named or example 12, a range of its entries, and the settings of an import.
 DESK = bash scripts/amsulfezd.sh
@@ -46,6 +46,9 @@ import: ## [CAPTURE=file] [OUT=file] [ADDRESS=n] [BAUD=n] [SLOT=n] .. makes a tr
 
 export: ## [TRACE=file] [OUT=file] the text of a bus monitor that a trace gives; a pcap file or a table by the ending of OUT
 	@$(call into,captures,capture) $(DESK) export $(TRACED) -o "$$out" && echo "$$out"
+
+simulate: ## [SETUP=file] [OUT=folder] [FROM=us] [TO=us] several loggers on one simulated bus: who got the token when, traces, a picture
+	@setup=$${SETUP:-traces/simulations/two-loggers.setup}; $(DESK) simulate "$$setup" $(RANGE) -o "$${OUT:-target/simulations/$$(basename "$$setup" .setup)}"
 
 install: ## [PREFIX=folder] the program amsulfezd, which all of these are lines over, its manual page and completion
 	@bash scripts/install.sh

@@ -1,7 +1,8 @@
 #!/usr/bin/env bash
 # Compares the proved code with Rust: the settings with the published parameters.rs, the trace call with the published
-# active.rs, and the calls on frames and on captures with a reader, a writer, an importer and an exporter from document 02.
-# SEED, TRACES, FRAMES and CAPTURES in the environment change what is generated.
+# active.rs, the calls on frames and on captures with a reader, a writer, an importer and an exporter from document 02, and the
+# simulated bus with one over the published station. SEED, TRACES, FRAMES, CAPTURES and SIMULATIONS in the environment change what
+# is generated.
 set -euo pipefail
 cd "$(dirname "$0")/.." || exit 1
 me=compare
@@ -11,6 +12,7 @@ seed=${SEED:-1}
 traces=${TRACES:-20000}
 frames=${FRAMES:-1000000}
 captures=${CAPTURES:-200000}
+simulations=${SIMULATIONS:-1000}
 
 need cargo cargo
 
@@ -55,7 +57,9 @@ if [ "$(uname -m)" = x86_64 ]; then
     by_program 500 scripts/compare_traces.sh "the trace call in a program is not the published station's"
     by_program 1000 scripts/compare_frames.sh "the calls on frames in a program are not document 02's"
     by_program 1000 scripts/compare_captures.sh "the calls on captures in a program are not document 02's"
+    by_program 300 scripts/compare_simulations.sh "the calls on a simulated bus in a program are not document 02's"
 fi
 SEED=$seed COUNT=$frames bash scripts/compare_frames.sh || fail "the calls on frames are not document 02's (seed $seed)"
 SEED=$seed COUNT=$captures bash scripts/compare_captures.sh || fail "the calls on captures are not document 02's (seed $seed)"
+SEED=$seed COUNT=$simulations bash scripts/compare_simulations.sh || fail "the calls on a simulated bus are not document 02's (seed $seed)"
 SEED=$seed COUNT=$traces bash scripts/compare_traces.sh || fail "the trace call is not the published station's (seed $seed)"

@@ -267,6 +267,9 @@ test_lines() {
     [ "$(head -c 1 "$said" | od -An -tx1)" = " 82" ] || fail "make import does not hand its settings on"
     said=$(make --no-print-directory export TRACE=traces/captures/site.trace OUT="$folder/site.capture") || fail "make export fails"
     cmp "$said" traces/captures/site-again.capture || fail "make export gives another text"
+    said=$(make --no-print-directory simulate SETUP=traces/simulations/bad-slot-time.setup OUT="$folder/bench" FROM=8000) || fail "make simulate fails"
+    { head -n -5 <<<"$said" | cmp - traces/simulations/bad-slot-time.said && [ -s "$folder/bench/station-0.trace" ]; } ||
+        fail "make simulate says: $said"
     said=$(make --no-print-directory install PREFIX="$PWD/$folder/usr") || fail "make install fails"
     "$said" replay traces/example12.trace | cmp - traces/example12.answers || fail "the installed program does not replay example 12"
     { [ -s "$folder/usr/share/man/man1/amsulfezd.1" ] && [ -s "$folder/usr/share/bash-completion/completions/amsulfezd" ]; } ||
@@ -284,6 +287,7 @@ mkdir -p "$built"
 test_c test faulty replay_trace other_edition
 test_c test_frames faulty_frames read_frame write_frame
 test_c test_captures faulty_captures import_capture export_capture
+test_c test_simulate faulty_simulate simulate simulated_trace
 test_c test_heard faulty_heard trace_heard
 test_c test_counts faulty_counts trace_counts
 test_c test_settings faulty_settings new_settings set_slot_bits set_max_retry_limit finish_settings

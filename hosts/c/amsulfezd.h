@@ -7,7 +7,8 @@
  * amsulfezd_trace_counts says how often the station claimed the token, removed a neighbour and met its own address;
  * amsulfezd_other_edition moves a header to the other edition. amsulfezd_read_frame reads a frame as it stands on the
  * bus, amsulfezd_write_frame writes one. amsulfezd_import_capture makes entries of a bus monitor's text,
- * amsulfezd_export_capture text of entries. amsulfezd_new_settings makes a header with the defaults, amsulfezd_set_.. sets
+ * amsulfezd_export_capture text of entries. amsulfezd_simulate runs several stations on one simulated bus,
+ * amsulfezd_simulated_trace gives the trace of one of them. amsulfezd_new_settings makes a header with the defaults, amsulfezd_set_.. sets
  * one setting of it, amsulfezd_finish_settings checks it as a whole. In this file, in this order:
  *
  *   the numbers in traces and answers      enum amsulfezd_..
@@ -17,14 +18,15 @@
  *                                          amsulfezd_other_edition, amsulfezd_written; amsulfezd_number
  *   the calls on frames                    amsulfezd_read_frame, amsulfezd_write_frame, amsulfezd_frame_..
  *   the calls on captures                  amsulfezd_import_capture, amsulfezd_export_capture
+ *   the calls on a simulated bus           amsulfezd_simulate, amsulfezd_simulated_trace, amsulfezd_ticks
  *   the calls on settings                  amsulfezd_new_settings, amsulfezd_set_.., amsulfezd_finish_settings
  *   readers of an answer                   amsulfezd_answer, amsulfezd_answer_..; amsulfezd_state_name,
  *                                          amsulfezd_refusal_words
  *   writers of a trace                     amsulfezd_write_header, amsulfezd_write_header_2, amsulfezd_write_command,
  *                                          amsulfezd_write_poll
  *
- * example.c uses all but the frames, captures, counts, settings and who was heard. The field widths are document 01's, "Station"
- * and "Trace", and document 02's, P6, P7 and P9; a frame's bytes are document 02's, P1, a capture's text P13.
+ * example.c uses all but the frames, captures, simulations, counts, settings and who was heard. The field widths are document 01's, "Station"
+ * and "Trace", and document 02's, P6, P7 and P9; a frame's bytes are document 02's, P1, a setup's P12, a capture's text P13.
  *
  * Linking. `rt staticlib amsulfezd` proves the library and writes target/staticlib/libamsulfezd.a. From the
  * repository's root:
@@ -37,13 +39,14 @@
  * defined this file has them and not the calls.
  *
  * Stack. A call uses at most AMSULFEZD_STACK_BYTES of the caller's stack, its return address included, whatever the
- * trace's length. Measured: 4,840 bytes (amsulfezd_trace_heard, which keeps its table there), with the library of the
+ * trace's length; the two calls on a simulated bus, which keep eight stations there, at most AMSULFEZD_SIMULATION_STACK_BYTES.
+ * Measured: 15,272 and 18,456 bytes for these two, else 5,304 bytes (amsulfezd_trace_heard, which keeps its table there), with the library of the
  * toolchain rattle-kit-5b. The method: the call runs on a stack of its own that was filled with a pattern, and the deepest
  * byte that changed is looked for, over all traces of traces/, one of 100,000 entries and 1,000 traces made at random,
  * which reach every state and every kind of send; each is replayed, asked for an address that was heard and for its
  * counts, its header moved to the other edition, and its entries exported; over a frame of each start byte and a word of
- * each kind; over the captures of traces/; and over each call on settings. hosts/c/stack.c does this and is part of the tests, so that a library that
- * uses more than AMSULFEZD_STACK_BYTES is found. The library's code has no recursion, takes no stack by a computed length
+ * each kind; over the captures of traces/; over each call on settings; and over two setups of eight stations. hosts/c/stack.c does
+ * this and is part of the tests, so that a library that uses more is found. The library's code has no recursion, takes no stack by a computed length
  * and calls nothing outside itself.
  */
 #ifndef AMSULFEZD_H
@@ -83,14 +86,16 @@ extern "C" {
 /* The next station of a station that is alone in its ring: see amsulfezd_answer_next_station. */
 #define AMSULFEZD_NOBODY 127
 
-/* The most stack that a call uses, in bytes: see above. */
+/* The most stack that a call uses, in bytes, and that one on a simulated bus uses: see above. */
 #define AMSULFEZD_STACK_BYTES 8192
+#define AMSULFEZD_SIMULATION_STACK_BYTES 24576
 
 /*
  * The refusal numbers of documents 01 and 02. As ending number of a run: 0, the number of a refused header (1 to 8, 10, 11,
  * 14, 25), 17 or 18; of amsulfezd_trace_heard also 26. In an answer: 0, or 12 to 15. Of a frame that is read: 0, 19 to 24 or
  * 34; of a word to be written: 0, 14, 18 or 34. Of a capture's line: 0, 18 to 24, 31 to 34; of an entry to be exported: 0,
- * 12 to 15, 17 or 18. Of a call on settings: 0, the number of a refused header, 17 or 18.
+ * 12 to 15, 17 or 18. Of a call on settings: 0, the number of a refused header, 17 or 18. Of a setup: 0, 17, 18, 27 to 30, 35, or
+ * the number of a station's settings (1 to 8, 10, 25).
  * Number 9 is never answered here. Number 16 belongs to earlier versions,
  * which refused the command passive; stored answers of theirs may have it, and no call answers with it any more.
  */
@@ -114,7 +119,8 @@ enum amsulfezd_refusal {
     AMSULFEZD_REFUSAL_PASSIVE = 16,         /* passive; of earlier versions, no longer answered */
     AMSULFEZD_REFUSAL_CUT = 17,             /* trace ends inside header or entry, or is above 2^32 bytes */
     AMSULFEZD_REFUSAL_NO_ROOM = 18,         /* no 8 bytes left for an answer; no room for what is to be written */
-    /* Document 02's: 25 of a header, 26 of an address asked for, 31 to 33 of a capture, the others of a frame. */
+    /* Document 02's: 25 of a header, 26 of an address asked for, 27 to 30 and 35 of a simulation's setup, 31 to 33 of a capture,
+       the others of a frame. */
     AMSULFEZD_REFUSAL_FRAME_CUT = 19,         /* frame empty or cut short */
     AMSULFEZD_REFUSAL_START_BYTE = 20,        /* start byte */
     AMSULFEZD_REFUSAL_FRAME_HEADER = 21,      /* SD2 header: its repeated bytes differ, or the length is outside 4..249 */
@@ -123,10 +129,15 @@ enum amsulfezd_refusal {
     AMSULFEZD_REFUSAL_ADDRESS_EXTENSION = 24, /* address extension bit */
     AMSULFEZD_REFUSAL_GAP_ROOM = 25,          /* rotation with no room for a gap poll: below slot bits + 100 */
     AMSULFEZD_REFUSAL_ASKED_ADDRESS = 26,     /* who was heard: an address above 125 is asked for */
+    AMSULFEZD_REFUSAL_EQUAL_ADDRESSES = 27,   /* two stations of a setup with equal addresses */
+    AMSULFEZD_REFUSAL_TICK = 28,              /* a setup's tick outside 1..1,000,000 us */
+    AMSULFEZD_REFUSAL_STATIONS = 29,          /* a setup's number of stations outside 2..8; no station with that place */
+    AMSULFEZD_REFUSAL_BAUD_CODES = 30,        /* the baud codes of a setup's stations differ */
     AMSULFEZD_REFUSAL_CAPTURE_LINE = 31,      /* a capture's line that is not built as it should be, or bytes after its frame */
     AMSULFEZD_REFUSAL_CAPTURE_TIME = 32,      /* a time below the one before */
     AMSULFEZD_REFUSAL_CAPTURE_COUNT = 33,     /* more than 8 lines of one time */
-    AMSULFEZD_REFUSAL_FUNCTION_CODE = 34      /* top bit of the function code set; to be written: any other request */
+    AMSULFEZD_REFUSAL_FUNCTION_CODE = 34,     /* top bit of the function code set; to be written: any other request */
+    AMSULFEZD_REFUSAL_TICKS = 35              /* a setup with more than 1,000,000 ticks */
 };
 
 /* How a poll ended. */
@@ -214,6 +225,14 @@ enum amsulfezd_frame_byte {
 #define AMSULFEZD_CAPTURE_ENTRY 19
 #define AMSULFEZD_CAPTURE_ADDED 4
 #define AMSULFEZD_CAPTURE_LINE_LENGTH 29
+
+/*
+ * Of a simulated bus: the bytes of a setup before its stations, those of each station, and the most that a record of a simulated
+ * station takes in its trace, in bytes.
+ */
+#define AMSULFEZD_SETUP_LENGTH 9
+#define AMSULFEZD_SETUP_STATION 14
+#define AMSULFEZD_SIMULATED_ENTRY 47
 
 /* ---- The calls on traces ----------------------------------------------------------------------------------------- */
 
@@ -333,7 +352,7 @@ static inline unsigned amsulfezd_ending(uint64_t returned)
     return (unsigned)(returned % 256);
 }
 
-/* The number of bytes written, of what amsulfezd_other_edition returned. */
+/* The number of bytes written, of what amsulfezd_other_edition or amsulfezd_simulated_trace returned. */
 static inline uint64_t amsulfezd_written(uint64_t returned)
 {
     return returned / 256;
@@ -500,6 +519,64 @@ uint64_t amsulfezd_import_capture(const uint8_t *text, size_t text_len, uint8_t 
 uint64_t amsulfezd_export_capture(const uint8_t *entries, size_t entries_len, uint8_t *text, size_t text_len,
                                   uint64_t *entry, uint64_t *written);
 #endif
+
+/* ---- The calls on a simulated bus -------------------------------------------------------------------------------- */
+
+#ifndef AMSULFEZD_WITHOUT_CALL
+/*
+ * Runs 2 to 8 stations on one simulated bus and writes what each answers at each tick. They have settings of their own, one baud
+ * code and one clock, which is 0 at the first tick. Each has one application that declines and is online before the first tick.
+ * At each tick they are polled by rising address. A telegram that is sent at a tick ends after 11 bits a byte, rounded up to whole
+ * microseconds, and stands in every other station's record at the first later tick at or after its end. If one begins before
+ * another has ended, neither is delivered; two of one tick are such. What a poll does not consume stands first in the station's
+ * next record; beyond 8 the oldest fall away. The sender's record says that it transmits at ticks after the start and before the
+ * end, also of a telegram that is lost.
+ *
+ * setup, setup_len    The setup: number of stations 1 byte, tick in microseconds 4, number of ticks 4, most significant first;
+ *                     then for each station, in any order, 14 bytes: address 1, baud code 1, slot bits 2, rotation bits 4, gap
+ *                     wait 1, HSA 1, retry 1, min Tsdr 1, watchdog factors 1 + 1. It is read only.
+ * report, report_len  Where the answers go: 8 bytes each, tick by tick, within a tick by rising address, whatever the order in
+ *                     which the stations were given: 8 * stations * ticks bytes.
+ *
+ * Returns the number of ticks, times 256, plus 0, or, refused, the number alone, and then nothing is written. Take it apart with
+ * amsulfezd_ticks and amsulfezd_number. Refused, in this order: 17 if setup_len is below 9; 29 if the number of stations is not
+ * 2..8; 17 if setup_len is not 9 + 14 * stations; 28 if the tick is not 1..1,000,000; 35 if there are more than 1,000,000 ticks (0
+ * are allowed); 30 if two baud codes differ; 27 if two addresses are equal, both as they are given, legal or not; the number of
+ * the first station, as given, whose settings are refused (1, 10, 2, 3, 4, 25, 5, 6, 7, 8, in this order); 18 if there is no room
+ * for the report.
+ *
+ * Which bytes change: the first 8 * stations * ticks of `report`, where nothing was refused. All others keep their value.
+ *
+ * What the caller must ensure, ownership and threads: as for amsulfezd_replay_trace. It always returns; its time grows with the
+ * number of ticks and stations.
+ */
+uint64_t amsulfezd_simulate(const uint8_t *setup, size_t setup_len, uint8_t *report, size_t report_len);
+
+/*
+ * Runs the same and writes the trace of one station: its header, of edition 1, online, and the record of each tick. What
+ * amsulfezd_replay_trace answers to it is, after the answer to online, that station's part of the report.
+ *
+ * setup, setup_len    The setup, as above.
+ * station             The station's place by rising address, from 0.
+ * trace, trace_len    Where the trace goes. AMSULFEZD_HEADER_LENGTH + 1 + AMSULFEZD_SIMULATED_ENTRY * ticks bytes are always
+ *                     enough.
+ *
+ * Returns the number of bytes written, times 256, plus 0, or, refused, the number alone, and then nothing is written. Take it
+ * apart with amsulfezd_written and amsulfezd_number. Refused as above, and before 18 with 29 if no station has that place; 18 if
+ * there is no room for the whole trace.
+ *
+ * Which bytes change: those of the trace, where nothing was refused. All others of `trace` keep their value.
+ *
+ * What the caller must ensure and the rest: as for amsulfezd_simulate.
+ */
+uint64_t amsulfezd_simulated_trace(const uint8_t *setup, size_t setup_len, uint8_t station, uint8_t *trace, size_t trace_len);
+#endif
+
+/* The number of ticks, of what amsulfezd_simulate returned. */
+static inline uint64_t amsulfezd_ticks(uint64_t returned)
+{
+    return returned / 256;
+}
 
 /* ---- The calls on settings --------------------------------------------------------------------------------------- */
 
@@ -741,6 +818,14 @@ static inline const char *amsulfezd_refusal_words(unsigned number)
         return "rotation with no room for a gap poll";
     case AMSULFEZD_REFUSAL_ASKED_ADDRESS:
         return "who was heard: an address above 125";
+    case AMSULFEZD_REFUSAL_EQUAL_ADDRESSES:
+        return "two stations with equal addresses";
+    case AMSULFEZD_REFUSAL_TICK:
+        return "tick";
+    case AMSULFEZD_REFUSAL_STATIONS:
+        return "number of stations, or no station with that place";
+    case AMSULFEZD_REFUSAL_BAUD_CODES:
+        return "baud codes differ";
     case AMSULFEZD_REFUSAL_CAPTURE_LINE:
         return "a line that is not a time, one space, a frame in pairs of hex digits and a line feed, or has bytes after its frame";
     case AMSULFEZD_REFUSAL_CAPTURE_TIME:
@@ -749,6 +834,8 @@ static inline const char *amsulfezd_refusal_words(unsigned number)
         return "more than 8 of one time";
     case AMSULFEZD_REFUSAL_FUNCTION_CODE:
         return "top bit of the function code set; to be written, any other request";
+    case AMSULFEZD_REFUSAL_TICKS:
+        return "more than 1,000,000 ticks";
     default:
         return "unknown";
     }

@@ -216,7 +216,7 @@ static void test_frames(void)
     reads_word(UINT32_C(0x3f809fff), odd, "the other fields full");
 }
 
-/* Document 01's numbers, in their order, and document 02's 25. */
+/* Document 01's numbers, in their order, and document 02's 25, 27 to 30 and 35. */
 static void test_numbers(void)
 {
     static const unsigned refusals[] = {
@@ -277,6 +277,9 @@ static void test_numbers(void)
     COUNTS(commands)
     COUNTS(kinds)
     check(AMSULFEZD_REFUSAL_GAP_ROOM == 25, "not document 02's number", "refusals");
+    check(AMSULFEZD_REFUSAL_EQUAL_ADDRESSES == 27 && AMSULFEZD_REFUSAL_TICK == 28 && AMSULFEZD_REFUSAL_STATIONS == 29 &&
+              AMSULFEZD_REFUSAL_BAUD_CODES == 30 && AMSULFEZD_REFUSAL_TICKS == 35,
+          "not document 02's number", "refusals of a setup");
     for (i = 0; i < sizeof names / sizeof names[0]; i++) {
         check(strcmp(amsulfezd_state_name(i), names[i]) == 0, "the name of a state", names[i]);
     }
@@ -443,6 +446,7 @@ static void test_header_2(void)
     }
     check(amsulfezd_written(1000 * 256 + 25) == 1000, "bytes written", "1000 * 256 + 25");
     check(amsulfezd_number(14 * 256 + 25) == 25, "refusal number", "14 * 256 + 25");
+    check(amsulfezd_ticks(UINT64_C(1000000) * 256) == 1000000, "ticks", "1000000 * 256");
 }
 
 static void test_commands(void)

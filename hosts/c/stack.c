@@ -1,11 +1,12 @@
 /*
- * Measures the stack that the proved calls use, and holds it to AMSULFEZD_STACK_BYTES. A call runs on a stack of its
+ * Measures the stack that the proved calls use, and holds it to AMSULFEZD_STACK_BYTES, that of the calls on a simulated bus to
+ * AMSULFEZD_SIMULATION_STACK_BYTES. A call runs on a stack of its
  * own that is filled with a pattern; afterwards the deepest byte that changed is looked for. The traces: those of the
  * files named, example 12's header with 100,000 times online, and as many made at random as are asked for, with headers
  * of both editions; each is replayed, asked for an address that was heard and for its counts, its header moved to the other
  * edition, and its entries exported as a capture; each state and each kind of send, moves both ways, an address that was heard,
  * and each of the counts must have been seen. Frames: one of each start byte, and a word of each kind. Captures: those of the files named, whose names end in
- * .capture, and one of each start byte. Built with -DFAULT the call takes more, which must be found.
+ * .capture, and one of each start byte. Simulations: eight stations that form a ring, and eight whose telegrams meet. Built with -DFAULT the call takes more, which must be found.
  *
  * usage: stack TRACES FILE..
  */
@@ -44,7 +45,7 @@ static uint64_t returned;
 static uintptr_t above;
 
 static unsigned states_seen, sent_seen, moves_seen, heard_seen, counts_seen;
-static size_t deepest;
+static size_t deepest, deepest_simulation;
 
 static void fail(const char *why, const char *what)
 {
@@ -97,6 +98,18 @@ static void run_on_stack(void)
     }
 }
 
+/* Simulates the setup that is lent. */
+static uint64_t simulate(const uint8_t *lent, size_t length, uint8_t *buffer, size_t room)
+{
+    return amsulfezd_simulate(lent, length, buffer, room);
+}
+
+/* The trace of the station of a setup with the highest address. */
+static uint64_t simulated_trace(const uint8_t *lent, size_t length, uint8_t *buffer, size_t room)
+{
+    return amsulfezd_simulated_trace(lent, length, (uint8_t)(lent[0] - 1), buffer, room);
+}
+
 /* Runs a call on the stack of its own, and notes how deep that went. */
 static void run(measured *which, const char *name)
 {
@@ -109,8 +122,9 @@ static void run(measured *which, const char *name)
     if (above < (uintptr_t)stack + low || above > (uintptr_t)stack + sizeof stack) {
         fail("the call did not run on the stack that it was given", name);
     }
-    if (above - ((uintptr_t)stack + low) > deepest) {
-        deepest = above - ((uintptr_t)stack + low);
+    size_t *most = which == simulate || which == simulated_trace ? &deepest_simulation : &deepest;
+    if (above - ((uintptr_t)stack + low) > *most) {
+        *most = above - ((uintptr_t)stack + low);
     }
 }
 
@@ -260,6 +274,36 @@ static void measure_settings(void)
     }
 }
 
+/* Simulates eight stations, at 500 kbaud with ticks of 50 us and at 12 Mbaud with ticks of 500 us. */
+static void measure_simulations(void)
+{
+    static const uint8_t begins[][AMSULFEZD_SETUP_LENGTH] = {{8, 0, 0, 0, 50, 0, 0, 3, 232}, {8, 0, 0, 1, 244, 0, 0, 0, 200}};
+    static const uint8_t stations[][AMSULFEZD_SETUP_STATION] = {
+        {0, 6, 0, 200, 0, 0, 0x7e, 0xb4, 1, 9, 1, 11, 0, 0},
+        {0, 10, 3, 232, 0, 0, 0x7e, 0xb4, 1, 9, 1, 11, 0, 0},
+    };
+    uint8_t setup[AMSULFEZD_SETUP_LENGTH + 8 * AMSULFEZD_SETUP_STATION];
+    size_t i, station;
+    for (i = 0; i < sizeof begins / sizeof begins[0]; i++) {
+        memcpy(setup, begins[i], sizeof begins[i]);
+        for (station = 0; station < 8; station++) {
+            uint8_t *to = setup + AMSULFEZD_SETUP_LENGTH + AMSULFEZD_SETUP_STATION * station;
+            memcpy(to, stations[i], sizeof stations[i]);
+            to[0] = (uint8_t)station;
+        }
+        trace = setup;
+        trace_len = sizeof setup;
+        run(simulate, "a setup");
+        if (amsulfezd_ticks(returned) == 0) {
+            fail("it was not simulated", "a setup");
+        }
+        run(simulated_trace, "a setup");
+        if (amsulfezd_written(returned) == 0) {
+            fail("its trace was not given", "a setup");
+        }
+    }
+}
+
 /* The next of a row of numbers, below a limit. */
 static uint32_t below(uint32_t limit)
 {
@@ -367,6 +411,7 @@ int main(int count, char **words)
     measure_frames();
     measure_settings();
     measure_captures();
+    measure_simulations();
     for (file = 2; file < count; file++) {
         const char *end_of_name = strrchr(words[file], '.');
         size_t length = read_file(words[file], bytes, room);
@@ -392,8 +437,14 @@ int main(int count, char **words)
                 AMSULFEZD_STACK_BYTES);
         return EXIT_FAILURE;
     }
-    printf("C host: a call used at most %zu bytes of stack, over %d files, a trace of %d entries and %lu at random\n",
-           deepest, count - 2, LONG, traces);
+    if (deepest_simulation > AMSULFEZD_SIMULATION_STACK_BYTES) {
+        fprintf(stderr, "stack: a simulation used %zu bytes of stack, more than the %d that amsulfezd.h names\n",
+                deepest_simulation, AMSULFEZD_SIMULATION_STACK_BYTES);
+        return EXIT_FAILURE;
+    }
+    printf("C host: a call used at most %zu bytes of stack, over %d files, a trace of %d entries and %lu at random; one on a "
+           "simulated bus at most %zu\n",
+           deepest, count - 2, LONG, traces, deepest_simulation);
     free(answers);
     free(bytes);
     return EXIT_SUCCESS;

@@ -1,5 +1,5 @@
 /*
- * Makes the proved calls that know no station, on frames and on captures, for the comparison on machines that run the library
+ * Makes the proved calls on frames, on captures and on a simulated bus, for the comparison on machines that run the library
  * but cannot link it: reads calls from standard input and writes what each left to standard output, in the form that
  * oracle/src/comparison/calls_program.rs states, until its input ends. What is lent, each buffer and each number ends where a
  * page begins that may not be touched: a byte read or written behind it ends the program.
@@ -14,7 +14,7 @@
 #include <unistd.h>
 
 /* So many bytes before each slice are watched, and so many a slice may have. */
-enum { BELOW = 16, LONGEST = 1 << 22 };
+enum { BELOW = 16, LONGEST = 1 << 23 };
 
 /* The bytes of a call before what is lent, and those of what it left before the buffer. */
 enum { ASKED = 13, SAID = 25 };
@@ -88,12 +88,19 @@ static size_t make(const uint8_t *call, uint8_t *left)
     case 3:
         numbers[0] = amsulfezd_export_capture(lent, lent_len, buffer, buffer_len, at, written);
         break;
+    case 4:
+        numbers[0] = amsulfezd_simulate(lent, lent_len, buffer, buffer_len);
+        break;
+    case 5:
+        numbers[0] = amsulfezd_simulated_trace(lent, lent_len, (uint8_t)number_of(call + 1, 4), buffer, buffer_len);
+        break;
     default:
         fail("there is no such call");
     }
-    /* the calls on frames are lent no numbers */
-    numbers[1] = call[0] < 2 ? 0 : *at;
-    numbers[2] = call[0] < 2 ? 0 : *written;
+    /* the calls on captures alone are lent numbers */
+    int captures = call[0] == 2 || call[0] == 3;
+    numbers[1] = captures ? *at : 0;
+    numbers[2] = captures ? *written : 0;
     for (int i = 0; i < 24; i++) {
         left[i] = (uint8_t)(numbers[i / 8] >> (56 - 8 * (i % 8)));
     }

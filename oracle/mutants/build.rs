@@ -1,5 +1,5 @@
-//! Writes a copy of the oracle's station, of its reader and writer of frames, or of its importer and exporter of captures, for
-//! each planted error: one module each, in one crate.
+//! Writes a copy of the oracle's station, of its reader and writer of frames, of its importer and exporter of captures, or of its
+//! simulated bus, for each planted error: one module each, in one crate.
 
 #[path = "../build/replacements.rs"]
 #[allow(dead_code)]
@@ -13,6 +13,8 @@ mod list;
 mod captures;
 #[path = "frames.rs"]
 mod frames;
+#[path = "simulations.rs"]
+mod simulations;
 
 use std::fmt::Write;
 use std::path::Path;
@@ -28,7 +30,7 @@ fn read(path: &str) -> String {
 }
 
 fn main() {
-    for file in ["build.rs", "list.rs", "frames.rs", "captures.rs"] {
+    for file in ["build.rs", "list.rs", "frames.rs", "captures.rs", "simulations.rs"] {
         println!("cargo:rerun-if-changed={}", file);
     }
     for file in ["replacements", "passive", "watch"] {
@@ -86,29 +88,43 @@ fn main() {
         .expect("text");
     }
     runs.push_str("];\n");
-    let frames = Copies { file: "frames/frame.rs", name: "frame", calls: ["read", "write"], planted: frames::FRAMES };
-    let captures = Copies {
-        file: "captures/capture.rs",
-        name: "capture",
-        calls: ["import", "export"],
-        planted: captures::CAPTURES,
-    };
-    copy_calls(&frames, &out, &mut index, &mut runs);
-    copy_calls(&captures, &out, &mut index, &mut runs);
+    let all = [
+        Copies {
+            file: "frames/frame.rs",
+            name: "frame",
+            calls: [("read", "read_frame"), ("write", "write_frame")],
+            planted: frames::FRAMES,
+        },
+        Copies {
+            file: "captures/capture.rs",
+            name: "capture",
+            calls: [("import", "import_capture"), ("export", "export_capture")],
+            planted: captures::CAPTURES,
+        },
+        Copies {
+            file: "simulations/simulation.rs",
+            name: "simulation",
+            calls: [("simulate", "simulate"), ("trace", "simulated_trace")],
+            planted: simulations::SIMULATIONS,
+        },
+    ];
+    for copies in all {
+        copy_calls(&copies, &out, &mut index, &mut runs);
+    }
     std::fs::write(Path::new(&out).join("index.rs"), index + &runs).expect("a file can be written");
 }
 
-/// A file with two calls that know no station, and the errors planted in it.
+/// A file with two calls, each with its name among the runs, and the errors planted in it.
 struct Copies {
     file: &'static str,
     name: &'static str,
-    calls: [&'static str; 2],
+    calls: [(&'static str, &'static str); 2],
     planted: &'static [(&'static str, &'static str)],
 }
 
 /// The copies of such a file, a file each, and the table of their calls: `FRAME_RUNS` of `crate::FrameRuns`.
 fn copy_calls(copies: &Copies, out: &str, index: &mut String, runs: &mut String) {
-    let Copies { file, name, calls: [first, second], planted } = copies;
+    let Copies { file, name, calls: [(first, first_call), (second, second_call)], planted } = copies;
     let text = read(&format!("../src/{}", file));
     let (upper, kind) = (name.to_uppercase(), name[..1].to_uppercase() + &name[1..]);
     writeln!(runs, "pub const {}_RUNS: &[crate::{}Runs] = &[", upper, kind).expect("text");
@@ -120,11 +136,8 @@ fn copy_calls(copies: &Copies, out: &str, index: &mut String, runs: &mut String)
         let path = Path::new(out).join(format!("{}.rs", error));
         std::fs::write(path, text.replace("crate::", "oracle::")).expect("a file can be written");
         writeln!(index, "#[path = \"{}.rs\"]\nmod {};", error, error).expect("text");
-        writeln!(
-            runs,
-            "    crate::{kind}Runs {{ {first}: {error}::{first}_{name}, {second}: {error}::{second}_{name} }},"
-        )
-        .expect("text");
+        writeln!(runs, "    crate::{kind}Runs {{ {first}: {error}::{first_call}, {second}: {error}::{second_call} }},")
+            .expect("text");
     }
     runs.push_str("];\n");
 }

@@ -2,8 +2,9 @@
 //!
 //! Each folder leans on those before it: `helpers` (with the published text), then `generator` and `coverage`, which do not
 //! know each other, then `comparison`, then the programs. `frames` has a reader and a writer of frames, `captures` an importer and an
-//! exporter of captures, and what is tried of them; they lean on the records of `helpers`, `captures` on the frames, and take
-//! seeds, points, words and the comparison of calls from the others.
+//! exporter of captures, `simulations` a bus with several stations, and what is tried of them; they lean on the records of
+//! `helpers`, `captures` on the frames, `simulations` on the station and its header, and take seeds, points, words and the
+//! comparison of calls from the others.
 #![forbid(unsafe_code)]
 
 /// The published text writes `log::warn!`: the macros of `helpers/log.rs` stand at the root of this crate.
@@ -89,6 +90,14 @@ pub mod captures {
     pub mod capture;
     pub mod compare;
     mod met;
+    pub mod tries;
+}
+
+/// A simulated bus (document 02, P12): several published stations on it, and holding other calls to it.
+pub mod simulations {
+    pub mod compare;
+    mod met;
+    pub mod simulation;
     pub mod tries;
 }
 

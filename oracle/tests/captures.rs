@@ -172,7 +172,7 @@ const COMPARE_CAPTURES: &str = env!("CARGO_BIN_EXE_compare_captures");
 
 #[test]
 fn calls_in_another_process_are_the_same() {
-    programs::calls_in_another_process_are_the_same(COMPARE_CAPTURES);
+    programs::calls_in_another_process_are_the_same(COMPARE_CAPTURES, "1000");
 }
 
 #[test]

@@ -91,7 +91,7 @@ const COMPARE_FRAMES: &str = env!("CARGO_BIN_EXE_compare_frames");
 
 #[test]
 fn calls_in_another_process_are_the_same() {
-    programs::calls_in_another_process_are_the_same(COMPARE_FRAMES);
+    programs::calls_in_another_process_are_the_same(COMPARE_FRAMES, "1000");
 }
 
 #[test]

@@ -1,8 +1,9 @@
 // The library for hosts: every call that C and Rust programs make of it, each thin over the crate that does the work. Their
 // names carry the prefix amsulfezd_, as a C library's names do. hosts/c/amsulfezd.h declares them. It leans on trace,
-// trace_editions, trace_heard, trace_counts, settings_header, codec_frames, capture_import and capture_export.
+// trace_editions, trace_heard, trace_counts, bus, bus_trace, settings_header, codec_frames, capture_import and capture_export.
 ghost use mathlib.Core.Path.{_≡_};
 ghost use lib.ListN.{length};
+ghost use Rattle.bus_run.specs.Run.{simulateNumber, simulateInto, traceNumber, traceInto};
 ghost use Rattle.capture_export.specs.Export.{exportOf, exportedOf, bufferOf as exportBuffer};
 ghost use Rattle.capture_import.specs.Import.{importOf, importedOf, bufferOf as importBuffer};
 ghost use Rattle.codec_frames.specs.Frames.{frameOf, readNumber, writeOf, writeNumber, writtenOver};
@@ -43,6 +44,26 @@ pub extern "C" fn amsulfezd_trace_heard(trace: &[u8], address: u8, entry: &mut [
     ensures { λ _. ⌜ now (entry .exit) ≡ heardInto (now (trace .entry)) address (now (entry .entry)) ⌝ }
 {
     trace_heard::trace_heard(trace, address, entry)
+}
+
+// Runs a simulated bus and writes its report: the stations' answers, 8 bytes each, tick by tick, within a tick by rising address. Returns
+// the ticks × 256, or a refusal's number alone; then nothing is written.
+#[no_mangle]
+pub extern "C" fn amsulfezd_simulate(setup: &[u8], report: &mut [u8]) -> u64
+    ensures { λ r. ⌜ r ≡ simulateNumber (now (setup .entry)) (length (now (report .entry))) ⌝ }
+    ensures { λ _. ⌜ now (report .exit) ≡ simulateInto (now (setup .entry)) (now (report .entry)) ⌝ }
+{
+    bus::simulate(setup, report)
+}
+
+// Runs a simulated bus and writes the trace of one station, by its place by rising address from 0: its header of edition 1, online, and
+// the record of each tick. Returns the bytes written × 256, or a refusal's number alone; then nothing is written.
+#[no_mangle]
+pub extern "C" fn amsulfezd_simulated_trace(setup: &[u8], station: u8, trace: &mut [u8]) -> u64
+    ensures { λ r. ⌜ r ≡ traceNumber (now (setup .entry)) station (length (now (trace .entry))) ⌝ }
+    ensures { λ _. ⌜ now (trace .exit) ≡ traceInto (now (setup .entry)) station (now (trace .entry)) ⌝ }
+{
+    bus_trace::simulated_trace(setup, station, trace)
 }
 
 // Writes the header that `header` begins with in the other edition into the first bytes of `out`, and returns the bytes written

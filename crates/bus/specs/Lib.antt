@@ -1,5 +1,2 @@
--- What the code keeps of a bus; then that the code's turns, ticks and reports are the bus's.
-pub mod Kept
-pub mod Turns
-pub mod Ticks
+-- That the report that the code writes is the run's.
 pub mod Reports

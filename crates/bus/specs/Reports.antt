@@ -17,64 +17,12 @@ use Rattle.codec_fields.specs.Laws.{low-length}
 use Rattle.codec_fields.specs.Stores.{store-next}
 use Rattle.codec_answers.specs.Answers.{answerWord}
 use Rattle.bus_setup.specs.Setup.{stationsOf, tickOf, ticksOf, setupRefusal}
-use Rattle.bus_wire.specs.declared.Wire.{Wire}
-use Rattle.bus_wire.specs.Kept.{quiet}
-use Rattle.bus_wire.specs.Waits.{Waits, waits-none}
-use Rattle.bus_wire.specs.Arrives.{OnWire, wire-quiet, ownLatest}
-use Rattle.bus.specs.declared.Seat.{Seat as SeatKept}
-use Rattle.bus.specs.declared.Bus.{Bus as BusKept}
-use Rattle.bus.specs.declared.Ticked.{Ticked}
+use Rattle.bus_ticks.specs.declared.Bus.{Bus as BusKept}
+use Rattle.bus_ticks.specs.declared.Ticked.{Ticked}
+use Rattle.bus_ticks.specs.Ticks.{Ticks}
+use Rattle.bus_ticks.specs.Starts.{BusStarts, Set, RunIs, run-first, ticked, run-next}
 use Rattle.bus_run.specs.Sized.{Sized, sized}
-use Rattle.bus_run.specs.Run.{Bus, startSeat, answerAt, busAfter, busAt, tickReport, reportOf, written, reportLength, simulateRefusal, simulateNumber, simulateInto}
-use Rattle.bus.specs.Kept.{SeatStarts}
-use Rattle.bus.specs.Turns.{SeatIs}
-use Rattle.bus.specs.Ticks.{BusIs, TickIs, Ticks}
-
--- The start.
-
--- a fresh station at each place, and nothing was sent
-pub record BusStarts (setup : List ℕ) (n : ℕ) (c : BusKept) : Type 0 where
-  pub long : length (c .seats) ≡ 8
-  pub seats : (d : SeatKept) (k : ℕ) → k < n → SeatStarts setup n k (getD (c .seats) k d)
-  pub wire : c .wire ≡ quiet
-
--- the first i places are filled
-pub record Filled (setup : List ℕ) (n i : ℕ) (seats : List SeatKept) : Type 0 where
-  pub long : length seats ≡ 8
-  pub filled : (d : SeatKept) (k : ℕ) → k < i → SeatStarts setup n k (getD seats k d)
-
-pub filled-none : (setup : List ℕ) (n : ℕ) (c : SeatKept) → Filled setup n 0 (replicate 8 c)
-filled-none setup n c = record { long = length-replicate 8 c; filled = λ d k h. absurd (omega arith) }
-
-pub filled-more : (setup : List ℕ) (n i : ℕ) (seats : List SeatKept) (c : SeatKept) → i < 8 → Filled setup n i seats → SeatStarts setup n i c → Filled setup n (i + 1) (set seats i c)
-filled-more setup n i seats c room g s =
-    rw (add-one i)
-    (record {
-      long = length-set seats i c ∙ g .long;
-      filled = λ d k h. ⊎-elim (λ (e : k ≡ i). here d k e) (λ (l : k < i). rw (getD-set-other seats i k c d (λ e. omega arith)) (g .filled d k l)) (eq-or-lt-of-le (omega arith));
-    })
-  where
-    here : (d : SeatKept) (k : ℕ) → k ≡ i → SeatStarts setup n k (getD (set seats i c) k d)
-    here d k e = rw (e, getD-set-same seats i c d (let long = g .long in omega arith)) s
-
-own-none : (k : ℕ) → 0 ≡ ownLatest [] k
-unfolding ownLatest
-own-none k = refl
-
-seat-starts : (setup : List ℕ) (n k : ℕ) (c : SeatKept) → n ≡ stationsOf setup → SeatStarts setup n k c → SeatIs (startSeat setup k) (ownLatest [] k) c
-unfolding startSeat
-seat-starts setup n k c e s =
-    record { station = s .station ∙ rw e; waits = rw (s .waiting) waits-none; until-is = s .until ∙ own-none k }
-
--- it is the bus before the first tick
-pub bus-starts : (setup : List ℕ) (tick n : ℕ) (c : BusKept) → n ≡ stationsOf setup → BusStarts setup n c → BusIs tick n (busAt setup 0) 0 c
-unfolding busAt
-bus-starts setup tick n c e s =
-    record {
-      long = s .long;
-      seats = λ d k h. seat-starts setup n k (getD (c .seats) k d) e (s .seats d k h);
-      wire = rw (s .wire) (wire-quiet tick 0);
-    }
+use Rattle.bus_run.specs.Run.{answerAt, tickReport, reportOf, written, reportLength, simulateRefusal, simulateNumber, simulateInto}
 
 -- A tick's answers.
 
@@ -117,17 +65,9 @@ module _ (setup : List ℕ) (t n : ℕ) (words : List ℕ) (are : (k : ℕ) → 
 
 -- The run.
 
--- the numbers of a setup as the run has them
-pub record Set (setup : List ℕ) (n tick ticks : ℕ) : Type 0 where
-  pub stations : n ≡ stationsOf setup
-  pub tick-is : tick ≡ tickOf setup
-  pub ticks-are : ticks ≡ ticksOf setup
-  pub some : 0 < tick
-
 -- where the loop over the ticks stands, before tick k
 pub record Running (setup : List ℕ) (n tick k clock : ℕ) (c : BusKept) (at : ℕ) (before report : List ℕ) : Type 0 where
-  pub bus : BusIs tick n (busAt setup k) clock c
-  pub clock-is : clock ≡ k * tick
+  pub run : RunIs setup n tick k clock c
   pub at-is : length (reportOf setup k) ≡ at
   pub report-is : report ≡ reportOf setup k ++ drop at before
 
@@ -143,28 +83,20 @@ Reported opened n tick ticks before left =
 pub running-first : (setup : List ℕ) (n tick ticks : ℕ) (c : BusKept) (before : List ℕ) → Set setup n tick ticks → BusStarts setup n c → Running setup n tick 0 0 c 0 before before
 unfolding reportOf
 running-first setup n tick ticks c before s b =
-    record { bus = bus-starts setup tick n c (s .stations) b; clock-is = sym (zero-mul tick); at-is = refl; report-is = refl }
+    record { run = run-first setup n tick ticks c s b; at-is = refl; report-is = refl }
 
 module _ {setup : List ℕ} {n tick ticks k clock : ℕ} {c : BusKept} {at : ℕ} {before report : List ℕ}
     (s : Set setup n tick ticks) (g : Running setup n tick k clock c at before report) (here : k < ticks) (room : 8 * (n * ticks) ≤ length before)
     (sofar : at ≡ 8 * (n * k))
     (chosen : ℕ) (r : Ticked) (t : Ticks n clock chosen c r) (left : List ℕ) (l : left ≡ answersStored report at (r .words) n) where
-  ticked : TickIs tick n (busAt setup k) clock chosen r
-  ticked = t .is tick (busAt setup k) (s .some) (g .bus)
-
   words-are : (j : ℕ) → j < n → getD (r .words) j 0 ≡ answerWord (answerAt setup k j)
-  words-are j h = ticked .words j h ∙ rw (g .clock-is, s .tick-is)
+  words-are j h = ticked s (g .run) chosen r t .words j h ∙ rw (g .run .clock-is, s .tick-is)
 
   enough : at + 8 * n ≤ length before
   enough =
       let more : n * suc k ≤ n * ticks = mul-le-mul-left n (omega arith) in
       let is : n * suc k ≡ n * k + n = mul-suc n k in
       omega arith
-
-  -- the bus after it
-  bus-next : BusIs tick n (busAt setup (suc k)) (clock + tick) (r .bus)
-  unfolding busAt
-  bus-next = rw (← s .stations, ← s .tick-is, ← g .clock-is) (ticked .bus)
 
   length-next : length (reportOf setup (suc k)) ≡ at + 8 * n
   unfolding reportOf
@@ -180,8 +112,7 @@ module _ {setup : List ℕ} {n tick ticks k clock : ℕ} {c : BusKept} {at : ℕ
   running-next =
       rw (add-one k)
       (record {
-        bus = bus-next;
-        clock-is = ap (λ (m : ℕ). m + tick) (g .clock-is) ∙ sym (suc-mul k tick);
+        run = run-next s (g .run) chosen r t;
         at-is = length-next;
         report-is = report-next;
       })

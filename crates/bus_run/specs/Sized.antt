@@ -26,7 +26,8 @@ pub positive : (n : ℕ) → eqb n 0 ≡ false → 0 < n
 positive zero e = absurd (eqb-false 0 0 e refl)
 positive (suc n) e = omega arith
 
--- 2 to 8 stations, a length that is theirs, a tick of 1 to 1,000,000 µs, at most 1,000,000 ticks, and no station is refused
+-- 2 to 8 stations, a length that is theirs, a tick of 1 to 1,000,000 µs, at most 1,000,000 ticks, no two equal addresses, and no station is
+-- refused
 pub record Sized (setup : List ℕ) : Type 0 where
   pub some-stations : 2 ≤ stationsOf setup
   pub few : stationsOf setup ≤ 8
@@ -34,6 +35,7 @@ pub record Sized (setup : List ℕ) : Type 0 where
   pub some : 0 < tickOf setup
   pub short : tickOf setup ≤ 1000000
   pub bounded : ticksOf setup ≤ 1000000
+  pub apart : pairsOf setup (stationsOf setup) ≡ 0
   pub accepted : (j : ℕ) → j < stationsOf setup → stationRefusal setup j ≡ 0
 
 -- none of them is refused where the first refusal is none
@@ -47,12 +49,13 @@ none-of g (suc k) i e h =
     ⊎-elim (λ (s : i ≡ k). rw s here) (λ (l : i < k). none-of g k i (eqb-true _ _ t) l) (eq-or-lt-of-le (omega arith)))
     (λ t. let no : wordsRefusal g k ≡ 0 = rw t at e in absurd (eqb-false _ _ t no))
 
-stations-accepted : (setup : List ℕ) (n : ℕ) → stationsRefusal setup n ≡ 0 → (j : ℕ) → j < n → stationRefusal setup j ≡ 0
+stations-accepted : (setup : List ℕ) (n : ℕ) → stationsRefusal setup n ≡ 0 → (pairsOf setup n ≡ 0) × ((j : ℕ) → j < n → stationRefusal setup j ≡ 0)
 unfolding stationsRefusal settingsRefusal
-stations-accepted setup n e j h =
+stations-accepted setup n e =
     let a = passed (ltb 0 (othersOf setup n)) 30 (cond (ltb 0 (pairsOf setup n)) 27 (wordsRefusal (stationRefusal setup) n)) (lit≤ tt) e in
     let b = passed (ltb 0 (pairsOf setup n)) 27 (wordsRefusal (stationRefusal setup) n) (lit≤ tt) (a .1) in
-    none-of (stationRefusal setup) n j (b .1) h
+    let few = ltb-false 0 (pairsOf setup n) (b .0) in
+    (omega arith, λ j h. none-of (stationRefusal setup) n j (b .1) h)
 
 sized-size :
     (setup : List ℕ) (n : ℕ)
@@ -73,6 +76,7 @@ sized setup e =
     let b = passed (ltb (stationsOf setup) 2) 29 (cond (ltb 8 (stationsOf setup)) 29 (sizedRefusal setup (stationsOf setup))) (lit≤ tt) (a .1) in
     let c = passed (ltb 8 (stationsOf setup)) 29 (sizedRefusal setup (stationsOf setup)) (lit≤ tt) (b .1) in
     let s = sized-size setup (stationsOf setup) (c .1) in
+    let all = stations-accepted setup (stationsOf setup) (s .4) in
     record {
       some-stations = ltb-false (stationsOf setup) 2 (b .0);
       few = ltb-false 8 (stationsOf setup) (c .0);
@@ -80,7 +84,8 @@ sized setup e =
       some = s .1;
       short = s .2;
       bounded = s .3;
-      accepted = stations-accepted setup (stationsOf setup) (s .4);
+      apart = all .0;
+      accepted = all .1;
     }
 
 -- the station at a place is one of those given

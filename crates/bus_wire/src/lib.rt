@@ -3,7 +3,7 @@
 ghost use mathlib.Core.Path.{_≡_};
 ghost use Prim.Native.Nat.{_-_};
 ghost use Rattle.bus_wire.specs.Wire.{sentTelegram, bytesTime};
-ghost use Rattle.bus_wire.specs.Kept.{laterOf, quiet, sentOn, arrivesAt, clearedAt, nothingWaits, droppedOf, appendedOf, joinedOf, leftOf};
+ghost use Rattle.bus_wire.specs.Kept.{laterOf, sentOn, arrivesAt, droppedOf, appendedOf, joinedOf, leftOf};
 use bit_times::Baud;
 use bit_times::Bits;
 use codec_answers::Sent;
@@ -75,18 +75,6 @@ pub fn later(a: u64, b: u64) -> u64
     a
 }
 
-// A bus on which nothing was sent.
-pub fn quiet_wire() -> Wire
-    ensures { λ r. ⌜ r ≡ quiet ⌝ }
-{
-    Wire {
-        until: 0,
-        word: 0,
-        sender: 0,
-        live: false,
-    }
-}
-
 // The bus after a telegram starts on it: while it is busy, neither that telegram nor the one before arrives.
 pub fn send(wire: Wire, start: u64, ends: u64, sender: u8, word: u64) -> Wire
     ensures { λ r. ⌜ r ≡ sentOn wire start ends sender word ⌝ }
@@ -121,31 +109,6 @@ pub fn arrives(wire: Wire, now: u64, place: u8) -> bool
         return false;
     }
     false
-}
-
-// The bus after the arrivals of now.
-pub fn cleared(wire: Wire, now: u64) -> Wire
-    ensures { λ r. ⌜ r ≡ clearedAt wire now ⌝ }
-{
-    if wire.until <= now {
-        return Wire {
-            until: wire.until,
-            word: wire.word,
-            sender: wire.sender,
-            live: false,
-        };
-    }
-    wire
-}
-
-// No telegram waits.
-pub fn nothing_waits() -> Waiting
-    ensures { λ r. ⌜ r ≡ nothingWaits ⌝ }
-{
-    Waiting {
-        words: [0, 0, 0, 0, 0, 0, 0, 0],
-        count: 0,
-    }
 }
 
 // One less than a count, at least none.

@@ -27,7 +27,7 @@ abbrev pub Every : (Telegram → Type 0) → List Telegram → Type 0
 Every P [] = Unit {0}
 Every P (x ∷ l) = P x × Every P l
 
-every-map : (P Q : Telegram → Type 0) → ((x : Telegram) → P x → Q x) → (l : List Telegram) → Every P l → Every Q l
+pub every-map : (P Q : Telegram → Type 0) → ((x : Telegram) → P x → Q x) → (l : List Telegram) → Every P l → Every Q l
 every-map P Q f [] a = tt
 every-map P Q f (x ∷ l) a = (f x (a .0), every-map P Q f l (a .1))
 
@@ -113,7 +113,7 @@ module _ (tick now : ℕ) (b : Bus) (u : Transmission) where
       (λ t. rw (t, no-meeting i h) (still-kept i h e))
       (λ t. rw t (still-kept i h e))
 
-sent-after : (setup : List ℕ) (k : ℕ) → busAt setup (suc k) .sent ≡ sentAfter (tickOf setup) (busAt setup k) (k * tickOf setup) (stationsOf setup)
+pub sent-after : (setup : List ℕ) (k : ℕ) → busAt setup (suc k) .sent ≡ sentAfter (tickOf setup) (busAt setup k) (k * tickOf setup) (stationsOf setup)
 unfolding busAt busAfter
 sent-after setup k = refl
 

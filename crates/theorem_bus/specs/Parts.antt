@@ -90,15 +90,15 @@ module _ (setup : List ℕ) (place : ℕ) where
   entries-many zero = refl
   entries-many (suc k) = length-append (entriesTo k) (entryAt k ∷ []) ∙ rw (entries-many k) (omega arith)
 
-  start-online : busAt setup 0 .seats place .station ≡ onlineOf (freshAt setup place) .station
+  pub start-online : busAt setup 0 .seats place .station ≡ onlineOf (freshAt setup place) .station
   unfolding busAt startSeat
   start-online = refl
 
-  next-station : (k : ℕ) → pollOf (busAt setup k .seats place .station) (recordAt setup k place) .station ≡ busAt setup (suc k) .seats place .station
+  pub next-station : (k : ℕ) → pollOf (busAt setup k .seats place .station) (recordAt setup k place) .station ≡ busAt setup (suc k) .seats place .station
   unfolding busAt busAfter seatAfter polledFor
   next-station k = refl
 
-  next-answer : (k : ℕ) → pollOf (busAt setup k .seats place .station) (recordAt setup k place) .answer ≡ answerAt setup k place
+  pub next-answer : (k : ℕ) → pollOf (busAt setup k .seats place .station) (recordAt setup k place) .answer ≡ answerAt setup k place
   unfolding polledFor
   next-answer k = refl
 

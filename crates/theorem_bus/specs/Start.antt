@@ -5,7 +5,7 @@ use mathlib.Core.List.{List, [], _∷_, _++_, append-nil}
 use mathlib.Core.Bool.{Bool, true, false, cond}
 use native.Mathlib.Omega.{arith}
 use native.Mathlib.Nat.{add-zero, zero-add}
-use borrow.Author.Tests.{ne-eqb, le-ltb, le-leb, ltb-false}
+use borrow.Author.Tests.{ne-eqb, le-ltb, le-leb, ltb-false, eqb-false}
 use borrow.Table.Steps.{cases}
 use lib.ListN.{length, take, drop, getD, length-append, List·getD-append}
 use lib.Seq.{take-at, drop-cons, getD-take, getD-drop}
@@ -56,6 +56,23 @@ accepted : (x : Created) → Numbered x → createdNumber x ≡ 0 → x ≡ crea
 accepted (created.Accepted p) h e = refl
 accepted (created.Refused n) h e = absurd (omega arith)
 
+-- and its address is the plain one
+built-address : (f : PlainSettings) (c : Coded) → createdNumber (builtAt f c) ≡ 0 → settingsIn (builtAt f c) .address ≡ f .address
+unfolding builtAt baudRefusal
+built-address f (Rate b) e = refl
+built-address f Unknown e = absurd (omega arith)
+
+either-address : (n address : ℕ) (x : Created) → (createdNumber x ≡ 0 → settingsIn x .address ≡ address) → createdNumber (cond (eqb n 0) x (created.Refused n)) ≡ 0 → settingsIn (cond (eqb n 0) x (created.Refused n)) .address ≡ address
+either-address n address x h e =
+    cases (eqb n 0)
+    (λ t. let z : createdNumber x ≡ 0 = rw t at e in rw t (h z))
+    (λ t. let z : n ≡ 0 = rw t at e in absurd (eqb-false n 0 t z))
+
+settings-address : (h : Header) → createdNumber (settingsOf h) ≡ 0 → settingsIn (settingsOf h) .address ≡ h .settings .address
+unfolding settingsOf buildOf
+settings-address h e =
+    either-address (headerRefusal h) (h .settings .address) _ (either-address (firstRefusal (h .settings)) (h .settings .address) _ (built-address (h .settings) (baudOf (h .settings .«baud_code»)))) e
+
 bytes-append : (l m : List ℕ) → Bytes l → Bytes m → Bytes (l ++ m)
 bytes-append [] m a b = b
 bytes-append (x ∷ l) m a b = (a .0, bytes-append l m (a .1) b)
@@ -92,6 +109,10 @@ module _ (setup : List ℕ) (j : ℕ) (are : Bytes setup) (room : stationPlace j
   unfolding headerIn stationHeader
   one-application = same-at 12 (low-be (stationHeader setup j) header-bytes)
 
+  header-address : headerIn First (stationHeader setup j) .settings .address ≡ getD (stationHeader setup j) 0 0
+  unfolding headerIn stationHeader
+  header-address = same-at 0 (low-be (stationHeader setup j) header-bytes)
+
   module _ (low : addressOf setup j ≤ 125) where
     edition-first : (rest : List ℕ) → editionOf (stationHeader setup j ++ rest) ≡ First
     unfolding editionOf
@@ -123,6 +144,16 @@ module _ (setup : List ℕ) (j : ℕ) (are : Bytes setup) (room : stationPlace j
     own-settings =
         subst (λ (l : List ℕ). settingsAt l ≡ settingsOf (headerIn First (stationHeader setup j))) (append-nil (stationHeader setup j))
         (settings-of [] (rw (append-nil (stationHeader setup j), header-length setup j) (lit≤ tt)))
+
+    -- they have the address that was given
+    pub address-given : createdNumber (settingsAt (stationHeader setup j)) ≡ 0 → settingsIn (settingsAt (stationHeader setup j)) .address ≡ addressOf setup j
+    address-given e =
+        let same = own-settings in
+        ap (λ (x : Created). settingsIn x .address) same
+        ∙ settings-address (headerIn First (stationHeader setup j)) (sym (ap createdNumber same) ∙ e)
+        ∙ header-address
+        ∙ first-byte
+        ∙ sym address-byte
 
     -- the station that the trace starts
     pub starts :

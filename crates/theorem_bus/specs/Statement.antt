@@ -1,9 +1,9 @@
 -- Document 02, P12: "Each station's part of the report equals its own trace answers on the records it was given." In one statement, for
--- every setup that is not refused and every station of it. Its proof is `every-part` in Theorem.antt.
+-- every setup that is not refused and every station of it, on the trace as `simulated_trace` gives it. Its proof is `every-part` in Theorem.antt.
 use Prim.Native.Nat.{ℕ, zero, suc, _+_, _*_, _<_, _≤_}
 use mathlib.Core.Path.{_≡_}
 use mathlib.Core.List.{List, [], _∷_, _++_}
-use lib.ListN.{take, drop}
+use lib.ListN.{length, take, drop}
 use Rattle.codec_fields.specs.Fields.{Bytes, bytesOf}
 use Rattle.codec_answers.specs.declared.Answer.{Answer}
 use Rattle.codec_answers.specs.Answers.{answerWord}
@@ -12,7 +12,7 @@ use Rattle.station.specs.Parts.{freshStation}
 use Rattle.station_command.specs.Command.{onlineOf}
 use Rattle.trace.specs.Trace.{Accepted, startOf, replayOf}
 use Rattle.bus_setup.specs.Setup.{stationsOf, ticksOf, setupRefusal}
-use Rattle.bus_run.specs.Run.{settingsFor, answerAt, reportOf, traceOf}
+use Rattle.bus_run.specs.Run.{settingsFor, answerAt, reportOf, traceOf, traceNumber, traceInto}
 
 -- the station at a place before it is put online
 abbrev pub freshAt : List ℕ → ℕ → Station
@@ -37,6 +37,12 @@ pub record Part (setup : List ℕ) (place : ℕ) : Type 0 where
       (room : ℕ)
       → 8 * (ticksOf setup + 1) ≤ room
       → replayOf (traceOf setup place) room ≡ record { answers = onlineOf (freshAt setup place) .answer ∷ partOf setup place (ticksOf setup); ending = 0 }
+  -- and that trace is what `simulated_trace` gives, with room: it returns its bytes × 256, and they stand first in what it leaves
+  pub given :
+      (before : List ℕ)
+      → length (traceOf setup place) ≤ length before
+      → (traceNumber setup place (length before) ≡ length (traceOf setup place) * 256)
+      × (take (length (traceOf setup place)) (traceInto setup place before) ≡ traceOf setup place)
 
 -- the theorem, for every setup that is not refused
 abbrev pub Theorem : Type 0

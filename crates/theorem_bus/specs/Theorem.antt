@@ -4,8 +4,9 @@ use mathlib.Core.Path.{_≡_, refl, sym, ap, _∙_, subst}
 use mathlib.Core.List.{List, [], _∷_, _++_}
 use mathlib.Core.Bool.{Bool}
 use native.Mathlib.Omega.{arith}
+use borrow.Author.Tests.{eq-eqb, lt-leb, le-ltb}
 use lib.ListN.{length, take, drop, length-append, length-drop}
-use lib.Seq.{drop-at}
+use lib.Seq.{take-at, drop-at}
 use Rattle.codec_fields.specs.Fields.{Bytes}
 use Rattle.codec_fields.specs.Laws.{low-length}
 use Rattle.codec_telegrams.specs.declared.Telegram.{Telegram}
@@ -23,7 +24,7 @@ use Rattle.theorem_every_trace.specs.EveryTrace.{each-entry-is-answered}
 use Rattle.bus_setup.specs.Setup.{stationsOf, tickOf, ticksOf, stationPlace, addressOf, stationHeader, placedOf, setupRefusal}
 use Rattle.bus_setup.specs.Laws.{header-length}
 use Rattle.bus_wire.specs.Wire.{heardAt, newest}
-use Rattle.bus_run.specs.Run.{busAt, telegramIn, recordOf, recordFor, recordAt, entriesOf, traceOf}
+use Rattle.bus_run.specs.Run.{busAt, telegramIn, recordOf, recordFor, recordAt, entriesOf, traceOf, traceRefusal, traceNumber, traceInto}
 use Rattle.bus_run.specs.Sized.{Sized, sized, placed-below}
 use Rattle.theorem_bus.specs.Statement.{freshAt, partOf, Part, Theorem}
 use Rattle.theorem_bus.specs.Parts.{along-ending, entriesTo, entries-laid, entries-whole, entries-many, answers-are, report-part}
@@ -31,7 +32,7 @@ use Rattle.theorem_bus.specs.Start.{refusal-parts, length-is, starts}
 
 -- A trace is not too long.
 
-newest-few : {A : Type 0} (l : List A) → length (newest l) ≤ 8
+pub newest-few : {A : Type 0} (l : List A) → length (newest l) ≤ 8
 newest-few l = rw length-drop (omega arith)
 
 each-length : (telegrams : ℕ → Telegram) (k : ℕ) → length (each (telegramBytes telegrams) k) ≡ 4 * k
@@ -126,10 +127,23 @@ module _ (setup : List ℕ) (are : Bytes setup) (ok : setupRefusal setup ≡ 0) 
       ran : ranOf (freshAt setup place) (traceOf setup place) room ≡ record { answers = onlineOf (freshAt setup place) .answer ∷ partOf setup place (ticksOf setup); ending = 0 }
       ran = ran-is (freshAt setup place) (traceOf setup place) room (laid entries) (along (freshAt setup place) entries) after-header run ∙ rw (along-is, along-ending (freshAt setup place) entries)
 
+-- what `simulated_trace` gives
+given-is :
+    (setup : List ℕ) (place : ℕ) (before : List ℕ)
+    → setupRefusal setup ≡ 0
+    → place < stationsOf setup
+    → length (traceOf setup place) ≤ length before
+    → (traceNumber setup place (length before) ≡ length (traceOf setup place) * 256) × (take (length (traceOf setup place)) (traceInto setup place before) ≡ traceOf setup place)
+unfolding traceNumber traceInto traceRefusal
+given-is setup place before ok here room =
+    rw (eq-eqb _ _ ok, lt-leb _ _ here, le-ltb _ _ room)
+    (refl, take-at (traceOf setup place) (drop (length (traceOf setup place)) before) (length (traceOf setup place)) refl)
+
 pub every-part : Theorem
 every-part setup are ok place here =
     record {
       reported = λ k h. report-part setup place k (ticksOf setup) here h;
       starts = started setup are ok place here;
       replayed = replays setup are ok place here;
+      given = λ before room. given-is setup place before ok here room;
     }

@@ -5,6 +5,8 @@ use Rattle.theorem_determined.specs.Claim.{Determined}
 use Rattle.amsulfezd.proofs.amsulfezd_replay_trace.Reads as replay-trace-reads
 use Rattle.amsulfezd.proofs.amsulfezd_trace_counts.Reads as trace-counts-reads
 use Rattle.amsulfezd.proofs.amsulfezd_trace_heard.Reads as trace-heard-reads
+use Rattle.amsulfezd.proofs.amsulfezd_simulate.Reads as simulate-reads
+use Rattle.amsulfezd.proofs.amsulfezd_simulated_trace.Reads as simulated-trace-reads
 use Rattle.amsulfezd.proofs.amsulfezd_other_edition.Reads as other-edition-reads
 use Rattle.amsulfezd.proofs.amsulfezd_read_frame.Reads as read-frame-reads
 use Rattle.amsulfezd.proofs.amsulfezd_write_frame.Reads as write-frame-reads
@@ -43,6 +45,22 @@ pub amsulfezd-trace-heard :
     → trace-heard-reads.Post κs a r₂ s₂
     → (r₁ ≡ r₂) × (now (s₁ .1 .1 .0) ≡ now (s₂ .1 .1 .0))
 amsulfezd-trace-heard κs a r₁ r₂ s₁ s₂ p q = (p .0 ∙ sym (q .0), p .1 ∙ sym (q .1))
+
+-- so does `amsulfezd_simulate`
+pub amsulfezd-simulate :
+    (κs : _) (a : _) (r₁ r₂ : _) (s₁ s₂ : _)
+    → simulate-reads.Post κs a r₁ s₁
+    → simulate-reads.Post κs a r₂ s₂
+    → (r₁ ≡ r₂) × (now (s₁ .1 .0) ≡ now (s₂ .1 .0))
+amsulfezd-simulate κs a r₁ r₂ s₁ s₂ p q = (p .0 ∙ sym (q .0), p .1 ∙ sym (q .1))
+
+-- so does `amsulfezd_simulated_trace`
+pub amsulfezd-simulated-trace :
+    (κs : _) (a : _) (r₁ r₂ : _) (s₁ s₂ : _)
+    → simulated-trace-reads.Post κs a r₁ s₁
+    → simulated-trace-reads.Post κs a r₂ s₂
+    → (r₁ ≡ r₂) × (now (s₁ .1 .1 .0) ≡ now (s₂ .1 .1 .0))
+amsulfezd-simulated-trace κs a r₁ r₂ s₁ s₂ p q = (p .0 ∙ sym (q .0), p .1 ∙ sym (q .1))
 
 -- so does `amsulfezd_other_edition`
 pub amsulfezd-other-edition :

@@ -4,11 +4,8 @@ use Rattle.theorem_determined.specs.Claim.{Determined}
 use Rattle.bus_wire.proofs.sent_telegram.Reads as sent-telegram-reads
 use Rattle.bus_wire.proofs.bytes_time.Reads as bytes-time-reads
 use Rattle.bus_wire.proofs.later.Reads as later-reads
-use Rattle.bus_wire.proofs.quiet_wire.Reads as quiet-wire-reads
 use Rattle.bus_wire.proofs.send.Reads as send-reads
 use Rattle.bus_wire.proofs.arrives.Reads as arrives-reads
-use Rattle.bus_wire.proofs.cleared.Reads as cleared-reads
-use Rattle.bus_wire.proofs.nothing_waits.Reads as nothing-waits-reads
 use Rattle.bus_wire.proofs.joined.Reads as joined-reads
 use Rattle.bus_wire.proofs.without.Reads as without-reads
 
@@ -21,20 +18,11 @@ bytes-time κs a r₁ r₂ s₁ s₂ p q = p ∙ sym q
 pub later : Determined later-reads.Post
 later κs a r₁ r₂ s₁ s₂ p q = p ∙ sym q
 
-pub quiet-wire : Determined quiet-wire-reads.Post
-quiet-wire κs a r₁ r₂ s₁ s₂ p q = p ∙ sym q
-
 pub send : Determined send-reads.Post
 send κs a r₁ r₂ s₁ s₂ p q = p ∙ sym q
 
 pub arrives : Determined arrives-reads.Post
 arrives κs a r₁ r₂ s₁ s₂ p q = p ∙ sym q
-
-pub cleared : Determined cleared-reads.Post
-cleared κs a r₁ r₂ s₁ s₂ p q = p ∙ sym q
-
-pub nothing-waits : Determined nothing-waits-reads.Post
-nothing-waits κs a r₁ r₂ s₁ s₂ p q = p ∙ sym q
 
 pub joined : Determined joined-reads.Post
 joined κs a r₁ r₂ s₁ s₂ p q = p ∙ sym q

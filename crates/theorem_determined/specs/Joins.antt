@@ -36,6 +36,10 @@ polledHead r = record { station = stationHead (r .station); answer = r .answer }
 pub parts-same : (h k : Head) (l m : List ℕ) → ringOf h l ≡ ringOf k m → (h ≡ k) × (l ≡ m)
 parts-same h k l m e = (ap (λ (r : Ring). headOf r) e, ap (λ (r : Ring). r .links) e)
 
+-- and so has a station
+pub station-same : (s t : StationHead) (l m : List ℕ) → stationAt s l ≡ stationAt t m → (s ≡ t) × (l ≡ m)
+station-same s t l m e = (ap (λ (x : Station). stationHead x) e, ap (λ (x : Station). x .«token_ring» .links) e)
+
 -- and so has what a new station is, what a step or telegrams led to, and what a call hands back
 pub started-same : (s t : StartedHead) (l m : List ℕ) → startedAt s l ≡ startedAt t m → (s ≡ t) × (l ≡ m)
 started-same s t l m e = (ap (λ (x : Started). startedHead x) e, ap (λ (x : Started). x .station .«token_ring» .links) e)

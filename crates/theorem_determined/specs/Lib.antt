@@ -46,5 +46,8 @@ pub mod TraceCounts
 pub mod TraceHeard
 pub mod BusSetup
 pub mod BusWire
+pub mod BusSeats
+pub mod BusTicks
 pub mod Bus
+pub mod BusTrace
 pub mod Amsulfezd

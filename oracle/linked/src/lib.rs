@@ -38,6 +38,16 @@ mod proved {
             entry: *mut u64,
             written: *mut u64,
         ) -> u64;
+        /// The call that simulates several stations on one bus: document 02's P12.
+        pub fn amsulfezd_simulate(setup: *const u8, setup_len: usize, report: *mut u8, report_len: usize) -> u64;
+        /// The call that gives the trace of one of them: document 02's P12.
+        pub fn amsulfezd_simulated_trace(
+            setup: *const u8,
+            setup_len: usize,
+            station: u8,
+            trace: *mut u8,
+            trace_len: usize,
+        ) -> u64;
     }
 }
 
@@ -89,6 +99,19 @@ pub fn export_capture(entries: &[u8], text: &mut [u8], entry: &mut u64, written:
     let (to, room) = (text.as_mut_ptr(), text.len());
     // Safety: as above.
     unsafe { proved::amsulfezd_export_capture(entries.as_ptr(), entries.len(), to, room, entry, written) }
+}
+
+/// Simulates a setup by the proved call.
+pub fn simulate(setup: &[u8], report: &mut [u8]) -> u64 {
+    // Safety: as above.
+    unsafe { proved::amsulfezd_simulate(setup.as_ptr(), setup.len(), report.as_mut_ptr(), report.len()) }
+}
+
+/// The trace of one station of a setup by the proved call.
+pub fn simulated_trace(setup: &[u8], station: u8, trace: &mut [u8]) -> u64 {
+    let (to, room) = (trace.as_mut_ptr(), trace.len());
+    // Safety: as above.
+    unsafe { proved::amsulfezd_simulated_trace(setup.as_ptr(), setup.len(), station, to, room) }
 }
 
 /// A trace of zero bytes but for its first ones, whose pages the machine has to hand out only when they

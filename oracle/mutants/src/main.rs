@@ -1,6 +1,6 @@
 //! Runs generated traces through the oracle and through a copy of it for each planted error, their headers through the call
 //! that moves them, the calls that are asked who was heard and for the counts, the settings table where the list says so, and the calls on frames
-//! and on captures for the errors in those, and prints for each error which run shows it. Status 0: each is shown by the run
+//! and on captures and the simulated bus for the errors in those, and prints for each error which run shows it. Status 0: each is shown by the run
 //! that the list names.
 #![forbid(unsafe_code)]
 
@@ -14,6 +14,8 @@ mod list;
 mod captures;
 #[path = "../frames.rs"]
 mod frames;
+#[path = "../simulations.rs"]
+mod simulations;
 
 /// The copies, one module each, as build.rs writes them.
 mod copies {
@@ -36,7 +38,10 @@ use oracle::frames::compare::made as made_of_frames;
 use oracle::frames::tries::{parts as parts_of_frames, Try as FrameTry};
 use oracle::generator::trace;
 use oracle::settings_table::table;
+use oracle::simulations::compare::{made as made_of_simulations, Simulate, Trace as SimulatedTrace};
+use oracle::simulations::tries::{parts as parts_of_simulations, Try as SimulationTry};
 use oracle::trace::replay_trace;
+use simulations::SIMULATIONS;
 
 /// What is run of a copy: its trace call, the call that moves a header, the calls that are asked who was heard and for the
 /// counts, and its settings table where the error can stand in that.
@@ -58,6 +63,12 @@ pub struct FrameRuns {
 pub struct CaptureRuns {
     import: Call,
     export: Call,
+}
+
+/// What is run of a copy of the simulated bus.
+pub struct SimulationRuns {
+    simulate: Simulate,
+    trace: SimulatedTrace,
 }
 
 /// The seed of the traces, and how many are tried.
@@ -143,9 +154,10 @@ fn shown_by_table(table: &str, copy: &Runs) -> Option<String> {
     Some(format!("line {}", line + 1))
 }
 
-/// So many frames, and so many texts and lists of entries, are made at random.
+/// So many frames, so many texts and lists of entries, and so many setups are made at random.
 const FRAMES_AT_RANDOM: u64 = 100_000;
 const CAPTURES_AT_RANDOM: u64 = 20_000;
+const SIMULATIONS_AT_RANDOM: u64 = 1000;
 
 /// The part of what is tried that shows an error in calls that know no station, and the shortest call that does.
 fn shown_by_calls<T: Try + std::panic::RefUnwindSafe>(
@@ -190,6 +202,19 @@ fn shown_by_captures(copy: &CaptureRuns) -> Option<String> {
     Some(format!("{} | {}, room {}", name, lent, room))
 }
 
+/// The call that shows an error in the simulated bus, in words.
+fn shown_by_simulations(copy: &SimulationRuns) -> Option<String> {
+    let made = |tries: &[SimulationTry]| made_of_simulations(copy.simulate, copy.trace, tries);
+    let (name, one) = shown_by_calls(parts_of_simulations(SEED, SIMULATIONS_AT_RANDOM), &made)?;
+    let lent = |setup: &[u8]| if setup.is_empty() { "nothing".to_string() } else { format!("`{}`", hex(setup)) };
+    Some(match one {
+        SimulationTry::Simulate(setup, report) => format!("{} | {}, room {}", name, lent(&setup), report.len()),
+        SimulationTry::Trace(setup, place, trace) => {
+            format!("{} | {}, place {}, room {}", name, lent(&setup), place, trace.len())
+        }
+    })
+}
+
 /// Prints the table of the errors in calls that know no station; gives how many were not found.
 fn table_of<R>(what: &str, planted: &[(&str, &str)], copies: &[R], shown: fn(&R) -> Option<String>) -> usize {
     println!("| No. | Text | Planted | Run | Shown by |");
@@ -214,8 +239,9 @@ fn main() {
         [] => trace_table(),
         ["frames"] => table_of("frames", FRAMES, copies::FRAME_RUNS, shown_by_frames),
         ["captures"] => table_of("captures", CAPTURES, copies::CAPTURE_RUNS, shown_by_captures),
+        ["simulations"] => table_of("simulations", SIMULATIONS, copies::SIMULATION_RUNS, shown_by_simulations),
         _ => {
-            eprintln!("mutants: usage: mutants [frames | captures]");
+            eprintln!("mutants: usage: mutants [frames | captures | simulations]");
             std::process::exit(2);
         }
     };

@@ -3,8 +3,8 @@
 //! run it.
 //!
 //! Calls come together: how many there are and how many bytes they take, 4 bytes each, most significant first, then the
-//! calls. A call is a byte that says which (0 reads a frame, 1 writes one, 2 imports a capture, 3 exports one), a number, the
-//! length of what is lent and that of the buffer, 4 bytes each, then what is lent and the buffer. When all have been made,
+//! calls. A call is a byte that says which (0 reads a frame, 1 writes one, 2 imports a capture, 3 exports one, 4 simulates a
+//! setup, 5 gives the trace of a station of it), a number, the length of what is lent and that of the buffer, 4 bytes each, then what is lent and the buffer. When all have been made,
 //! each says what it left: what it returned and the two numbers that it was lent, 8 bytes each, a byte that is 1 if nothing
 //! but these and the buffer was changed, and the buffer.
 

@@ -40,7 +40,7 @@ fn station_alone(trace: &[u8]) -> f64 {
 }
 
 /// The middle one, and how far the runs lie apart, in percent of it.
-fn middle_and_spread(runs: &[f64]) -> (f64, f64) {
+pub fn middle_and_spread(runs: &[f64]) -> (f64, f64) {
     let mut sorted = runs.to_vec();
     sorted.sort_by(|a, b| a.partial_cmp(b).expect("a speed is a number"));
     let middle = sorted[sorted.len() / 2];

@@ -16,12 +16,13 @@ pub fn program(path: &str, words: &[&str], input: &[u8]) -> (i32, String, String
     (output.status.code().expect("a status"), text(output.stdout), text(output.stderr))
 }
 
-/// A program that compares calls says the same where another process makes them, and finds one that says nothing.
-pub fn calls_in_another_process_are_the_same(path: &str) {
-    let here = program(path, &["5", "1000"], &[]);
+/// A program that compares calls says the same where another process makes them, so many at random, and finds one that says
+/// nothing.
+pub fn calls_in_another_process_are_the_same(path: &str, count: &str) {
+    let here = program(path, &["5", count], &[]);
     assert_eq!(here.0, 0, "{}", here.1);
-    assert_eq!(program(path, &["5", "1000", "--", path, "--serve"], &[]), here);
-    let (status, said, _) = program(path, &["5", "1000", "--", "true"], &[]);
+    assert_eq!(program(path, &["5", count, "--", path, "--serve"], &[]), here);
+    let (status, said, _) = program(path, &["5", count, "--", "true"], &[]);
     assert_eq!(status, 1);
     assert!(said.contains("did not come back"), "{}", said);
 }

@@ -5,7 +5,8 @@ use Prim.Native.Nat.{ℕ, _*_, _≤_, _-_}
 use mathlib.Core.Path.{_≡_, refl}
 use mathlib.Core.List.{List}
 use lib.ListN.{length}
-use Rattle.bus.specs.Reports.{BusStarts, Set, Running, running-first, running-next, running-done, at-first, at-more}
+use Rattle.bus_ticks.specs.Starts.{BusStarts, Set}
+use Rattle.bus.specs.Reports.{Running, running-first, running-next, running-done, at-first, at-more}
 use Rattle.bus.proofs.run_report.Statement.{statement}
 use Rattle.bus.proofs.run_report.Tie as tie
 

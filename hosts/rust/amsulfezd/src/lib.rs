@@ -13,6 +13,7 @@
 //! | [`frame`] | the bytes of frames; reading and writing them, safe, only where the static library is linked |
 //! | `settings` | settings in a header's bytes, safe; only where the static library is linked |
 //! | [`capture`] | a bus monitor's text; importing and exporting it, safe, only where the static library is linked |
+//! | [`simulation`] | a setup of several stations, as bytes and as text; simulating it, safe, only where the static library is linked |
 //! | [`number`] | the error of a number that the documents do not have |
 //! | [`words`] | numbers and settings in words |
 //!
@@ -61,5 +62,6 @@ pub mod replay;
 pub mod run;
 #[cfg(linked)]
 pub mod settings;
+pub mod simulation;
 pub mod trace;
 pub mod words;

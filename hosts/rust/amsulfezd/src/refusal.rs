@@ -3,7 +3,7 @@
 use crate::number::{with_number, UnknownNumber};
 use std::fmt;
 
-/// Why a call, a header, an entry, a trace, a frame or a capture's line was refused.
+/// Why a call, a header, an entry, a trace, a frame, a capture's line or a setup was refused.
 #[derive(Debug, Clone, Copy, PartialEq, Eq, Hash)]
 #[repr(u8)]
 #[non_exhaustive]
@@ -35,10 +35,15 @@ pub enum Refusal {
     AddressExtension = 24,
     GapRoom = 25,
     AskedAddress = 26,
+    EqualAddresses = 27,
+    Tick = 28,
+    Stations = 29,
+    BaudCodes = 30,
     CaptureLine = 31,
     CaptureTime = 32,
     CaptureCount = 33,
     FunctionCode = 34,
+    Ticks = 35,
 }
 
 /// Every refusal, in the order of their numbers.
@@ -69,10 +74,15 @@ pub const ALL: &[Refusal] = &[
     Refusal::AddressExtension,
     Refusal::GapRoom,
     Refusal::AskedAddress,
+    Refusal::EqualAddresses,
+    Refusal::Tick,
+    Refusal::Stations,
+    Refusal::BaudCodes,
     Refusal::CaptureLine,
     Refusal::CaptureTime,
     Refusal::CaptureCount,
     Refusal::FunctionCode,
+    Refusal::Ticks,
 ];
 
 impl Refusal {
@@ -116,6 +126,10 @@ impl Refusal {
             Refusal::AddressExtension => "address extension bit",
             Refusal::GapRoom => "rotation with no room for a gap poll",
             Refusal::AskedAddress => "who was heard: an address above 125",
+            Refusal::EqualAddresses => "two stations with equal addresses",
+            Refusal::Tick => "tick",
+            Refusal::Stations => "number of stations, or no station with that place",
+            Refusal::BaudCodes => "baud codes differ",
             Refusal::CaptureLine => {
                 "a line that is not a time, one space, a frame in pairs of hex digits and a line feed, or has bytes after its frame"
             }
@@ -124,6 +138,7 @@ impl Refusal {
             Refusal::FunctionCode => {
                 "top bit of the function code set; to be written, any other request"
             }
+            Refusal::Ticks => "more than 1,000,000 ticks",
         }
     }
 
@@ -132,9 +147,14 @@ impl Refusal {
         matches!(self.number(), 19..=24 | 31..=34)
     }
 
+    /// Whether a setup of several stations alone is refused so.
+    pub fn is_of_setups(self) -> bool {
+        matches!(self.number(), 27..=30 | 35)
+    }
+
     /// Whether a trace that is replayed, or one of its entries, can be refused so.
     pub fn is_of_replays(self) -> bool {
-        !self.is_of_frames() && self != Refusal::AskedAddress
+        !self.is_of_frames() && !self.is_of_setups() && self != Refusal::AskedAddress
     }
 
     /// What the documents ask for instead, where the words alone do not say it.
@@ -153,6 +173,8 @@ impl Refusal {
             }
             Refusal::Passive => Some("that version had no passive state"),
             Refusal::GapRoom => Some("must be at least slot bits + 100"),
+            Refusal::Tick => Some("must be 1..1,000,000 us"),
+            Refusal::Stations => Some("must be 2..8"),
             Refusal::CaptureLine => Some("the time must have no leading zero and be below 2^48"),
             _ => None,
         }

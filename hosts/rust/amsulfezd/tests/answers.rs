@@ -204,7 +204,7 @@ fn states_outcomes_and_types_have_document_01s_numbers() {
 #[test]
 fn refusals_have_the_documents_numbers() {
     let numbers: Vec<u8> = ALL.iter().map(|refusal| refusal.number()).collect();
-    assert_eq!(numbers, (1..=26).chain(31..=34).collect::<Vec<u8>>());
+    assert_eq!(numbers, (1..=35).collect::<Vec<u8>>());
     for &refusal in ALL {
         assert_eq!(Refusal::try_from(refusal.number()), Ok(refusal));
         assert_eq!(u8::from(refusal), refusal.number());
@@ -237,12 +237,21 @@ fn refusals_have_the_documents_numbers() {
         .map(|r| r.number())
         .collect();
     assert_eq!(of_frames, [19, 20, 21, 22, 23, 24, 31, 32, 33, 34]);
+    let of_setups: Vec<u8> = ALL
+        .iter()
+        .filter(|r| r.is_of_setups())
+        .map(|r| r.number())
+        .collect();
+    assert_eq!(of_setups, [27, 28, 29, 30, 35]);
     let elsewhere: Vec<u8> = ALL
         .iter()
         .filter(|r| !r.is_of_replays())
         .map(|r| r.number())
         .collect();
-    assert_eq!(elsewhere, [19, 20, 21, 22, 23, 24, 26, 31, 32, 33, 34]);
+    assert_eq!(
+        elsewhere,
+        [19, 20, 21, 22, 23, 24, 26, 27, 28, 29, 30, 31, 32, 33, 34, 35]
+    );
     assert_eq!(
         Refusal::AskedAddress.to_string(),
         "26 (who was heard: an address above 125)"

@@ -45,29 +45,35 @@ pub fn bytes(words: &ArgMatches, input: Option<&Input>, bytes: &[u8]) -> Result<
 
 fn write(words: &ArgMatches, input: Option<&Input>, bytes: &[u8]) -> Result<(), Failure> {
     match named(words) {
-        None => {
-            let mut out = std::io::stdout().lock();
-            match out.write_all(bytes).and_then(|()| out.flush()) {
-                // A reader that is gone has enough.
-                Err(error) if error.kind() == ErrorKind::BrokenPipe => Ok(()),
-                written => written.map_err(|error| Failure::of_file("standard output", error)),
-            }
-        }
-        Some(name) => {
-            let same =
-                |path: &PathBuf| path.canonicalize().ok() == Path::new(name).canonicalize().ok();
-            if input
-                .and_then(|input| input.path.as_ref())
-                .map_or(false, same)
-            {
-                return Err(Failure::Usage(format!(
-                    "{} is the file that it is made from",
-                    name
-                )));
-            }
-            whole_file(Path::new(name), bytes).map_err(|error| Failure::of_file(name, error))
-        }
+        None => print(bytes),
+        Some(name) => file(Path::new(name), input, bytes),
     }
+}
+
+/// Writes to standard output.
+pub fn print(bytes: &[u8]) -> Result<(), Failure> {
+    let mut out = std::io::stdout().lock();
+    match out.write_all(bytes).and_then(|()| out.flush()) {
+        // A reader that is gone has enough.
+        Err(error) if error.kind() == ErrorKind::BrokenPipe => Ok(()),
+        written => written.map_err(|error| Failure::of_file("standard output", error)),
+    }
+}
+
+/// Writes to a file that is not the one that it is made from.
+pub fn file(path: &Path, input: Option<&Input>, bytes: &[u8]) -> Result<(), Failure> {
+    let name = path.display().to_string();
+    let same = |other: &PathBuf| other.canonicalize().ok() == path.canonicalize().ok();
+    if input
+        .and_then(|input| input.path.as_ref())
+        .map_or(false, same)
+    {
+        return Err(Failure::Usage(format!(
+            "{} is the file that it is made from",
+            name
+        )));
+    }
+    whole_file(path, bytes).map_err(|error| Failure::of_file(&name, error))
 }
 
 /// Writes a file beside the one that is named and gives it the name when it is whole.

@@ -566,8 +566,8 @@ fn made_from_the_same_text() {
     let page = printed(&["manual"]);
     let completion = printed(&["completion", "bash"]);
     for command in [
-        "replay", "explain", "picture", "view", "heard", "import", "export", "frame", "header",
-        "settings", "watchdog",
+        "replay", "explain", "picture", "view", "heard", "import", "export", "simulate", "frame",
+        "header", "settings", "watchdog",
     ] {
         assert!(
             page.contains(&format!(".SS amsulfezd {}", command)),
@@ -576,4 +576,151 @@ fn made_from_the_same_text() {
         );
         assert!(completion.contains(command), "{}", command);
     }
+}
+
+/// The three setups with stories: what is printed is what they state; each station's trace is a trace, with the answers of the
+/// report, which the picture of the bus shows too.
+#[test]
+fn simulations() {
+    let folder = folder("simulations");
+    for (name, stations) in [
+        ("two-loggers", &[2, 3][..]),
+        ("bad-slot-time", &[0, 2, 3]),
+        ("eight-at-12-mbaud", &[0, 1, 2, 3, 4, 5, 6, 7]),
+    ] {
+        let setup = format!("traces/simulations/{}.setup", name);
+        let said = stored(&format!("traces/simulations/{}.said", name));
+        assert_eq!(printed(&["simulate", &setup]), said, "{}", name);
+        let text = bytes(&root().join(&setup));
+        let output = fed(&["simulate", "-"], &text);
+        assert_eq!(String::from_utf8_lossy(&output.stdout), said, "{}", name);
+        let out = folder.join(name);
+        let mut written = String::new();
+        for station in stations {
+            written += &format!("{}/station-{}.trace\n", word(&out), station);
+        }
+        written += &format!("{}/bus.svg\n", word(&out));
+        let whole = printed(&["simulate", &setup, "-o", word(&out)]);
+        assert_eq!(whole, format!("{}\n{}", said, written), "{}", name);
+        let bus = stored(&format!("traces/simulations/{}.bus", name));
+        for station in stations {
+            let trace = out.join(format!("station-{}.trace", station));
+            let explained = printed(&["explain", word(&trace)]);
+            // every telegram of the station, by the words of its trace
+            let sent = bus.lines().skip(1).map(|line| line.split(' '));
+            let sent = sent.filter(|words| words.clone().nth(1) == Some(&station.to_string()));
+            assert_eq!(
+                explained.matches(" bytes)").count(),
+                sent.count(),
+                "{}",
+                explained
+            );
+            assert!(printed(&["picture", word(&trace)]).contains("</svg>"));
+        }
+        let picture = std::fs::read_to_string(out.join("bus.svg")).expect("the picture");
+        assert_eq!(
+            picture,
+            stored(&format!("hosts/rust/tools/tests/buses/{}.svg", name)),
+            "{}",
+            name
+        );
+    }
+    let part = folder.join("part");
+    let setup = "traces/simulations/two-loggers.setup";
+    printed(&[
+        "simulate",
+        setup,
+        "-o",
+        word(&part),
+        "--from",
+        "5000",
+        "--to",
+        "5500",
+    ]);
+    let picture = std::fs::read_to_string(part.join("bus.svg")).expect("the picture");
+    assert!(
+        picture.contains(">5,000<") && !picture.contains(">4,750<") && !picture.contains(">5,600<")
+    );
+}
+
+/// A setup that is refused: the number, the words and the line, status 1, and nothing is written.
+#[test]
+fn refused_setups() {
+    let folder = folder("setups");
+    let out = folder.join("out");
+    let refuses = |text: &str, said: &str| {
+        let output = fed(&["simulate", "-o", word(&out)], text.as_bytes());
+        let line = format!("amsulfezd simulate: standard input, {}\n", said);
+        assert_eq!(String::from_utf8_lossy(&output.stderr), line, "{}", text);
+        assert_eq!(
+            (output.status.code(), output.stdout.len()),
+            (Some(1), 0),
+            "{}",
+            text
+        );
+        assert!(!out.exists());
+    };
+    let two = "station 2\nstation 5\n";
+    refuses("tick 5\nticks 5\nstation 2\n", "1 stations: refused with 29 (number of stations, or no station with that place): must be 2..8");
+    refuses(
+        &format!("tick 0\nticks 5\n{}", two),
+        "line 1: refused with 28 (tick): must be 1..1,000,000 us",
+    );
+    refuses(
+        &format!("tick 5\nticks 1000001\n{}", two),
+        "line 2: refused with 35 (more than 1,000,000 ticks)",
+    );
+    refuses(
+        "tick 5\nticks 5\nstation 2\nstation 5 baud 7\n",
+        "line 4: refused with 30 (baud codes differ)",
+    );
+    refuses(
+        "tick 5\nticks 5\nstation 2\nstation 5\nstation 2\n",
+        "line 5: refused with 27 (two stations with equal addresses)",
+    );
+    refuses(
+        "tick 5\nticks 5\nstation 2\n\nstation 5 hsa 5\n",
+        "line 5: refused with 3 (HSA): must be above the address and at most 126",
+    );
+    refuses(
+        "tick 5\nticks 5\nstation 130\nstation 5\n",
+        "line 3: refused with 1 (address above 125)",
+    );
+    refuses("tick 5\nticks 5\nstation 2 slot 60000\nstation 5\n", "line 3: refused with 25 (rotation with no room for a gap poll): must be at least slot bits + 100");
+    refuses(
+        "tick 5\nticks 5\nstation 2 gap x\n",
+        "line 3: gap is a whole number of at most 255, not 'x'",
+    );
+    refuses("tick 5\n", "line 2: the text ends, and no line says ticks");
+    let output = fed(&["simulate"], b"tick 5\xff");
+    assert_eq!(output.status.code(), Some(1));
+    fails(
+        &[
+            "simulate",
+            "traces/simulations/two-loggers.setup",
+            "--from",
+            "3",
+        ],
+        2,
+        "amsulfezd simulate: --from and --to are of the picture, which -o writes",
+    );
+    fails(
+        &[
+            "simulate",
+            "traces/simulations/two-loggers.setup",
+            "-o",
+            "x",
+            "--from",
+            "3",
+            "--to",
+            "2",
+        ],
+        2,
+        "amsulfezd simulate: --from 3 is after --to 2",
+    );
+    fails(
+        &["simulate", "nosuch.setup"],
+        2,
+        "amsulfezd simulate: nosuch.setup: No such file or directory (os error 2)",
+    );
 }

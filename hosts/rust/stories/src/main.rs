@@ -1,4 +1,4 @@
-//! Writes the traces and captures of `traces/`, each with its story and what is expected of it, or checks that the files there
+//! Writes the traces, captures and simulations of `traces/`, each with its story and what is expected of it, or checks that the files there
 //! are what it would write. It also writes the arguments of the program that replays them all, with the output expected of
 //! it.
 
@@ -17,6 +17,7 @@ mod night;
 mod passive;
 mod refusals;
 mod ring;
+mod simulations;
 mod story;
 mod twelve_mbaud;
 
@@ -78,13 +79,23 @@ fn all_files(folder: &Path) -> Vec<(PathBuf, Vec<u8>)> {
         }
     }
     all.push((folder.join("captures/site.capture"), captures::site_text()));
+    for story in simulations::stories() {
+        for (ending, content) in story.files() {
+            all.push((folder.join(format!("{}.{}", story.name, ending)), content));
+        }
+    }
     all
 }
 
 /// How many stories there are, in words.
 fn counted() -> String {
-    let captures = captures::stories().len();
-    format!("{} traces and {} captures", stories().len(), captures)
+    let (captures, simulations) = (captures::stories().len(), simulations::stories().len());
+    format!(
+        "{} traces, {} captures and {} simulations",
+        stories().len(),
+        captures,
+        simulations
+    )
 }
 
 /// The files of a story: path and content. Few stories have notes, few say who was heard, and many state the counts.

@@ -23,13 +23,14 @@ fn the_files_are_what_their_stories_say() {
     let there = files(&traces(), "trace").len();
     // the site's capture is its trace's
     let captures = files(&traces(), "capture").len() + files(&traces(), "entries").len() - 1;
+    let simulations = files(&traces(), "setup").len();
     assert_eq!(
         said,
         format!(
-            "{} traces and {} captures are what their stories say\n",
-            there, captures
+            "{} traces, {} captures and {} simulations are what their stories say\n",
+            there, captures, simulations
         ),
-        "no trace and no capture lies there without a story"
+        "no trace, capture or simulation lies there without a story"
     );
     let notes = [traces().join("night.notes")];
     assert_eq!(files(&traces(), "notes"), notes, "only the night has notes");

@@ -13,6 +13,7 @@ mod manual;
 mod picture;
 mod replay;
 mod settings;
+mod simulate;
 mod view;
 mod watchdog;
 
@@ -78,6 +79,11 @@ const COMMANDS: &[Entry] = &[
         run: export::run,
     },
     Entry {
+        name: "simulate",
+        command: simulate::command,
+        run: simulate::run,
+    },
+    Entry {
         name: "frame",
         command: frame::command,
         run: frame::run,
@@ -118,7 +124,7 @@ const COMMANDS: &[Entry] = &[
 pub fn tool() -> Command {
     let tool = Command::new("amsulfezd")
         .version(env!("CARGO_PKG_VERSION"))
-        .about("Traces, captures, frames and settings of a PROFIBUS station, by the proved library")
+        .about("Traces, captures, simulations, frames and settings of a PROFIBUS station, by the proved library")
         .after_help(
             "Exit status: 0; 1 where the content of the input is refused, by number, in words and with its place; 2 where the \
              command cannot be done as it was asked.",

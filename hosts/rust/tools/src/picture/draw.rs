@@ -50,7 +50,7 @@ pub fn draw(replay: &Replay, explained: &Explanation) -> String {
     }
     let description = description(explained, &scene.events);
     let (width, height) = (scene.columns.width, bottom + MARGIN);
-    whole(svg, &replay.name, &description, width, height)
+    whole(svg, &replay.name, &description, width, height, STYLE)
 }
 
 /// What is drawn, and where from left to right.
@@ -132,7 +132,14 @@ fn description(explained: &Explanation, events: &[Event]) -> String {
 }
 
 /// The file: its size, its words, its style and what was drawn.
-fn whole(drawn: Svg, name: &str, description: &str, width: Px, height: Px) -> String {
+pub fn whole(
+    drawn: Svg,
+    name: &str,
+    description: &str,
+    width: Px,
+    height: Px,
+    style: &str,
+) -> String {
     let mut svg = Svg::default();
     let (wide, high) = (width.to_string(), height.to_string());
     svg.open(
@@ -151,7 +158,7 @@ fn whole(drawn: Svg, name: &str, description: &str, width: Px, height: Px) -> St
     );
     svg.words("title", "title", name);
     svg.words("desc", "description", description);
-    svg.plain("style", STYLE);
+    svg.plain("style", style);
     svg.rectangle("paper", 0, 0, width, height);
     let mut text = svg.into_text();
     text.push_str(&drawn.into_text());
@@ -186,7 +193,7 @@ fn draw_heading(svg: &mut Svg, replay: &Replay, explained: &Explanation, width: 
 }
 
 /// A text in lines of this width; gives where it ends.
-fn draw_text(svg: &mut Svg, class: &str, top: Px, width: Px, words: &str) -> Px {
+pub fn draw_text(svg: &mut Svg, class: &str, top: Px, width: Px, words: &str) -> Px {
     let mut bottom = top;
     for line in wrapped(words, HEADING, width - 2 * MARGIN) {
         bottom += HEADING + 4;

@@ -79,6 +79,7 @@ enum Sample {
     State(State),
     Arrow(Kind),
     Dashed,
+    Lost,
     OwnAddress,
     Present,
     Silent,
@@ -102,6 +103,7 @@ impl Sample {
             Sample::State(state) => svg.has(&format!("{:?}", state)),
             Sample::Arrow(kind) => svg.has(kind.class()),
             Sample::Dashed => svg.has("unread") || svg.has("refused"),
+            Sample::Lost => svg.has("lost"),
             Sample::OwnAddress => svg.has("own-address"),
             Sample::Present => svg.has("present"),
             Sample::Silent => svg.has("silent"),
@@ -144,6 +146,7 @@ fn groups() -> Vec<(&'static str, Vec<(Sample, String)>)> {
                         Sample::Dashed,
                         "dashed: not looked at, or in a refused record",
                     ),
+                    (Sample::Lost, "lost: it met another"),
                     (Sample::OwnAddress, "from our own address: a collision"),
                 ]))
                 .collect(),
@@ -234,6 +237,10 @@ fn draw_sample(svg: &mut Svg, sample: Sample, x: Px, y: Px) {
         }
         Sample::Arrow(kind) => grouped(svg, kind.class(), arrow),
         Sample::Dashed => grouped(svg, "response unread", arrow),
+        Sample::Lost => grouped(svg, "token lost alarm", |svg| {
+            arrow(svg);
+            notice_shape(svg, false, middle, line);
+        }),
         Sample::OwnAddress => grouped(svg, "own-address alarm", arrow),
         Sample::Present => across(svg, "present", x + 16),
         Sample::Silent => across(svg, "silent", x + 16),

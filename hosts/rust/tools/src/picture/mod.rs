@@ -19,11 +19,13 @@
 //! | `lanes` | the names of the rows, and the lanes |
 //! | `draw` | the other parts of the picture |
 //! | `legend` | the styles, and the legend that shows them |
+//! | `bus` | a simulated bus as a picture: a lane for each station |
 //!
 //! Nothing is worked out anew: a picture is made from the trace and the answers that the proved program or library gave.
 
 pub mod arrows;
 mod axis;
+pub mod bus;
 mod draw;
 mod events;
 mod lanes;

@@ -1,0 +1,2 @@
+-- That the trace that the code writes is the run's.
+pub mod Traces
