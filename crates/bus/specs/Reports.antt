@@ -1,17 +1,14 @@
 -- The run over the ticks and the report that it writes. Assumes nothing.
-use Prim.Native.Nat.{ℕ, zero, suc, _+_, _-_, _*_, _^_, _<_, _≤_}
-use mathlib.Core.Path.{_≡_, refl, sym, ap, _∙_, subst}
-use mathlib.Core.List.{List, [], _∷_, _++_, append-assoc, append-nil}
-use mathlib.Core.Bool.{Bool, true, false, cond}
-use mathlib.Core.Logic.{_⊎_, inl, inr, ⊎-elim}
+use Prim.Native.Nat.{ℕ, zero, suc, _+_, _-_, _*_, _<_, _≤_}
+use mathlib.Core.Path.{_≡_, refl, ap, _∙_, subst}
+use mathlib.Core.List.{List, _++_, append-assoc, append-nil}
+use mathlib.Core.Bool.{false}
 use native.Mathlib.Omega.{arith}
 use native.Mathlib.Numerals.{add-one}
-use native.Mathlib.Nat.{eq-or-lt-of-le, suc-mul, mul-suc, mul-le-mul-left, mul-le-mul, add-zero, zero-mul, mul-zero}
+use native.Mathlib.Nat.{mul-suc, mul-le-mul-left, mul-le-mul, add-zero, mul-zero}
 use borrow.Author.Tests.{eq-eqb, ne-eqb, lt-ltb, le-ltb}
-use borrow.Table.Steps.{cases}
-use lib.ListN.{length, take, drop, getD, set, replicate, length-set, length-append, length-replicate, getD-replicate, length-drop}
-use lib.Seq.{getD-set-same, getD-set-other}
-use lib.Dec.{eqb, ltb}
+use lib.ListN.{length, drop, getD, length-append}
+use lib.Dec.{eqb}
 use Rattle.codec_fields.specs.Fields.{bytesOf, storedOf}
 use Rattle.codec_fields.specs.Laws.{low-length}
 use Rattle.codec_fields.specs.Stores.{store-next}
@@ -22,7 +19,7 @@ use Rattle.bus_ticks.specs.declared.Ticked.{Ticked}
 use Rattle.bus_ticks.specs.Ticks.{Ticks}
 use Rattle.bus_ticks.specs.Starts.{BusStarts, Set, RunIs, run-first, ticked, run-next}
 use Rattle.bus_run.specs.Sized.{Sized, sized}
-use Rattle.bus_run.specs.Run.{answerAt, tickReport, reportOf, written, reportLength, simulateRefusal, simulateNumber, simulateInto}
+use Rattle.bus_run.specs.Run.{answerAt, tickReport, reportOf, reportLength, simulateRefusal, simulateNumber, simulateInto}
 
 -- A tick's answers.
 

@@ -2,16 +2,16 @@
 -- it leaves. Assumes nothing.
 use Prim.Native.Nat.{ℕ, zero, suc, _+_, _-_, _*_, _<_, _≤_}
 use mathlib.Core.Path.{_≡_, refl, sym, ap, _∙_, subst}
-use mathlib.Core.List.{List, [], _∷_, _++_, map, append-nil}
-use mathlib.Core.Bool.{Bool, true, false, cond}
+use mathlib.Core.List.{List, [], _∷_, _++_, append-nil}
+use mathlib.Core.Bool.{Bool, true, false}
 use native.Mathlib.Omega.{arith}
 use native.Mathlib.Numerals.{add-one}
 use borrow.Author.Tests.{lt-ltb, le-ltb}
 use borrow.Table.Steps.{cases}
 use borrow.Rule.Slice.PartMut.{midOf, postOf, putMid, same-len-mid}
-use lib.ListN.{length, take, drop, getD, replicate, length-replicate, List·getD-map}
+use lib.ListN.{length, take, getD, replicate, length-replicate, List·getD-map}
 use lib.Seq.{length-take-le, take-at, getD-take}
-use lib.Dec.{ltb, lit≤}
+use lib.Dec.{ltb}
 use Rattle.bit_times.specs.declared.Baud.{Baud}
 use Rattle.bit_times.specs.Laws.{time-bound}
 use Rattle.codec_fields.specs.Fields.{storedOf}
@@ -23,14 +23,13 @@ use Rattle.codec_records.specs.declared.Head.{Head}
 use Rattle.codec_records_written.specs.Stored.{headStored, decisionStored, telegramStored}
 use Rattle.codec_records_written.specs.Whole.{recordBytes, decisionsStored, telegramsStored, recordStored}
 use Rattle.codec_records_written.specs.Written.{round-trip}
-use Rattle.settings.specs.declared.Parameters.{Parameters}
 use Rattle.station.specs.Whole.{Station, stationAt}
 use Rattle.station_answer.specs.Answer.{Polled}
 use Rattle.station_poll.specs.Poll.{pollOf}
 use Rattle.bus_wire.specs.declared.Waiting.{Waiting}
 use Rattle.bus_wire.specs.declared.Wire.{Wire}
-use Rattle.bus_wire.specs.Wire.{bytesTime, Transmission, heardAt, transmittingAt, newest}
-use Rattle.bus_wire.specs.Kept.{listed, arrivesAt, joinedOf, leftOf}
+use Rattle.bus_wire.specs.Wire.{bytesTime, heardAt, transmittingAt, newest}
+use Rattle.bus_wire.specs.Kept.{listed, arrivesAt, leftOf}
 use Rattle.bus_wire.specs.Waits.{Waits, waits-count, waits-few, waits-joined, waits-left}
 use Rattle.bus_wire.specs.Arrives.{OnWire, Arrival, arrival, ownLatest, transmitting-is}
 use Rattle.bus_seats.specs.declared.Seat.{Seat as SeatKept}

@@ -1,7 +1,7 @@
 -- The setup of a simulated bus (document 02, P12): its numbers, its stations by rising address, and what refuses it. Assumes nothing.
 use Prim.Native.Nat.{ℕ, zero, suc, _+_, _*_}
 use mathlib.Core.List.{List, [], _∷_, _++_}
-use mathlib.Core.Bool.{Bool, cond}
+use mathlib.Core.Bool.{cond}
 use lib.ListN.{length}
 use lib.Dec.{eqb, ltb}
 use Rattle.codec_fields.specs.Fields.{bitNumber, loadOf, lowBytes}

@@ -1,5 +1,5 @@
 -- The bus at the start, and the run over the ticks: before tick k the code keeps the bus before tick k. Assumes nothing.
-use Prim.Native.Nat.{ℕ, zero, suc, _+_, _*_, _<_, _≤_}
+use Prim.Native.Nat.{ℕ, suc, _+_, _*_, _<_}
 use mathlib.Core.Path.{_≡_, refl, sym, ap, _∙_}
 use mathlib.Core.List.{List, []}
 use mathlib.Core.Logic.{⊎-elim}
@@ -10,7 +10,7 @@ use lib.ListN.{length, getD, set, replicate, length-set, length-replicate}
 use lib.Seq.{getD-set-same, getD-set-other}
 use Rattle.settings.specs.declared.Parameters.{Parameters}
 use Rattle.settings.specs.declared.Created.{Created}
-use Rattle.station.specs.Whole.{Station, Started, stationAt}
+use Rattle.station.specs.Whole.{Started, stationAt}
 use Rattle.station.specs.Parts.{freshStation, newStation}
 use Rattle.station_answer.specs.Answer.{Polled}
 use Rattle.station_command.specs.Command.{onlineOf}
@@ -19,7 +19,7 @@ use Rattle.bus_setup.specs.Setup.{stationsOf, tickOf, ticksOf, stationHeader, p
 use Rattle.bus_wire.specs.Kept.{quiet, nothingWaits}
 use Rattle.bus_wire.specs.Waits.{waits-none}
 use Rattle.bus_wire.specs.Arrives.{wire-quiet, ownLatest}
-use Rattle.bus_run.specs.Run.{settingsIn, startSeat, busAfter, busAt}
+use Rattle.bus_run.specs.Run.{settingsIn, startSeat, busAt}
 use Rattle.bus_seats.specs.declared.Seat.{Seat as SeatKept}
 use Rattle.bus_seats.specs.Turns.{SeatIs}
 use Rattle.bus_ticks.specs.declared.Bus.{Bus as BusKept}

@@ -1,8 +1,8 @@
 -- A tick of the code is a tick of the bus: where the loop over its stations stands, and what it leaves. Assumes nothing.
 use Prim.Native.Nat.{ℕ, zero, suc, _+_, _-_, _*_, _<_, _≤_}
 use mathlib.Core.Path.{_≡_, refl, sym, ap, _∙_, subst}
-use mathlib.Core.List.{List, [], _∷_}
-use mathlib.Core.Bool.{Bool, true, false, cond}
+use mathlib.Core.List.{List, _∷_}
+use mathlib.Core.Bool.{true, false, cond}
 use mathlib.Core.Logic.{_⊎_, inl, inr, ⊎-elim}
 use native.Mathlib.Omega.{arith}
 use native.Mathlib.Numerals.{add-one}
@@ -11,25 +11,24 @@ use borrow.Author.Tests.{eq-eqb, ne-eqb, lt-ltb, le-ltb, eqb-true, eqb-false}
 use borrow.Table.Steps.{cases}
 use lib.ListN.{length, take, getD, set, length-set}
 use lib.Seq.{getD-set-same, getD-set-other}
-use lib.Dec.{eqb, ltb}
+use lib.Dec.{eqb}
 use Rattle.bit_times.specs.declared.Baud.{Baud}
 use Rattle.bit_times.specs.Laws.{time-some}
 use Rattle.codec_telegrams.specs.Words.{telegramWord}
 use Rattle.codec_answers.specs.declared.Answer.{Answer}
 use Rattle.codec_answers.specs.Answers.{sentBytes, answerWord}
-use Rattle.station.specs.Whole.{Station, stationAt}
+use Rattle.station.specs.Whole.{Station}
 use Rattle.bus_wire.specs.declared.Wire.{Wire}
 use Rattle.bus_wire.specs.Wire.{Transmission, bytesTime, sentTelegram}
 use Rattle.bus_wire.specs.Kept.{laterOf, sentOn, clearedAt}
-use Rattle.bus_wire.specs.Arrives.{All, all-map, OnWire, wire-cleared, Before, wire-sent, ownLatest}
+use Rattle.bus_wire.specs.Arrives.{all-map, OnWire, wire-cleared, Before, wire-sent, ownLatest}
 use Rattle.bus_seats.specs.declared.Seat.{Seat as SeatKept}
 use Rattle.bus_seats.specs.declared.Record.{Record}
-use Rattle.bus_seats.specs.declared.Turn.{Turn}
 use Rattle.bus_seats.specs.declared.Place.{Place}
 use Rattle.bus_ticks.specs.declared.Bus.{Bus as BusKept}
 use Rattle.bus_ticks.specs.declared.Ticked.{Ticked}
-use Rattle.bus_run.specs.Run.{Seat, Bus, recordFor, answerFor, bytesFor, seatAfter, transmissionFor, sentAfter, busAfter}
-use Rattle.bus_seats.specs.Kept.{TurnIs, endOf, wireAfter, untilAfter, PlaceIs}
+use Rattle.bus_run.specs.Run.{Bus, recordFor, answerFor, bytesFor, seatAfter, transmissionFor, sentAfter, busAfter}
+use Rattle.bus_seats.specs.Kept.{endOf, wireAfter, untilAfter, PlaceIs}
 use Rattle.bus_seats.specs.Turns.{SeatIs, turn-record, turn-answer, turn-seat}
 
 -- the record of the chosen station: the new one at its own place

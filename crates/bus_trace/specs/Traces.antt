@@ -1,19 +1,19 @@
 -- The run over the ticks and the entries that it writes; the trace, and the call. Assumes nothing.
-use Prim.Native.Nat.{ℕ, zero, suc, _+_, _-_, _*_, _^_, _<_, _≤_}
+use Prim.Native.Nat.{ℕ, suc, _+_, _-_, _*_, _^_, _<_, _≤_}
 use mathlib.Core.Path.{_≡_, refl, sym, ap, _∙_, subst}
-use mathlib.Core.List.{List, [], _∷_, _++_, append-assoc, append-nil}
-use mathlib.Core.Bool.{Bool, true, false, cond}
+use mathlib.Core.List.{List, [], _∷_, _++_}
+use mathlib.Core.Bool.{false}
 use native.Mathlib.Omega.{arith}
 use native.Mathlib.Numerals.{add-one}
 use native.Mathlib.Nat.{add-zero}
 use borrow.Author.Tests.{eq-eqb, ne-eqb, lt-ltb, le-ltb, lt-leb, le-leb}
 use lib.ListN.{length, take, drop, getD, set, length-append}
 use lib.Seq.{sets, sets-eq, set-out, length-take-le, drop-cons, drop-length}
-use lib.Dec.{eqb, ltb, leb}
+use lib.Dec.{eqb}
 use Rattle.bus_setup.specs.Setup.{stationsOf, tickOf, ticksOf, stationHeader, placedOf, setupRefusal}
 use Rattle.bus_setup.specs.Laws.{header-length}
 use Rattle.bus_run.specs.Run.{recordAt, entriesOf, traceOf, traceRefusal, traceNumber, traceInto}
-use Rattle.bus_run.specs.Sized.{Sized, sized}
+use Rattle.bus_run.specs.Sized.{sized}
 use Rattle.bus_ticks.specs.declared.Bus.{Bus as BusKept}
 use Rattle.bus_ticks.specs.declared.Ticked.{Ticked}
 use Rattle.bus_ticks.specs.Ticks.{Ticks}

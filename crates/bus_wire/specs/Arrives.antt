@@ -1,10 +1,10 @@
 -- Why what the code keeps of a bus is enough: of all that was sent at most one telegram can still arrive, it is the one that was sent
 -- last, and it meets none. Assumes nothing.
-use Prim.Native.Nat.{ℕ, zero, suc, _+_, _-_, _<_, _≤_}
+use Prim.Native.Nat.{ℕ, _+_, _-_, _<_, _≤_}
 use mathlib.Core.Path.{_≡_, refl, sym, ap, _∙_, subst}
-use mathlib.Core.List.{List, [], _∷_, _++_}
+use mathlib.Core.List.{List, [], _∷_}
 use mathlib.Core.Bool.{Bool, true, false, cond, _&&_, not}
-use mathlib.Core.Logic.{_⊎_, inl, inr, ⊎-elim}
+use mathlib.Core.Logic.{_⊎_, inl, inr}
 use native.Mathlib.Omega.{arith}
 use borrow.Author.Tests.{eq-eqb, ne-eqb, lt-ltb, le-ltb, ltb-true, ltb-false, leb-true, leb-false}
 use borrow.Table.Steps.{cases}
@@ -12,7 +12,7 @@ use lib.Dec.{eqb, ltb, leb}
 use Rattle.codec_telegrams.specs.Words.{telegramWord}
 use Rattle.codec_telegrams.specs.declared.Telegram.{Telegram}
 use Rattle.bus_wire.specs.declared.Wire.{Wire}
-use Rattle.bus_wire.specs.Wire.{Transmission, some, same, meets, lostIn, dueAt, hears, heardAmong, heardAt, transmittingAt}
+use Rattle.bus_wire.specs.Wire.{Transmission, some, same, meets, lostIn, hears, heardAmong, heardAt, transmittingAt}
 use Rattle.bus_wire.specs.Kept.{laterOf, quiet, sentOn, arrivesAt, clearedAt}
 
 -- what holds of each transmission of a list

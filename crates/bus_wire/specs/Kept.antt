@@ -3,7 +3,7 @@
 use Prim.Native.Nat.{ℕ, zero, suc, _+_, _-_}
 use mathlib.Core.List.{List, [], _∷_}
 use mathlib.Core.Bool.{Bool, true, false, cond}
-use lib.ListN.{length, take, set, getD}
+use lib.ListN.{take, set, getD}
 use lib.Dec.{eqb, ltb, leb}
 use Rattle.bus_wire.specs.declared.Wire.{Wire}
 use Rattle.bus_wire.specs.declared.Waiting.{Waiting}

@@ -1,13 +1,12 @@
 -- The telegrams that wait for a station: what the code keeps are their words. Assumes nothing.
 use Prim.Native.Nat.{ℕ, zero, suc, _+_, _-_, _<_, _≤_}
-use mathlib.Core.Path.{_≡_, refl, sym, ap, _∙_, subst}
+use mathlib.Core.Path.{_≡_, refl, sym, ap, _∙_}
 use mathlib.Core.List.{List, [], _∷_, _++_, map}
-use mathlib.Core.Bool.{Bool, true, false, cond}
 use native.Mathlib.Omega.{arith}
 use native.Mathlib.Numerals.{add-one}
-use borrow.Author.Tests.{lt-ltb, le-ltb, ltb-true, ltb-false}
+use borrow.Author.Tests.{lt-ltb, ltb-true, ltb-false}
 use borrow.Table.Steps.{cases}
-use lib.ListN.{length, take, drop, set, getD, length-set, length-append, length-drop, length-map}
+use lib.ListN.{length, take, drop, getD, length-set, length-append, length-drop, length-map}
 use lib.Seq.{length-take-le, take-nil, take-append-le, drop-append-le, drop-drop, take-suc-set}
 use lib.Dec.{ltb, lit≤}
 use Rattle.codec_telegrams.specs.Words.{telegramWord}

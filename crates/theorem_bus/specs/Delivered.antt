@@ -1,10 +1,10 @@
 -- What a record lists: each telegram was sent by another station, has ended, and met none; and each transmission is due at one tick
 -- alone. Assumes nothing.
 use Prim.Native.Nat.{ℕ, zero, suc, _+_, _-_, _*_, _<_, _≤_}
-use mathlib.Core.Path.{_≡_, refl, sym, ap, _∙_, subst}
+use mathlib.Core.Path.{_≡_, refl}
 use mathlib.Core.List.{List, [], _∷_, _++_}
-use mathlib.Core.Bool.{Bool, true, false, cond, _&&_, not}
-use mathlib.Core.Logic.{_⊎_, inl, inr, ⊎-elim}
+use mathlib.Core.Bool.{Bool, true, false, _&&_, not}
+use mathlib.Core.Logic.{_⊎_, inl, inr}
 use native.Mathlib.Omega.{arith}
 use native.Mathlib.Nat.{suc-mul, mul-le-mul-right}
 use borrow.Author.Tests.{eqb-false, le-ltb, leb-true, ltb-true, ltb-false, not-true}
@@ -14,7 +14,7 @@ use lib.Dec.{eqb, ltb, leb}
 use Rattle.bit_times.specs.Laws.{and-true}
 use Rattle.codec_telegrams.specs.declared.Telegram.{Telegram}
 use Rattle.bus_setup.specs.Setup.{stationsOf, tickOf}
-use Rattle.bus_wire.specs.Wire.{Transmission, some, same, meets, lostIn, dueAt, hears, heardAmong, heardAt, newest}
+use Rattle.bus_wire.specs.Wire.{Transmission, some, same, meets, lostIn, dueAt, hears, heardAmong, heardAt}
 use Rattle.bus_run.specs.Run.{Bus, startSeat, given, answerFor, bytesFor, seatAfter, transmissionFor, sentAfter, busAfter, busAt}
 
 -- one of a list

@@ -3,7 +3,7 @@
 use Prim.Native.Nat.{ℕ, zero, suc, _+_, _*_, _<_, _≤_}
 use mathlib.Core.Path.{_≡_, refl, sym, ap, _∙_, subst}
 use mathlib.Core.List.{List, [], _∷_}
-use mathlib.Core.Bool.{Bool, true, false}
+use mathlib.Core.Bool.{false}
 use mathlib.Core.Logic.{⊎-elim}
 use native.Mathlib.Omega.{arith}
 use borrow.Author.Tests.{ne-eqb}
@@ -16,19 +16,16 @@ use Rattle.codec_records.specs.Records.{recordRefusal}
 use Rattle.codec_answers.specs.declared.Sent.{Sent}
 use Rattle.codec_answers.specs.declared.Sent.the-variants as sent
 use Rattle.settings.specs.declared.Parameters.{Parameters}
-use Rattle.settings.specs.Settings.{createdNumber}
 use Rattle.station.specs.Whole.{Station}
 use Rattle.station.specs.Parts.{freshStation}
 use Rattle.station_answer.specs.Answer.{polledOf, refusedPoll}
 use Rattle.station_command.specs.Command.{connectOf, onlineOf}
 use Rattle.station_hear_listen.specs.HearListen.{sentByUs}
 use Rattle.station_poll.specs.Poll.{acceptedAfter, acceptedPoll, pollOf}
-use Rattle.trace.specs.Trace.{settingsAt}
-use Rattle.bus_setup.specs.Setup.{stationsOf, tickOf, stationPlace, addressOf, stationHeader, rankOf, placedOf, setupRefusal}
+use Rattle.bus_setup.specs.Setup.{stationsOf, tickOf, stationPlace, addressOf, rankOf, placedOf, setupRefusal}
 use Rattle.bus_wire.specs.Wire.{Transmission, sentTelegram}
 use Rattle.bus_run.specs.Run.{settingsFor, given, answerFor, bytesFor, transmissionFor, sentAfter, busAt, recordAt}
 use Rattle.bus_run.specs.Sized.{sized, placed-below}
-use Rattle.theorem_bus.specs.Statement.{freshAt}
 use Rattle.theorem_bus.specs.Parts.{start-online, next-station}
 use Rattle.theorem_bus.specs.Start.{refusal-parts, address-given}
 use Rattle.theorem_bus.specs.Delivered.{Among, Every, every-map, Delivered, sent-after, listed-delivered}

@@ -1,29 +1,26 @@
 -- A station's entries, answered one by one, and its part of the report. Assumes nothing.
 use Prim.Native.Nat.{ℕ, zero, suc, _+_, _-_, _*_, _<_, _≤_}
-use mathlib.Core.Path.{_≡_, refl, sym, ap, _∙_, subst}
+use mathlib.Core.Path.{_≡_, refl, sym, ap, _∙_}
 use mathlib.Core.List.{List, [], _∷_, _++_, append-assoc, append-nil}
-use mathlib.Core.Bool.{true, false}
 use mathlib.Core.Logic.{⊎-elim}
 use native.Mathlib.Omega.{arith}
 use native.Mathlib.Nat.{eq-or-lt-of-le, mul-zero, mul-suc, mul-le-mul-left}
 use borrow.Author.Tests.{ne-eqb, le-ltb}
 use lib.ListN.{length, take, drop, length-append, length-drop}
-use lib.Seq.{take-at, drop-at, drop-append-le, take-append-le, drop-drop}
+use lib.Seq.{drop-at, drop-append-le, take-append-le, drop-drop}
 use Rattle.codec_fields.specs.Fields.{bytesOf}
 use Rattle.codec_fields.specs.Laws.{low-length}
 use Rattle.codec_answers.specs.declared.Answer.{Answer}
 use Rattle.codec_answers.specs.Answers.{answerWord}
-use Rattle.codec_records_written.specs.Stored.{headWord}
 use Rattle.codec_records_written.specs.Whole.{recordBytes}
 use Rattle.station.specs.Whole.{Station}
 use Rattle.station_answer.specs.Answer.{Polled}
 use Rattle.station_command.specs.Command.{onlineOf}
 use Rattle.station_poll.specs.Poll.{pollOf}
 use Rattle.trace.specs.Entries.{recordLength, entryOf}
-use Rattle.trace.specs.Trace.{Run, ended, answered}
 use Rattle.theorem_every_trace.specs.Statement.{Entry, Whole, laid, along}
-use Rattle.bus_setup.specs.Setup.{stationsOf, tickOf, ticksOf}
-use Rattle.bus_run.specs.Run.{startSeat, recordOf, recordFor, polledFor, answerFor, seatAfter, busAfter, busAt, answerAt, recordAt, tickReport, reportOf, entriesOf}
+use Rattle.bus_setup.specs.Setup.{stationsOf}
+use Rattle.bus_run.specs.Run.{startSeat, recordOf, recordFor, polledFor, seatAfter, busAfter, busAt, answerAt, recordAt, tickReport, reportOf, entriesOf}
 use Rattle.theorem_bus.specs.Statement.{freshAt, partOf}
 
 -- Entries after entries.

@@ -1,22 +1,21 @@
 -- The header of a station's trace starts the station that its settings are for. Assumes nothing.
-use Prim.Native.Nat.{ℕ, zero, suc, _+_, _-_, _*_, _^_, _<_, _≤_}
+use Prim.Native.Nat.{ℕ, _+_, _-_, _^_, _<_, _≤_}
 use mathlib.Core.Path.{_≡_, refl, sym, ap, _∙_, subst}
 use mathlib.Core.List.{List, [], _∷_, _++_, append-nil}
-use mathlib.Core.Bool.{Bool, true, false, cond}
+use mathlib.Core.Bool.{cond}
 use native.Mathlib.Omega.{arith}
 use native.Mathlib.Nat.{add-zero, zero-add}
 use borrow.Author.Tests.{ne-eqb, le-ltb, le-leb, ltb-false, eqb-false}
 use borrow.Table.Steps.{cases}
-use lib.ListN.{length, take, drop, getD, length-append, List·getD-append}
+use lib.ListN.{length, drop, getD, length-append, List·getD-append}
 use lib.Seq.{take-at, drop-cons, getD-take, getD-drop}
-use lib.Dec.{eqb, ltb, lit≤, lit<}
-use Rattle.codec_fields.specs.Fields.{Bytes, beFrom, be, loadOf, lowBytes}
+use lib.Dec.{eqb, ltb, lit≤}
+use Rattle.codec_fields.specs.Fields.{Bytes, beFrom, loadOf, lowBytes}
 use Rattle.codec_fields.specs.Laws.{bytes-low, low-be, same-at}
 use Rattle.codec_fields.specs.Stores.{load-room, loaded-bytes}
 use Rattle.bit_times.specs.declared.Coded.{Coded}
 use Rattle.bit_times.specs.declared.Coded.the-variants.{Rate, Unknown}
 use Rattle.bit_times.specs.Times.{baudOf}
-use Rattle.settings.specs.declared.Parameters.{Parameters}
 use Rattle.settings.specs.declared.Created.{Created}
 use Rattle.settings.specs.declared.Created.the-variants as created
 use Rattle.settings.specs.Settings.{createdNumber}

@@ -1,6 +1,6 @@
 -- The theorem: a station's part of the report is what the trace call answers to its trace. Assumes nothing.
 use Prim.Native.Nat.{ℕ, zero, suc, _+_, _-_, _*_, _^_, _<_, _≤_}
-use mathlib.Core.Path.{_≡_, refl, sym, ap, _∙_, subst}
+use mathlib.Core.Path.{_≡_, refl, ap, _∙_}
 use mathlib.Core.List.{List, [], _∷_, _++_}
 use mathlib.Core.Bool.{Bool}
 use native.Mathlib.Omega.{arith}
@@ -26,7 +26,7 @@ use Rattle.bus_setup.specs.Laws.{header-length}
 use Rattle.bus_wire.specs.Wire.{heardAt, newest}
 use Rattle.bus_run.specs.Run.{busAt, telegramIn, recordOf, recordFor, recordAt, entriesOf, traceOf, traceRefusal, traceNumber, traceInto}
 use Rattle.bus_run.specs.Sized.{Sized, sized, placed-below}
-use Rattle.theorem_bus.specs.Statement.{freshAt, partOf, Part, Theorem}
+use Rattle.theorem_bus.specs.Statement.{freshAt, partOf, Theorem}
 use Rattle.theorem_bus.specs.Parts.{along-ending, entriesTo, entries-laid, entries-whole, entries-many, answers-are, report-part}
 use Rattle.theorem_bus.specs.Start.{refusal-parts, length-is, starts}
 

@@ -2,33 +2,29 @@
 use Prim.Native.Nat.{ℕ, zero, suc, _+_, _*_, _^_, _<_, _≤_}
 use mathlib.Core.Path.{_≡_, refl, sym, ap, _∙_, subst}
 use mathlib.Core.List.{List, [], _∷_, _++_}
-use mathlib.Core.Bool.{Bool, true, false, cond}
+use mathlib.Core.Bool.{Bool, false}
 use native.Mathlib.Omega.{arith}
 use native.Mathlib.Nat.{mul-le-mul}
 use borrow.Author.Tests.{eq-eqb, le-ltb}
 use borrow.Table.Steps.{cases}
 use lib.ListN.{length}
-use lib.Dec.{eqb, ltb}
+use lib.Dec.{eqb}
 use Rattle.bit_times.specs.declared.Micros.{Micros}
 use Rattle.codec_fields.specs.Fields.{Bytes}
 use Rattle.settings.specs.declared.Parameters.{Parameters}
 use Rattle.settings_rules.specs.Rules.{refuseOutside, applicationsRefusal}
 use Rattle.codec_telegrams.specs.declared.Telegram.{Telegram}
-use Rattle.codec_telegrams.specs.declared.Telegram.the-variants.{ShortConfirmation}
 use Rattle.codec_telegrams.specs.Words.{TelegramFits}
 use Rattle.codec_decisions.specs.declared.Decision.the-variants.{Decline}
 use Rattle.codec_records.specs.declared.Head.{Head}
 use Rattle.codec_records.specs.Records.{headOf, telegramAt, decisionAt, recordRefusal}
-use Rattle.codec_records_written.specs.Whole.{RecordFits, Says, recordBytes}
+use Rattle.codec_records_written.specs.Whole.{Says}
 use Rattle.codec_records_written.specs.Written.{round-trip}
 use Rattle.codec_answers.specs.declared.Answer.{Answer}
 use Rattle.codec_answers.specs.declared.Sent.{Sent}
 use Rattle.codec_answers.specs.declared.Sent.the-variants as sent
 use Rattle.codec_answers.specs.Answers.{SentFits}
-use Rattle.station.specs.declared.ConnectivityState.{ConnectivityState}
 use Rattle.station.specs.declared.ConnectivityState.the-variants as connectivity
-use Rattle.station.specs.declared.State.{State}
-use Rattle.station.specs.declared.Core.{Core}
 use Rattle.station.specs.declared.Counts.{Counts}
 use Rattle.station.specs.declared.Event.{Event}
 use Rattle.station.specs.declared.Event.the-variants as event
@@ -39,13 +35,13 @@ use Rattle.station_answer.specs.Counted.{countedOf}
 use Rattle.station_answer.specs.Answer.{Polled, stepAnswer, polledOf, refusedPoll}
 use Rattle.station_command.specs.Command.{connectOf, onlineOf}
 use Rattle.station_hear_listen.specs.HearListen.{sentByUs}
-use Rattle.station_poll.specs.Poll.{connectedOf, pollOnline, pollInner, acceptedAfter, acceptedPoll, pollOf}
-use Rattle.theorem_sound.specs.Sound.{Call, poll, online, after, run, SoundStation, new-sound, sound}
+use Rattle.station_poll.specs.Poll.{acceptedAfter, acceptedPoll, pollOf}
+use Rattle.theorem_sound.specs.Sound.{poll, online, after, run, SoundStation, new-sound, sound}
 use Rattle.theorem_sound.specs.Fits.{every-answer-fits}
 use Rattle.theorem_silence.specs.Theorem.{inner-online}
 use Rattle.bus_setup.specs.Setup.{stationsOf, tickOf, ticksOf, setupRefusal}
-use Rattle.bus_wire.specs.Wire.{Transmission, sentTelegram, transmittingAt, heardAt}
-use Rattle.bus_run.specs.Run.{settingsFor, given, headAt, declines, telegramIn, recordOf, recordFor, answerFor, transmissionFor, busAt, recordAt, answerAt}
+use Rattle.bus_wire.specs.Wire.{sentTelegram, transmittingAt, heardAt}
+use Rattle.bus_run.specs.Run.{settingsFor, given, headAt, declines, telegramIn, recordOf, recordFor, transmissionFor, busAt, recordAt, answerAt}
 use Rattle.bus_run.specs.Sized.{sized}
 use Rattle.theorem_bus.specs.Statement.{freshAt}
 use Rattle.theorem_bus.specs.Parts.{start-online, next-station, next-answer}

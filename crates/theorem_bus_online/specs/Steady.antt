@@ -2,8 +2,8 @@
 -- online and in a state other than Offline, nothing is counted as a meeting, and no application's telegram is sent. One law for each step.
 -- Assumes nothing.
 use Prim.Native.Nat.{ℕ, zero, suc, _<_, _≤_}
-use mathlib.Core.Bool.{Bool, true, false, cond}
-use mathlib.Core.Path.{_≡_, refl, sym, ap, _∙_, subst}
+use mathlib.Core.Bool.{Bool, true, false}
+use mathlib.Core.Path.{_≡_, refl, sym, _∙_, subst}
 use mathlib.Core.List.{List}
 use native.Mathlib.Omega.{arith}
 use lib.Dec.{ltb, eqb}
@@ -43,7 +43,7 @@ use Rattle.station_hold.specs.declared.Asked.{Asked}
 use Rattle.station_hold.specs.Hold.{usePassOf, appTransmitOf, useAppsAfter, useAppsOf, holdsOf, useTokenTimed, useTokenOf, validResponse, receivedOf, withNotice, timeoutOf, awaitDataOf}
 use Rattle.station_hear_active.specs.HearActive.{remembers, acceptedOf, tokenToUs, tokenWitnessed, tokenHeard, activeRequested, activeHeard, handleTelegram}
 use Rattle.station_hear_listen.specs.HearListen.{sentByUs, listenHeard, passiveHeard, listenTelegram}
-use Rattle.station_listen.specs.Listen.{handleLostToken, listenAnswered, respondOf, listenResponse, heardTelegram, heardAll, metToo, metIn, withMet, receivedAll, meetingsOf, consumedAll, listenTokenOn, listenTokenOf, activeResponse, activeIdleOn, activeIdleOf}
+use Rattle.station_listen.specs.Listen.{handleLostToken, listenAnswered, respondOf, listenResponse, heardTelegram, heardAll, metToo, metIn, receivedAll, meetingsOf, consumedAll, listenTokenOn, listenTokenOf, activeResponse, activeIdleOn, activeIdleOf}
 use Rattle.station_pass.specs.Pass.{passSentOn, passSend, passPollOn, passPoll, passTokenOf}
 use Rattle.station_await_status.specs.AwaitStatus.{statusAnswered, statusUnexpected, statusReceived, awaitStatusOf}
 use Rattle.station_check_pass.specs.CheckPass.{removalOf, resendOf, checkReceived, checkTokenPassOf}

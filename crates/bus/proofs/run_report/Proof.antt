@@ -1,5 +1,4 @@
 -- `bus::run_report` meets its contract: before tick k the report has the answers of the first k. Assumes nothing.
-use borrow.Author.Needs.{needs}
 use native.Mathlib.Omega.{arith}
 use Prim.Native.Nat.{ℕ, _*_, _≤_, _-_}
 use mathlib.Core.Path.{_≡_, refl}

@@ -1,5 +1,5 @@
 -- `bus::simulate` meets its contract: refused, without room, or run. Assumes nothing.
-use mathlib.Core.Path.{_≡_, refl, sym, _∙_}
+use mathlib.Core.Path.{sym, _∙_}
 use borrow.Author.Needs.{needs}
 use native.Mathlib.Omega.{arith}
 use Rattle.bus_run.specs.Sized.{sized}

@@ -1,7 +1,7 @@
 -- `bus_setup::others` meets its contract: the sum so far is that of the stations passed. Assumes nothing.
 use borrow.Author.Needs.{needs}
 use native.Mathlib.Omega.{arith}
-use Prim.Native.Nat.{_≤_, _-_, _*_}
+use Prim.Native.Nat.{_≤_, _-_}
 use mathlib.Core.Path.{_≡_}
 use Rattle.bus_setup.specs.Setup.{sumBelow, othersOf, isOther}
 use Rattle.bus_setup.specs.Laws.{sum-none, sum-more}

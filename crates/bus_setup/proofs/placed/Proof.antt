@@ -1,7 +1,7 @@
 -- `bus_setup::placed` meets its contract: the station found so far. Assumes nothing.
 use borrow.Author.Needs.{needs}
 use native.Mathlib.Omega.{arith}
-use Prim.Native.Nat.{_≤_, _-_, _*_}
+use Prim.Native.Nat.{_≤_, _-_}
 use mathlib.Core.Path.{_≡_}
 use Rattle.bus_setup.specs.Setup.{placedIn}
 use Rattle.bus_setup.specs.Laws.{placed-none, placed-more, placed-all}

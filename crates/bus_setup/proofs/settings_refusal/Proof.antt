@@ -1,7 +1,7 @@
 -- `bus_setup::settings_refusal` meets its contract: the first refusal so far. Assumes nothing.
 use borrow.Author.Needs.{needs}
 use native.Mathlib.Omega.{arith}
-use Prim.Native.Nat.{_≤_, _-_, _*_}
+use Prim.Native.Nat.{_≤_, _-_}
 use mathlib.Core.Path.{_≡_}
 use Rattle.codec_records.specs.Records.{wordsRefusal}
 use Rattle.bus_setup.specs.Setup.{stationRefusal, settingsRefusal}

@@ -1,5 +1,5 @@
 -- `bus_ticks::open_seat` meets its contract: a fresh station of the header, online. Assumes nothing.
-use mathlib.Core.Path.{refl, sym, ap, _∙_}
+use mathlib.Core.Path.{refl, sym}
 use borrow.Author.Needs.{needs}
 use Rattle.bus_setup.specs.Laws.{header-length}
 use Rattle.bus_ticks.specs.Starts.{seat-opened}

@@ -2,8 +2,8 @@
 use borrow.Author.Needs.{needs}
 use native.Mathlib.Omega.{arith}
 use Prim.Native.Nat.{ℕ, _≤_, _<_, _-_}
-use mathlib.Core.Path.{_≡_, refl, ap, _∙_}
-use lib.ListN.{length, replicate, length-replicate}
+use mathlib.Core.Path.{_≡_, refl}
+use lib.ListN.{length}
 use Rattle.bus_run.specs.Run.{Bus}
 use Rattle.bus_ticks.specs.Ticks.{BusIs, Ticking, ticking-first, ticking-next, ticking-last, picked-short, place-short}
 use Rattle.bus_ticks.proofs.tick.Statement.{statement}

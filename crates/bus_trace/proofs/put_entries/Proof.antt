@@ -1,5 +1,4 @@
 -- `bus_trace::put_entries` meets its contract: before tick k the entries of the first k stand one behind the other. Assumes nothing.
-use borrow.Author.Needs.{needs}
 use native.Mathlib.Omega.{arith}
 use Prim.Native.Nat.{ℕ, _+_, _*_, _≤_, _<_, _-_}
 use mathlib.Core.Path.{_≡_, refl}

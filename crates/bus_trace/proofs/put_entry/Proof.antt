@@ -1,8 +1,7 @@
 -- `bus_trace::put_entry` meets its contract: the length, then the bytes. Assumes nothing.
 use borrow.Author.Needs.{needs}
 use native.Mathlib.Omega.{arith}
-use lib.ListN.{length, take}
-use lib.Seq.{length-take-le}
+use lib.ListN.{length}
 use Rattle.bus_trace.specs.Traces.{entry-put, part-short}
 use Rattle.bus_trace.proofs.put_entry.Statement.{statement}
 use Rattle.bus_trace.proofs.put_entry.Tie as tie

@@ -232,7 +232,8 @@ fn sendings(setup: &Setup, report: &[Answer], count: usize) -> Vec<Sending> {
 }
 
 /// What becomes of one of these telegrams: it is lost if another begins before it has ended or has not ended when it begins.
-/// Those before it that can reach it are among the last sixteen: of eight stations, each has at most one that goes on.
+/// Those before it that can reach it are among the last sixteen: while one is on the bus, each of the seven others begins at most
+/// two, since after its own it keeps the pause.
 fn fate(sent: &[Sending], index: usize, tick: u64, last: u64) -> Fate {
     let one = &sent[index];
     let before = sent[index.saturating_sub(16)..index].iter();

@@ -165,11 +165,11 @@ impl<'a> Scene<'a> {
                 x: LEFT + self.column * index as Px,
                 width: self.column,
             };
-            let of_column: Vec<&Sending> = self
-                .bus
-                .sent
+            // they stand in the order in which they were sent
+            let first = self.bus.sent.partition_point(|one| one.clock < *clock);
+            let of_column: Vec<&Sending> = self.bus.sent[first..]
                 .iter()
-                .filter(|one| one.clock == *clock)
+                .take_while(|one| one.clock == *clock)
                 .collect();
             for (number, one) in of_column.iter().enumerate() {
                 let x = column.arrow(number, of_column.len());
@@ -189,8 +189,9 @@ impl<'a> Scene<'a> {
             .collect();
         let mut blocks: Vec<(usize, usize, State, u64)> = Vec::new();
         for (index, clock) in self.clocks.iter().enumerate() {
-            let change = match changes.iter().rev().find(|change| change.clock <= *clock) {
-                Some(change) => change,
+            let until = changes.partition_point(|change| change.clock <= *clock);
+            let change = match until.checked_sub(1) {
+                Some(last) => changes[last],
                 None => continue,
             };
             match blocks.last_mut() {
