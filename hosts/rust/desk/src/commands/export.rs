@@ -44,11 +44,15 @@ pub fn command(command: Command) -> Command {
 
 pub fn run(words: &ArgMatches) -> Result<(), Failure> {
     let input = input::read(words)?;
-    let form = words
-        .get_one::<String>("AS")
-        .map(String::as_str)
-        .or_else(|| output::ending(words));
+    let form = words.get_one::<String>("AS").cloned();
+    let form = form.or_else(|| output::ending(words));
+    let form = form.as_deref();
     let link = match words.get_flag("private") {
+        true if form != Some("pcap") => {
+            return Err(Failure::Usage(
+                "--private is for a pcap file: --as pcap, or a name that ends in .pcap".to_string(),
+            ))
+        }
         true => pcap::USER,
         false => pcap::PROFIBUS,
     };
