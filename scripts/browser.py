@@ -4,7 +4,7 @@ WebDriver protocol, of which the standard library speaks all that is needed. scr
 browser.py PAGES [FOLDER]. PAGES is a folder with night.html, passive.html, refused.html, timeout.html, each the page of a stored
 trace, and large.html, one of 100,000 entries. Each check prints a line; the first that does not hold ends the run. With FOLDER the
 pictures to be looked at are put there. browser.py --repeat TRACE OUT
-makes a trace of 100,000 entries: the polls of a trace again and again, each time a tenth of a second later."""
+[ENTRIES] makes a trace of 100,000 entries, or so many: the polls of a trace again and again, each time a tenth of a second later."""
 
 import base64
 import json
@@ -320,8 +320,8 @@ def large(browser, page, folder):
     hold(last == 100000, "the table scrolls to entry 100,000")
 
 
-def repeat(trace, out):
-    """A trace of 100,000 entries, of the polls of another one whose header is of edition 1."""
+def repeat(trace, out, entries="100000"):
+    """A trace of so many entries, of the polls of another one whose header is of edition 1."""
     with open(trace, "rb") as file:
         given = file.read()
     head, rest, polls = given[:16], given[16:], []
@@ -331,7 +331,7 @@ def repeat(trace, out):
         if length:
             polls.append(entry)
     made = [head, b"\0"]
-    for number in range(99_999):
+    for number in range(int(entries) - 1):
         poll = polls[number % len(polls)]
         clock = int.from_bytes(poll[1:7], "big") + 100_000 * (number // len(polls))
         made.append(poll[:1] + clock.to_bytes(6, "big") + poll[7:])
