@@ -20,6 +20,9 @@ pub struct Input {
 /// What some editors put before a text.
 const TEXT_MARK: &[u8] = b"\xef\xbb\xbf";
 
+/// How a file begins that gzip has packed.
+const GZIP: &[u8] = b"\x1f\x8b\x08";
+
 /// The kinds of file that traces and captures come in.
 #[derive(Debug, Clone, Copy, PartialEq, Eq)]
 pub enum Kind {
@@ -77,7 +80,7 @@ pub fn read(words: &ArgMatches) -> Result<Input, Failure> {
 /// What stands in the file of this name.
 pub fn named(name: &str) -> Result<Input, Failure> {
     let bytes = std::fs::read(name).map_err(|error| Failure::of_file(name, error))?;
-    Ok(Input {
+    unpacked(Input {
         name: name.to_string(),
         path: Some(PathBuf::from(name)),
         bytes,
@@ -90,11 +93,22 @@ pub fn standard() -> Result<Input, Failure> {
     let mut bytes = Vec::new();
     let read = std::io::stdin().lock().read_to_end(&mut bytes);
     read.map_err(|error| Failure::of_file(&name, error))?;
-    Ok(Input {
+    unpacked(Input {
         name,
         path: None,
         bytes,
     })
+}
+
+/// The same, if it is not packed, as Wireshark packs captures. No header that is accepted begins so.
+fn unpacked(input: Input) -> Result<Input, Failure> {
+    if input.bytes.starts_with(GZIP) {
+        return Err(Failure::Refused(format!(
+            "{}: this is packed by gzip: unpack it first",
+            input.name
+        )));
+    }
+    Ok(input)
 }
 
 /// Standard input in the place of what was not named, unless a person would have to type it.

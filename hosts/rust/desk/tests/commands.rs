@@ -402,8 +402,10 @@ fn kinds_of_file() {
     next[..4].copy_from_slice(&[0x0a, 0x0d, 0x0d, 0x0a]);
     let mut ethernet = pcap;
     ethernet[20..22].copy_from_slice(&[1, 0]);
+    let packed = b"\x1f\x8b\x08\x00".to_vec();
     for (file, words) in [
         (&next, "this is pcapng, which is not read: save it as pcap"),
+        (&packed, "this is packed by gzip: unpack it first"),
         (
             &ethernet,
             "its link type is 1, and that of PROFIBUS is 257, or 147 for private use",
