@@ -2,7 +2,7 @@
 
 use super::heard::all_heard;
 use super::{ended, examples, replayed};
-use crate::{failure::Failure, input, output, page};
+use crate::{failure::Failure, input, output, page, progress};
 use clap::{ArgMatches, Command};
 
 pub fn command(command: Command) -> Command {
@@ -24,7 +24,8 @@ pub fn run(words: &ArgMatches) -> Result<(), Failure> {
     if replay.run.ending.map_or(true, |_| replay.run.entries != 0) {
         replay.heard = Some(all_heard(&input)?.0);
     }
-    let text = page::page(&replay).map_err(|error| Failure::Refused(error.to_string()))?;
+    let text = progress::during("making the page", 1, |_| page::page(&replay));
+    let text = text.map_err(|error| Failure::Refused(error.to_string()))?;
     output::text(words, Some(&input), &text)?;
     ended(&input, &replay.run)
 }
