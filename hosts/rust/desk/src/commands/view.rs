@@ -7,11 +7,11 @@ use clap::{ArgMatches, Command};
 
 pub fn command(command: Command) -> Command {
     command
-        .about("A trace as one HTML file without a network: timeline, table, search, who was heard")
+        .about("A trace as one HTML file without a network: timeline, table, search, the counts, who was heard")
         .long_about(
             "A trace as one HTML file that a browser opens without a network: the timeline, which is zoomed with the wheel and \
              dragged, a table of the entries in words, a click on one marks the other, a search by address, state, refusal, \
-             notice and words, and who was heard.",
+             notice, alarm and words, the counts, and who was heard.",
         )
         .arg(input::file("A trace"))
         .arg(output::option())
