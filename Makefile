@@ -18,6 +18,7 @@ help: ## prints this list
 	@awk -F ': ## ' '/^[a-z]+: ## / { \
 		command = "make " $$1; says = $$2; \
 		while (match(says, /^\[[^]]*\] /)) { command = command " " substr(says, 1, RLENGTH - 1); says = substr(says, RLENGTH + 1) } \
+		if (length(command) > 44) { print command; command = "" } \
 		printf "%-44s %s\n", command, says }' Makefile
 
 test: ## [RT_JOBS=n] [SEED=n] [TRACES=m] the gate: checks, proofs from nothing, must-fail edits, comparisons with Rust, hosts
@@ -41,7 +42,7 @@ picture: ## [TRACE=file] [OUT=file] [FROM=n] [TO=m] [HEARD=1] the same as a pict
 view: ## [TRACE=file] [OUT=file] the same as a page for a browser: timeline, table, search
 	@$(call into,pages,html) $(DESK) view $(TRACED) -o "$$out" && echo "$$out"
 
-import: ## [CAPTURE=file] [OUT=file] [ADDRESS=n] [BAUD=n] [SLOT=n] .. makes a trace of a capture's text or a pcap file
+import: ## [CAPTURE=file] [OUT=file] [ADDRESS=n] [BAUD=n] [SLOT=n] [..] makes a trace of a capture's text or a pcap file
 	@TRACE=$${CAPTURE:?names no capture}; $(call into,captures,trace) $(DESK) import "$$CAPTURE" $(SETTINGS) -o "$$out" && echo "$$out"
 
 export: ## [TRACE=file] [OUT=file] the text of a bus monitor that a trace gives; a pcap file or a table by the ending of OUT
@@ -50,7 +51,7 @@ export: ## [TRACE=file] [OUT=file] the text of a bus monitor that a trace gives;
 simulate: ## [SETUP=file] [OUT=folder] [FROM=us] [TO=us] several loggers on one simulated bus: who got the token when, traces, a picture
 	@setup=$${SETUP:-traces/simulations/two-loggers.setup}; $(DESK) simulate "$$setup" $(RANGE) -o "$${OUT:-target/simulations/$$(basename "$$setup" .setup)}"
 
-install: ## [PREFIX=folder] the program amsulfezd, which all of these are lines over, its manual page and completion
+install: ## [PREFIX=folder] the program amsulfezd, which the lines above call, its manual page and completion
 	@bash scripts/install.sh
 
 watchdog: ## [MS=n] how the two watchdog factors of n milliseconds come about, as the proved calls give them

@@ -1,9 +1,10 @@
 #!/usr/bin/env python3
 """Tries the pages of `amsulfezd view` in a real browser: Debian's Chromium without a window, driven through chromedriver by the
 WebDriver protocol, of which the standard library speaks all that is needed. scripts/browser.sh makes the pages and runs this:
-browser.py SMALL LARGE [FOLDER]. SMALL is the page of traces/night.trace, LARGE one of 100,000 entries. Each check prints a line;
-the first that does not hold ends the run. With FOLDER the pictures to be looked at are put there. browser.py --repeat TRACE OUT
-makes a trace of 100,000 entries: the polls of a trace again and again, each time a tenth of a second later."""
+browser.py PAGES [FOLDER]. PAGES is a folder with night.html, passive.html, refused.html, timeout.html, each the page of a stored
+trace, and large.html, one of 100,000 entries. Each check prints a line; the first that does not hold ends the run. With FOLDER the
+pictures to be looked at are put there. browser.py --repeat TRACE OUT
+[ENTRIES] makes a trace of 100,000 entries, or so many: the polls of a trace again and again, each time a tenth of a second later."""
 
 import base64
 import json
@@ -76,6 +77,40 @@ class Browser:
         script = "const e = document.getElementById(arguments[0]); e.value = arguments[1]; e.dispatchEvent(new Event('input'))"
         self.run(script, field, value)
         self.settle()
+
+    def found(self, field, value, of, count=None):
+        """Looks for a value in a field: how many entries of so many are found, all of them in the table."""
+        self.fill(field, value)
+        found = self.run("return document.getElementById('found').textContent")
+        rows = self.run("return document.querySelectorAll('#rows .row[data-entry]').length")
+        number = int(found.split(" ")[0])
+        hold(found.endswith(f" of {of} entries") and count in (None, number) and rows == number, f"{field} {value}: {found}")
+        return number
+
+    def clear(self):
+        self.run("document.getElementById('clear').click()")
+        self.settle()
+
+    def colour(self, name):
+        """A colour of the style as red, green and blue."""
+        return self.run(
+            "const p = document.createElement('canvas').getContext('2d');"
+            "p.fillStyle = getComputedStyle(document.documentElement).getPropertyValue(arguments[0]).trim(); p.fillRect(0, 0, 1, 1);"
+            "return [...p.getImageData(0, 0, 1, 1).data].slice(0, 3)",
+            name,
+        )
+
+    def painted(self, x, colour):
+        """How many pixels above each other have this colour, at this place from the left of the timeline."""
+        return self.run(
+            "const c = document.getElementById('timeline'), s = devicePixelRatio, w = arguments[1];"
+            "const k = Object.assign(document.createElement('canvas'), {width: 1, height: c.height});"
+            "const p = k.getContext('2d', {willReadFrequently: true}); p.drawImage(c, -Math.round(arguments[0] * s), 0);"
+            "const d = p.getImageData(0, 0, 1, c.height).data; let n = 0;"
+            "for (let y = 0; y < c.height; y++) if ([0, 1, 2].every((i) => d[4 * y + i] === w[i])) n++;"
+            "return n / s",
+            x, colour,
+        )
 
     def shown(self):
         """The first and the last entry on the timeline."""
@@ -173,19 +208,14 @@ def night(browser, page, folder):
         ("by-address", "9", None), ("by-state", "7", 6), ("by-notice", "1", 6), ("by-alarm", "1", 1), ("by-words", "plug", 0),
         ("by-words", "three tokens", 1),
     ]:
-        browser.fill(field, value)
-        found = browser.run("return document.getElementById('found').textContent")
-        rows = browser.run("return document.querySelectorAll('#rows .row[data-entry]').length")
-        number = int(found.split(" ")[0])
-        hold(found.endswith(" of 36 entries") and (count is None or number == count) and rows == number, f"{field} {value}: {found}")
+        number = browser.found(field, value, 36, count)
         if field == "by-state":
             browser.picture(folder, "night-found.png")
         if number:
             browser.run("document.getElementById('next').click()")
             browser.settle()
             hold(browser.chosen()[0] == browser.chosen()[1] != 0, f"the next one found is entry {browser.chosen()[0]}")
-        browser.run("document.getElementById('clear').click()")
-        browser.settle()
+        browser.clear()
     hold(browser.run("return document.querySelectorAll('#heard tr[data-address]').length") == 4, "four addresses were heard")
 
     # Dark, and on paper.
@@ -202,6 +232,60 @@ def night(browser, page, folder):
         with open(os.path.join(folder, "night.pdf"), "wb") as file:
             file.write(paper)
     browser.cdp("Emulation.setEmulatedMedia", features=[{"name": "prefers-color-scheme", "value": "light"}])
+
+
+def passive(browser, page, folder):
+    """A spare logger, passive in its entries 2 to 13: state 9 has a colour of its own in the timeline and the table, light and
+    dark; the counts and who was heard stand below."""
+    browser.open(page)
+    left, _, width, _ = browser.box("timeline")
+    column = (width - left_of_columns() - 8) / 16
+    for dress in ["light", "dark"]:
+        browser.cdp("Emulation.setEmulatedMedia", features=[{"name": "prefers-color-scheme", "value": dress}])
+        browser.settle()
+        colours = [browser.colour(f"--s{state}") for state in range(10)]
+        nearest = min(sum(abs(a - b) for a, b in zip(colours[9], colour)) for colour in colours[:9])
+        hold(nearest >= 60, f"{dress}: the colour of state 9, {colours[9]}, is like no other state's")
+        for entry, wanted in [(1, False), (2, True), (13, True), (14, False)]:
+            high = browser.painted(left_of_columns() + (entry - 0.9) * column, colours[9])
+            hold((high >= 15) == wanted, f"{dress}: entry {entry} is {'' if wanted else 'not '}painted in it on the timeline")
+        chips = browser.run(
+            "const of = (n) => [...document.querySelectorAll(`#rows .row[data-entry='${n}'] .chip`)].map((c) => getComputedStyle(c).backgroundColor);"
+            "return [of(1), of(2), of(8)]"
+        )
+        state = ["rgb({}, {}, {})".format(*colours[number]) for number in (0, 9)]
+        hold(chips == [[state[0]], state, [state[1]]], f"{dress}: the table has it beside PassiveIdle, and Offline's beside Offline")
+        browser.picture(folder, f"passive-{dress}.png")
+    hold("PassiveIdle" in browser.run("return document.getElementById('legend').textContent"), "the legend names it")
+    browser.found("by-state", "9", 16, 12)
+    browser.clear()
+    browser.found("by-address", "126", 16, 2)
+    browser.clear()
+    counts = browser.run("return document.getElementById('counts').innerText")
+    hold("claimed the token once, removed a neighbour 0 times" in counts, f"the counts are shown: {counts}")
+    heard = browser.run("return [...document.querySelectorAll('#heard tr[data-address]')].map((r) => r.innerText.split('\\t').slice(0, 2).join(' '))")
+    hold(heard == ["7 2", "9 4"], "7 was heard twice and 9 four times")
+    browser.run("document.querySelector('#heard tr[data-address]').click()")
+    browser.settle()
+    hold(browser.run("return document.getElementById('by-address').value") == "7", "a click on one who was heard looks for it")
+    browser.cdp("Emulation.setEmulatedMedia", features=[{"name": "prefers-color-scheme", "value": "light"}])
+
+
+def told(browser, refused, timeout, folder):
+    """Refusals and notices are found by their numbers."""
+    browser.open(refused)
+    browser.picture(folder, "refused.png")
+    for value, count in [("-", 22), ("12", 8), ("13", 2), ("14", 9), ("15", 3)]:
+        browser.found("by-refusal", value, 30, count)
+    browser.clear()
+    browser.open(timeout)
+    for value, count in [("-", 1), ("1", 0), ("2", 1)]:
+        browser.found("by-notice", value, 16, count)
+    browser.fill("by-notice", "2")
+    browser.run("document.getElementById('next').click()")
+    browser.settle()
+    words = browser.run("return document.getElementById('entry').textContent")
+    hold("application 0 timed out waiting for 20" in words, "the timeout that is found is that of entry 10")
 
 
 def large(browser, page, folder):
@@ -236,8 +320,8 @@ def large(browser, page, folder):
     hold(last == 100000, "the table scrolls to entry 100,000")
 
 
-def repeat(trace, out):
-    """A trace of 100,000 entries, of the polls of another one whose header is of edition 1."""
+def repeat(trace, out, entries="100000"):
+    """A trace of so many entries, of the polls of another one whose header is of edition 1."""
     with open(trace, "rb") as file:
         given = file.read()
     head, rest, polls = given[:16], given[16:], []
@@ -247,7 +331,7 @@ def repeat(trace, out):
         if length:
             polls.append(entry)
     made = [head, b"\0"]
-    for number in range(99_999):
+    for number in range(int(entries) - 1):
         poll = polls[number % len(polls)]
         clock = int.from_bytes(poll[1:7], "big") + 100_000 * (number // len(polls))
         made.append(poll[:1] + clock.to_bytes(6, "big") + poll[7:])
@@ -258,7 +342,8 @@ def repeat(trace, out):
 def main():
     if sys.argv[1] == "--repeat":
         return repeat(*sys.argv[2:])
-    small, big, folder = sys.argv[1], sys.argv[2], (sys.argv[3:] or [None])[0]
+    pages, folder = sys.argv[1], (sys.argv[2:] or [None])[0]
+    page = lambda name: os.path.join(pages, name + ".html")
     driver = subprocess.Popen(["chromedriver", f"--port={PORT}"], stdout=subprocess.DEVNULL, stderr=subprocess.DEVNULL)
     try:
         for _ in range(100):
@@ -269,8 +354,10 @@ def main():
                 time.sleep(0.1)
         browser = Browser()
         try:
-            night(browser, small, folder)
-            large(browser, big, folder)
+            night(browser, page("night"), folder)
+            passive(browser, page("passive"), folder)
+            told(browser, page("refused"), page("timeout"), folder)
+            large(browser, page("large"), folder)
             complaints = browser.complaints()
             hold(not complaints, f"the browser complains of nothing{': ' + complaints[0] if complaints else ''}")
         finally:

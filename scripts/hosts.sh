@@ -186,11 +186,40 @@ test_desk() {
     fi
     build_desk
     test_rust "the service desk" desk_cargo test
+    test_terminal
     desk_answers
     test_pictures
     test_pcap
     bash scripts/tour.sh
     test_lines
+}
+
+# What the service desk does for a person at a terminal, and for nobody else: a bar on standard error after a second; no waiting for
+# words that are not typed; no bytes that are no text on the screen.
+test_terminal() {
+    local folder=target/hosts/terminal said
+    { rm -rf "$folder" && mkdir -p "$folder"; } || fail "$folder could not be made"
+    need script bsdutils
+    python3 scripts/browser.py --repeat traces/night.trace "$folder/long.trace" 300000 || fail "no long trace is made"
+    said=$("${desk[@]}" heard "$folder/long.trace" -o "$folder/heard" 2>&1) || fail "amsulfezd heard fails"
+    [ -z "$said" ] || fail "a bar where standard error is no terminal: $said"
+    said=$(at_terminal heard "$folder/long.trace" -o "$folder/again") || fail "amsulfezd heard fails at a terminal"
+    [[ "$said" = *"asking for each address"* ]] || fail "no bar at a terminal after a second: $said"
+    cmp "$folder/heard" "$folder/again" || fail "the bar is written where the answers are"
+    said=$(at_terminal heard traces/night.trace -o "$folder/again") || fail "amsulfezd heard fails at a terminal"
+    [ -z "$said" ] || fail "a bar before a second is over: $said"
+    said=$(at_terminal replay || true)
+    [[ "$said" = *"no file is named, and standard input is a terminal"* ]] || fail "amsulfezd replay waits, or says: $said"
+    said=$(at_terminal export traces/night.trace --as pcap || true)
+    [[ "$said" = *"the output is no text and does not go to a terminal"* ]] || fail "a pcap file goes to the screen: $said"
+    echo "Service desk: a bar at a terminal after a second, and nowhere else"
+}
+
+# at_terminal WORD..: what the service desk writes to a terminal with these words.
+at_terminal() {
+    local line
+    line=$(printf '%q ' "${desk[@]}" "$@")
+    script -qec "$line" /dev/null </dev/null
 }
 
 # Each trace of traces/ is answered as its story says. Where one is refused the status is 1.

@@ -3,7 +3,7 @@
 use crate::failure::Failure;
 use crate::pcap;
 use amsulfezd::trace::SECOND_EDITION;
-use clap::{Arg, ArgMatches};
+use clap::{Arg, ArgMatches, ValueHint};
 use std::io::Read;
 use std::path::{Path, PathBuf};
 
@@ -17,6 +17,12 @@ pub struct Input {
     pub bytes: Vec<u8>,
 }
 
+/// What some editors put before a text.
+const TEXT_MARK: &[u8] = b"\xef\xbb\xbf";
+
+/// How a file begins that gzip has packed.
+const GZIP: &[u8] = b"\x1f\x8b\x08";
+
 /// The kinds of file that traces and captures come in.
 #[derive(Debug, Clone, Copy, PartialEq, Eq)]
 pub enum Kind {
@@ -27,13 +33,15 @@ pub enum Kind {
 
 impl Kind {
     /// The kind of these bytes. No header that is accepted begins as a pcap file does, nor with two printable characters, as
-    /// a line of a capture does: its second byte is the baud code, 0 to 10, or belongs to edition 2, which begins with 82h.
+    /// a line of a capture does: its second byte is the baud code, 0 to 10, or belongs to edition 2, which begins with 82h. The
+    /// mark that some editors put before a text begins no header either.
     pub fn of(bytes: &[u8]) -> Kind {
         let printable = |byte: &u8| (0x20..0x7f).contains(byte);
         if pcap::begins(bytes) {
             Kind::Pcap
-        } else if bytes.first() != Some(&SECOND_EDITION)
-            && bytes.get(1).map_or(bytes.is_empty(), printable)
+        } else if bytes.starts_with(TEXT_MARK)
+            || bytes.first() != Some(&SECOND_EDITION)
+                && bytes.get(1).map_or(bytes.is_empty(), printable)
         {
             Kind::Text
         } else {
@@ -44,7 +52,7 @@ impl Kind {
     pub fn words(self) -> &'static str {
         match self {
             Kind::Trace => "a trace",
-            Kind::Text => "a capture's text",
+            Kind::Text => "a text",
             Kind::Pcap => "a pcap file",
         }
     }
@@ -52,38 +60,66 @@ impl Kind {
 
 /// The argument that names a file.
 pub fn file(what: &'static str) -> Arg {
-    Arg::new("FILE").help(format!(
-        "{}; standard input without it, or where it is -",
-        what
-    ))
+    Arg::new("FILE")
+        .value_hint(ValueHint::FilePath)
+        .help(format!(
+            "{}; standard input without it, or where it is -",
+            what
+        ))
 }
 
 /// What the argument names.
 pub fn read(words: &ArgMatches) -> Result<Input, Failure> {
     match words.get_one::<String>("FILE").map(String::as_str) {
-        None if stdin_is_terminal() => Err(Failure::Usage(
-            "no file is named, and standard input is a terminal (--help has an example)"
-                .to_string(),
-        )),
-        None | Some("-") => {
-            let mut bytes = Vec::new();
-            let read = std::io::stdin().lock().read_to_end(&mut bytes);
-            read.map_err(|error| Failure::of_file("standard input", error))?;
-            Ok(Input {
-                name: "standard input".to_string(),
-                path: None,
-                bytes,
-            })
-        }
-        Some(name) => {
-            let bytes = std::fs::read(name).map_err(|error| Failure::of_file(name, error))?;
-            Ok(Input {
-                name: name.to_string(),
-                path: Some(PathBuf::from(name)),
-                bytes,
-            })
-        }
+        None => instead("no file is named"),
+        Some("-") => standard(),
+        Some(name) => named(name),
     }
+}
+
+/// What stands in the file of this name.
+pub fn named(name: &str) -> Result<Input, Failure> {
+    let bytes = std::fs::read(name).map_err(|error| Failure::of_file(name, error))?;
+    unpacked(Input {
+        name: name.to_string(),
+        path: Some(PathBuf::from(name)),
+        bytes,
+    })
+}
+
+/// What stands on standard input.
+pub fn standard() -> Result<Input, Failure> {
+    let name = "standard input".to_string();
+    let mut bytes = Vec::new();
+    let read = std::io::stdin().lock().read_to_end(&mut bytes);
+    read.map_err(|error| Failure::of_file(&name, error))?;
+    unpacked(Input {
+        name,
+        path: None,
+        bytes,
+    })
+}
+
+/// The same, if it is not packed, as Wireshark packs captures. No header that is accepted begins so.
+fn unpacked(input: Input) -> Result<Input, Failure> {
+    if input.bytes.starts_with(GZIP) {
+        return Err(Failure::Refused(format!(
+            "{}: this is packed by gzip: unpack it first",
+            input.name
+        )));
+    }
+    Ok(input)
+}
+
+/// Standard input in the place of what was not named, unless a person would have to type it.
+pub fn instead(lacks: &str) -> Result<Input, Failure> {
+    if stdin_is_terminal() {
+        return Err(Failure::Usage(format!(
+            "{}, and standard input is a terminal (--help has an example)",
+            lacks
+        )));
+    }
+    standard()
 }
 
 /// Whether standard input is a terminal. Rust 1.63 cannot ask this, and the crate `console` asks it of the outputs alone; the
@@ -104,8 +140,12 @@ impl Input {
     pub fn trace(self) -> Result<Input, Failure> {
         match Kind::of(&self.bytes) {
             Kind::Trace => Ok(self),
+            _ if self.bytes.is_empty() => Err(Failure::Refused(format!(
+                "{}: this is empty, and no trace",
+                self.name
+            ))),
             kind => Err(Failure::Refused(format!(
-                "{}: this is {}, and no trace; amsulfezd import makes one of it",
+                "{}: this is {}, and no trace; amsulfezd import makes one of a capture",
                 self.name,
                 kind.words()
             ))),
@@ -125,6 +165,7 @@ mod tests {
             (b"0 e5\n", Kind::Text),
             (b" \t", Kind::Trace),
             (b"hello", Kind::Text),
+            (b"\xef\xbb\xbf0 e5\n", Kind::Text),
             (b"\x05\x06\x00\xc8", Kind::Trace),
             (b"\x35\x0a\x03\xe8", Kind::Trace),
             (b"\x82\x20", Kind::Trace),
@@ -132,6 +173,8 @@ mod tests {
             (b"\xd4\xc3\xb2\xa1", Kind::Pcap),
             (b"\xa1\xb2\xc3\xd4", Kind::Pcap),
             (b"\x4d\x3c\xb2\xa1", Kind::Pcap),
+            (b"\xa1\xb2\x3c\x4d", Kind::Pcap),
+            (b"\x34\xcd\xb2\xa1", Kind::Pcap),
             (b"\x0a\x0d\x0d\x0a", Kind::Pcap),
         ] {
             assert_eq!(Kind::of(bytes), kind, "{:?}", bytes);

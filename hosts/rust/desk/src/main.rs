@@ -24,6 +24,7 @@ mod pcap;
 mod progress;
 mod settings;
 
+use std::io::Write;
 use std::process::ExitCode;
 
 fn main() -> ExitCode {
@@ -39,7 +40,8 @@ fn main() -> ExitCode {
     match commands::run(name, words) {
         Ok(()) => ExitCode::SUCCESS,
         Err(failure) => {
-            eprintln!("amsulfezd {}: {}", name, failure);
+            // Where standard error cannot be written the status alone says it.
+            let _ = writeln!(std::io::stderr(), "amsulfezd {}: {}", name, failure);
             ExitCode::from(failure.status())
         }
     }

@@ -9,7 +9,8 @@ pub fn page(tool: &mut Command) -> String {
     tool.build();
     let mut page = format!(
         ".TH AMSULFEZD 1 \"\" \"amsulfezd {}\" \"User Commands\"\n.SH NAME\namsulfezd \\- {}\n.SH SYNOPSIS\n.B amsulfezd\n\
-         .I command\n[options]\n.SH COMMANDS\n",
+         .I command\n[options]\n.br\n.B amsulfezd\n.I command\n.B \\-\\-help\n.br\n.B amsulfezd \\-\\-help\n|\n\
+         .B \\-\\-version\n.SH COMMANDS\n",
         env!("CARGO_PKG_VERSION"),
         plain(&tool.get_about().map(ToString::to_string).unwrap_or_default())
     );
@@ -109,7 +110,7 @@ fn help(arg: &Arg) -> String {
         .map(|value| value.get_name().to_string())
         .collect();
     if arg.get_action().takes_values() && !values.is_empty() {
-        text.push_str(&format!(": {}", values.join(", ")));
+        text.push_str(&format!("; one of {}", values.join(", ")));
     }
     text
 }

@@ -2,7 +2,7 @@
 
 use crate::failure::Failure;
 use crate::input::Input;
-use clap::{Arg, ArgMatches};
+use clap::{Arg, ArgMatches, ValueHint};
 use std::io::{ErrorKind, Write};
 use std::path::{Path, PathBuf};
 
@@ -12,6 +12,7 @@ pub fn option() -> Arg {
         .short('o')
         .long("output")
         .value_name("FILE")
+        .value_hint(ValueHint::FilePath)
         .help("writes to this file; else to standard output")
 }
 
@@ -23,9 +24,10 @@ fn named(words: &ArgMatches) -> Option<&str> {
         .filter(|&name| name != "-")
 }
 
-/// The ending of the output's name, after its last point.
-pub fn ending(words: &ArgMatches) -> Option<&str> {
-    named(words).and_then(|name| Path::new(name).extension()?.to_str())
+/// The ending of the output's name, after its last point, in small letters.
+pub fn ending(words: &ArgMatches) -> Option<String> {
+    let name = Path::new(named(words)?);
+    Some(name.extension()?.to_str()?.to_ascii_lowercase())
 }
 
 /// Writes a text.

@@ -184,5 +184,15 @@ mod tests {
         for colour in states.chain(kinds) {
             assert_eq!(style.matches(&colour).count(), 2, "{}", colour);
         }
+        // Light and dark, no two states have one colour.
+        for dress in style.split(":root.dark").take(2) {
+            let colour = |number: usize| {
+                let mark = format!("--s{}:#", number);
+                let at = dress.find(&mark).expect("it has one") + mark.len();
+                dress[at..at + 6].to_string()
+            };
+            let all: std::collections::BTreeSet<String> = (0..STATES.len()).map(colour).collect();
+            assert_eq!(all.len(), STATES.len());
+        }
     }
 }

@@ -12,6 +12,8 @@ const MICROSECONDS: u32 = 0xa1b2_c3d4;
 const NANOSECONDS: u32 = 0xa1b2_3c4d;
 /// The first bytes of the successor format, which is not read.
 const NEXT_GENERATION: u32 = 0x0a0d_0d0a;
+/// The first bytes of a form with more before each packet, which old programs wrote and which is not read.
+const MODIFIED: u32 = 0xa1b2_cd34;
 const HEAD: usize = 24;
 const PACKET_HEAD: usize = 16;
 /// What a packet may have at most; the longest frame has 255 bytes.
@@ -26,7 +28,7 @@ pub struct Packet {
 
 /// Whether these bytes begin as a pcap file does, or as one of its successor.
 pub fn begins(bytes: &[u8]) -> bool {
-    let known = |word: u32| [MICROSECONDS, NANOSECONDS, NEXT_GENERATION].contains(&word);
+    let known = |word: u32| [MICROSECONDS, NANOSECONDS, MODIFIED, NEXT_GENERATION].contains(&word);
     match bytes.get(..4) {
         Some(first) => {
             let first = first.try_into().expect("four bytes");
@@ -65,7 +67,7 @@ pub fn read(file: &[u8]) -> Result<Vec<Packet>, String> {
     let little = |bytes: &[u8]| u32::from_le_bytes(bytes.try_into().expect("four bytes"));
     let big = |bytes: &[u8]| u32::from_be_bytes(bytes.try_into().expect("four bytes"));
     let word: &dyn Fn(&[u8]) -> u32 = match little(&head[..4]) {
-        MICROSECONDS | NANOSECONDS => &little,
+        MICROSECONDS | NANOSECONDS | MODIFIED => &little,
         NEXT_GENERATION => {
             return Err("this is pcapng, which is not read: save it as pcap".to_string())
         }
@@ -74,6 +76,11 @@ pub fn read(file: &[u8]) -> Result<Vec<Packet>, String> {
     let part = match word(&head[..4]) {
         MICROSECONDS => 1,
         NANOSECONDS => 1000,
+        MODIFIED => {
+            return Err(
+                "this is pcap of a modified form, which is not read: save it as pcap".to_string(),
+            )
+        }
         other => return Err(format!("{:08x} begins no pcap file", other)),
     };
     // The upper bits of the last word are no part of the link type.
@@ -92,6 +99,12 @@ pub fn read(file: &[u8]) -> Result<Vec<Packet>, String> {
             .get(..PACKET_HEAD)
             .ok_or_else(|| format!("packet {}: the file ends inside its head", number))?;
         let [seconds, fraction, kept, length] = [0, 4, 8, 12].map(|at| word(&head[at..at + 4]));
+        if fraction / part >= 1_000_000 {
+            return Err(format!(
+                "packet {}: {} is no part of a second",
+                number, fraction
+            ));
+        }
         if kept != length {
             return Err(format!(
                 "packet {}: only {} of its {} bytes were kept",
@@ -179,32 +192,24 @@ mod tests {
         assert_eq!(read(&write(&[], USER)), Ok(Vec::new()));
     }
 
-    /// The same file by a machine of the other byte order, and with nanoseconds.
+    /// The same packet by a machine of either byte order, in microseconds and in nanoseconds, of which the part below a
+    /// microsecond is dropped.
     #[test]
     fn other_forms() {
-        let mut other: Vec<u8> = Vec::new();
-        for word in [
-            NANOSECONDS,
-            2 << 16 | 4,
-            0,
-            0,
-            65_535,
-            PROFIBUS,
-            7_800,
-            366_999,
-            1,
-            1,
-        ] {
-            other.extend(word.to_be_bytes());
+        let packet = Packet {
+            time: 7_800_000_366,
+            frame: vec![0xe5],
+        };
+        for bytes_of in [u32::to_be_bytes, u32::to_le_bytes] {
+            for (magic, fraction) in [(MICROSECONDS, 366), (NANOSECONDS, 366_999)] {
+                // The version, 2 and 4 in 16 bits each, is not looked at.
+                let words = [magic, 0, 0, 0, SNAP, PROFIBUS, 7_800, fraction, 1, 1];
+                let mut file: Vec<u8> = words.into_iter().flat_map(bytes_of).collect();
+                file.push(0xe5);
+                assert!(begins(&file), "{:08x}", magic);
+                assert_eq!(read(&file), Ok(vec![packet.clone()]), "{:08x}", magic);
+            }
         }
-        other.push(0xe5);
-        assert_eq!(
-            read(&other),
-            Ok(vec![Packet {
-                time: 7_800_000_366,
-                frame: vec![0xe5]
-            }])
-        );
     }
 
     #[test]
@@ -232,6 +237,18 @@ mod tests {
         let mut cut = file.clone();
         cut[24 + 12] = 2;
         assert_eq!(said(&cut), "packet 1: only 1 of its 2 bytes were kept");
+        let mut late = file.clone();
+        late[24 + 4..24 + 8].copy_from_slice(&1_000_000_u32.to_le_bytes());
+        assert_eq!(said(&late), "packet 1: 1000000 is no part of a second");
+        for magic in [MODIFIED.to_le_bytes(), MODIFIED.to_be_bytes()] {
+            let mut modified = file.clone();
+            modified[..4].copy_from_slice(&magic);
+            assert!(begins(&modified));
+            assert_eq!(
+                said(&modified),
+                "this is pcap of a modified form, which is not read: save it as pcap"
+            );
+        }
         let mut next = file;
         next[..4].copy_from_slice(&[0x0a, 0x0d, 0x0d, 0x0a]);
         assert_eq!(

@@ -142,7 +142,12 @@ fn what_is_refused() {
     fails(
         &["explain", "traces/captures/site.capture"],
         1,
-        "amsulfezd explain: traces/captures/site.capture: this is a capture's text, and no trace; amsulfezd import makes one of it",
+        "amsulfezd explain: traces/captures/site.capture: this is a text, and no trace; amsulfezd import makes one of a capture",
+    );
+    fails(
+        &["replay"],
+        1,
+        "amsulfezd replay: standard input: this is empty, and no trace",
     );
 }
 
@@ -170,6 +175,16 @@ fn bad_usage() {
         2,
         "amsulfezd picture: traces/night.trace is the file that it is made from",
     );
+    fails(
+        &["export", "traces/night.trace", "--private"],
+        2,
+        "amsulfezd export: --private is for a pcap file: --as pcap, or a name that ends in .pcap",
+    );
+    fails(
+        &["compare", "-", "-"],
+        1,
+        "amsulfezd compare: standard input: this is empty, and no trace",
+    );
     for words in [
         &["nosuch"][..],
         &["replay", "--nosuch"],
@@ -191,6 +206,64 @@ fn bad_usage() {
         ran(&["--version"]).stdout,
         format!("amsulfezd {}\n", env!("CARGO_PKG_VERSION")).as_bytes()
     );
+}
+
+/// Where standard error cannot be written the status is the same, and a reader that is gone has enough.
+#[test]
+fn nobody_reads() {
+    for (words, status) in [
+        (&["replay", "nosuch.trace"][..], 2),
+        (&["replay", "traces/headers/03-hsa.trace"], 1),
+        (&["nosuch"], 2),
+    ] {
+        let full = std::fs::File::options()
+            .write(true)
+            .open("/dev/full")
+            .expect("the device that is full");
+        let ended = Command::new(env!("CARGO_BIN_EXE_amsulfezd"))
+            .args(words)
+            .current_dir(root())
+            .stdout(Stdio::null())
+            .stderr(full)
+            .status();
+        assert_eq!(ended.expect("it runs").code(), Some(status), "{:?}", words);
+    }
+    let mut program = Command::new(env!("CARGO_BIN_EXE_amsulfezd"))
+        .args(["view", "traces/captures/site.trace"])
+        .current_dir(root())
+        .stdout(Stdio::piped())
+        .stderr(Stdio::piped())
+        .spawn()
+        .expect("the program starts");
+    drop(program.stdout.take());
+    let output = program.wait_with_output().expect("the program ends");
+    assert_eq!(
+        (output.status.code(), &output.stderr[..]),
+        (Some(0), &b""[..])
+    );
+}
+
+/// Notes are read where they are shown: what is wrong with them does not keep a trace from being replayed.
+#[test]
+fn notes_beside() {
+    let folder = folder("notes");
+    let file = folder.join("a.trace");
+    std::fs::copy(root().join("traces/night.trace"), &file).expect("the trace is copied");
+    std::fs::write(folder.join("a.notes"), "soon\n").expect("the notes are written");
+    assert_eq!(
+        printed(&["replay", word(&file)]),
+        stored("traces/night.answers")
+    );
+    printed(&["compare", word(&file), "traces/night.answers"]);
+    for command in ["explain", "picture", "view"] {
+        let line = format!(
+            "amsulfezd {}: {}, line 1: \"soon\" is not a clock from 0 to 281,474,976,710,655",
+            command,
+            folder.join("a.notes").display()
+        );
+        fails(&[command, word(&file)], 1, &line);
+    }
+    std::fs::remove_dir_all(&folder).expect("the folder goes");
 }
 
 #[test]
@@ -263,6 +336,8 @@ fn captures_there_and_back() {
         printed(&["export", word(&pcap)]),
         stored(site).to_lowercase()
     );
+    printed(&["export", site, "-o", word(&file("SITE.PCAP"))]);
+    assert_eq!(bytes(&file("SITE.PCAP")), bytes(&pcap));
     printed(&["import", word(&pcap), "-o", word(&file("by-pcap.trace"))]);
     assert_eq!(bytes(&file("by-pcap.trace")), bytes(&trace));
     // A trace is taken as it is.
@@ -288,6 +363,97 @@ fn captures_there_and_back() {
     let back = fed(&["export"], &output.stdout).stdout;
     assert_eq!(String::from_utf8_lossy(&back), "0 e5\n250 dc0509\n");
     std::fs::remove_dir_all(&folder).expect("the folder goes");
+}
+
+/// A capture's text, pcap files by machines of both byte orders, in microseconds and nanoseconds, and a trace are told apart by
+/// their content alone: from standard input, which has no name, each makes the site's trace.
+#[test]
+fn kinds_of_file() {
+    let trace = bytes(&root().join("traces/captures/site.trace"));
+    let text = bytes(&root().join("traces/captures/site.capture"));
+    let pcap = fed(&["export", "--as", "pcap"], &text).stdout;
+    let private = fed(&["export", "--as", "pcap", "--private"], &text).stdout;
+    let (nanos, other) = (
+        by_another(&pcap, true, false),
+        by_another(&pcap, false, true),
+    );
+    let both = by_another(&pcap, true, true);
+    assert_eq!(by_another(&pcap, false, false), pcap);
+    for (name, file) in [
+        ("text", &text),
+        ("pcap", &pcap),
+        ("link type 147", &private),
+        ("nanoseconds", &nanos),
+        ("other byte order", &other),
+        ("both", &both),
+        ("trace", &trace),
+    ] {
+        let output = fed(&["import"], file);
+        let said = String::from_utf8_lossy(&output.stderr).to_string();
+        assert_eq!(
+            (output.status.code(), said.as_str()),
+            (Some(0), ""),
+            "{}",
+            name
+        );
+        assert_eq!(output.stdout, trace, "{}", name);
+    }
+    let mut next = pcap.clone();
+    next[..4].copy_from_slice(&[0x0a, 0x0d, 0x0d, 0x0a]);
+    let mut ethernet = pcap;
+    ethernet[20..22].copy_from_slice(&[1, 0]);
+    let packed = b"\x1f\x8b\x08\x00".to_vec();
+    for (file, words) in [
+        (&next, "this is pcapng, which is not read: save it as pcap"),
+        (&packed, "this is packed by gzip: unpack it first"),
+        (
+            &ethernet,
+            "its link type is 1, and that of PROFIBUS is 257, or 147 for private use",
+        ),
+    ] {
+        let output = fed(&["import"], file);
+        let line = format!("amsulfezd import: standard input: {}\n", words);
+        assert_eq!(String::from_utf8_lossy(&output.stderr), line);
+        assert_eq!(
+            (output.status.code(), &output.stdout[..]),
+            (Some(1), &b""[..])
+        );
+    }
+}
+
+/// A pcap file as a machine of the other byte order writes it, or one that counts nanoseconds.
+fn by_another(file: &[u8], nanoseconds: bool, swapped: bool) -> Vec<u8> {
+    let word = |at: usize| u32::from_le_bytes(file[at..at + 4].try_into().expect("four bytes"));
+    let put = |made: &mut Vec<u8>, word: u32| {
+        made.extend(if swapped {
+            word.to_be_bytes()
+        } else {
+            word.to_le_bytes()
+        })
+    };
+    let mut made = Vec::new();
+    put(&mut made, if nanoseconds { 0xa1b2_3c4d } else { word(0) });
+    for half in [2_u16, 4] {
+        made.extend(if swapped {
+            half.to_be_bytes()
+        } else {
+            half.to_le_bytes()
+        });
+    }
+    for at in [8, 12, 16, 20] {
+        put(&mut made, word(at));
+    }
+    let mut at = 24;
+    while at < file.len() {
+        let length = word(at + 8) as usize;
+        put(&mut made, word(at));
+        put(&mut made, word(at + 4) * if nanoseconds { 1000 } else { 1 });
+        put(&mut made, word(at + 8));
+        put(&mut made, word(at + 12));
+        made.extend(&file[at + 16..at + 16 + length]);
+        at += 16 + length;
+    }
+    made
 }
 
 /// Both editions, every setting, and refusals of settings, lines and entries. Where something is refused no file is left.
@@ -423,6 +589,22 @@ fn frames() {
         "amsulfezd frame: line 1: not pairs of hexadecimal digits",
     );
     fails(
+        &["frame", "-w", "token 9->200"],
+        1,
+        "amsulfezd frame: line 1: an address is 0 to 127 and a status 0 to 15: 'token 9->200'",
+    );
+    let output = fed(&["frame"], b"dc0509\n\xff\n");
+    assert_eq!(
+        (
+            output.status.code(),
+            String::from_utf8_lossy(&output.stderr).as_ref()
+        ),
+        (
+            Some(1),
+            "amsulfezd frame: standard input, line 2: not pairs of hexadecimal digits\n"
+        )
+    );
+    fails(
         &["frame", "-w", "request 9->5"],
         1,
         "amsulfezd frame: line 1: refused with 34 (top bit of the function code set; to be written, any other request)",
@@ -494,6 +676,19 @@ fn comparisons() {
         ]),
         "6 entries answered, ending number 0: the same\n"
     );
+    let output = fed(
+        &["compare", "traces/night.trace", "-"],
+        stored("traces/night.answers").as_bytes(),
+    );
+    assert_eq!(
+        output.stdout,
+        b"36 entries answered, ending number 0: the same\n"
+    );
+    let output = fed(
+        &["compare", "-", "-"],
+        &bytes(&root().join("traces/night.trace")),
+    );
+    assert_eq!(output.status.code(), Some(2));
     fails(
         &["compare", "traces/example12.trace", "traces/night.answers"],
         1,
@@ -560,14 +755,54 @@ fn examples_run() {
     std::fs::remove_dir_all(&folder).expect("the folder goes");
 }
 
+/// What bash offers, with the script that it reads: commands, options, values; and nothing where it completes files by itself.
+#[test]
+fn bash_completes() {
+    let folder = folder("completion");
+    let script = folder.join("amsulfezd");
+    printed(&["completion", "bash", "-o", word(&script)]);
+    let asks = "source \"$0\"; COMP_WORDS=(amsulfezd \"$@\"); COMP_CWORD=$#; _amsulfezd amsulfezd; echo \"${COMPREPLY[*]}\"";
+    for (words, offered) in [
+        (&["ex"][..], "explain export"),
+        (&["wa"], "watchdog"),
+        (&["replay", ""], ""),
+        (&["replay", "-"], "-o -h --output --help"),
+        (&["compare", ""], ""),
+        (&["compare", "traces/night.trace", ""], ""),
+        (&["explain", "traces/night.trace", "--f"], "--from"),
+        (&["export", "--as", ""], "text pcap csv"),
+        (&["completion", "z"], "zsh"),
+        (&["settings", "--ed"], "--edition"),
+        (&["frame", ""], "-w -o -h --write --output --help"),
+    ] {
+        let output = Command::new("bash")
+            .args(["-c", asks, word(&script)])
+            .args(words)
+            .output()
+            .expect("bash runs");
+        let said = String::from_utf8_lossy(&output.stdout).to_string();
+        assert_eq!(said.trim_end_matches('\n'), offered, "{:?}", words);
+        assert!(output.stderr.is_empty(), "{:?}: {:?}", words, output);
+    }
+    std::fs::remove_dir_all(&folder).expect("the folder goes");
+}
+
+/// The rule of the watchdog factors stands in the help, and with it in the manual page.
+#[test]
+fn the_rule_in_words() {
+    let rule = "The first factor is the units / 255, rounded up, and at least 1; the second is the units / the first factor, rounded up.";
+    assert!(printed(&["watchdog", "--help"]).contains(rule));
+    assert!(printed(&["manual"]).contains(rule));
+}
+
 /// Completion and manual page have every command.
 #[test]
 fn made_from_the_same_text() {
     let page = printed(&["manual"]);
     let completion = printed(&["completion", "bash"]);
     for command in [
-        "replay", "explain", "picture", "view", "heard", "import", "export", "simulate", "frame",
-        "header", "settings", "watchdog",
+        "replay", "explain", "picture", "view", "heard", "counts", "import", "export", "simulate",
+        "frame", "header", "settings", "watchdog", "compare",
     ] {
         assert!(
             page.contains(&format!(".SS amsulfezd {}", command)),

@@ -1,13 +1,13 @@
 //! `amsulfezd compare`: a trace's answers beside stored ones, or beside those of another trace.
 
-use super::{examples, replayed};
-use crate::input::Kind;
+use super::{answered, examples};
+use crate::input::{Input, Kind};
 use crate::{failure::Failure, input, output};
 use amsulfezd::answer::Answer;
 use amsulfezd::replay::replay_whole;
 use amsulfezd::run::{from_text, Run};
 use amsulfezd_tools::explain::Explanation;
-use clap::{Arg, ArgMatches, Command};
+use clap::{Arg, ArgMatches, Command, ValueHint};
 
 pub fn command(command: Command) -> Command {
     command
@@ -18,13 +18,17 @@ pub fn command(command: Command) -> Command {
              answers, and the status is 1. (make compare holds the library to the published Rust.)",
         )
         .arg(input::file("A trace"))
-        .arg(Arg::new("WITH").help("Answers or a trace; without it NAME.answers beside NAME.trace"))
+        .arg(
+            Arg::new("WITH")
+                .value_hint(ValueHint::FilePath)
+                .help("Answers or a trace; without it NAME.answers beside NAME.trace, standard input where it is -"),
+        )
         .arg(output::option())
         .after_help(examples(&["amsulfezd compare traces/night.trace traces/night.answers"]))
 }
 
 pub fn run(words: &ArgMatches) -> Result<(), Failure> {
-    let (input, replay) = replayed(words)?;
+    let (input, run, answers) = answered(words)?;
     let beside = input
         .path
         .as_ref()
@@ -32,15 +36,22 @@ pub fn run(words: &ArgMatches) -> Result<(), Failure> {
     let name = words.get_one::<String>("WITH").cloned().or(beside);
     let name =
         name.ok_or_else(|| Failure::Usage("no file to compare with is named".to_string()))?;
-    let bytes = std::fs::read(&name).map_err(|error| Failure::of_file(&name, error))?;
-    let (answers, run) = stored(&name, &bytes)?;
-    let differs = replay
-        .answers
+    let with = match name.as_str() {
+        "-" if input.path.is_none() => {
+            return Err(Failure::Usage(
+                "standard input cannot be both, the trace and what it is compared with".to_string(),
+            ))
+        }
+        "-" => input::standard()?,
+        _ => input::named(&name)?,
+    };
+    let (their_answers, their_run) = stored(&with)?;
+    let differs = answers
         .iter()
-        .zip(&answers)
+        .zip(&their_answers)
         .position(|(ours, theirs)| ours != theirs);
-    let shorter = replay.answers.len().min(answers.len());
-    let parts = differs.or(if (&replay.answers, replay.run) == (&answers, run) {
+    let shorter = answers.len().min(their_answers.len());
+    let parts = differs.or(if (&answers, run) == (&their_answers, their_run) {
         None
     } else {
         Some(shorter)
@@ -56,7 +67,7 @@ pub fn run(words: &ArgMatches) -> Result<(), Failure> {
         }
         Some(entry) => entry,
     };
-    let explained = Explanation::of(&replay.trace, &replay.answers, &replay.run);
+    let explained = Explanation::of(&input.bytes, &answers, &run);
     let explained = explained.map_err(|error| Failure::Refused(error.to_string()))?;
     let came = explained.lines.get(entry).map_or(String::new(), |line| {
         format!(" ({} {})", line.clock_words(), line.came)
@@ -66,21 +77,21 @@ pub fn run(words: &ArgMatches) -> Result<(), Failure> {
         entry + 1,
         came,
         input.name,
-        said(&replay.answers, &replay.run, entry),
-        name,
-        said(&answers, &run, entry)
+        said(&answers, &run, entry),
+        with.name,
+        said(&their_answers, &their_run, entry)
     )))
 }
 
 /// The answers of a file: as they are printed, or those to a trace.
-fn stored(name: &str, bytes: &[u8]) -> Result<(Vec<Answer>, Run), Failure> {
-    match Kind::of(bytes) {
+fn stored(with: &Input) -> Result<(Vec<Answer>, Run), Failure> {
+    match Kind::of(&with.bytes) {
         Kind::Trace => {
-            let (run, answers) = replay_whole(bytes);
+            let (run, answers) = replay_whole(&with.bytes);
             Ok((answers, run))
         }
-        _ => from_text(&String::from_utf8_lossy(bytes))
-            .map_err(|error| Failure::Refused(format!("{}: {}", name, error))),
+        _ => from_text(&String::from_utf8_lossy(&with.bytes))
+            .map_err(|error| Failure::Refused(format!("{}: {}", with.name, error))),
     }
 }
 

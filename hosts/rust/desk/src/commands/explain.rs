@@ -1,7 +1,7 @@
 //! `amsulfezd explain`: a trace and its answers in words.
 
 use super::{ended, examples, range, replayed};
-use crate::{failure::Failure, input, output};
+use crate::{failure::Failure, input, output, progress};
 use amsulfezd_tools::explain::explain;
 use clap::{ArgMatches, Command};
 
@@ -20,7 +20,9 @@ pub fn command(command: Command) -> Command {
 
 pub fn run(words: &ArgMatches) -> Result<(), Failure> {
     let (input, replay) = replayed(words)?;
-    let text = explain(&replay.trace, &replay.answers, &replay.run, &replay.view);
+    let text = progress::during("putting the answers into words", 1, |_| {
+        explain(&replay.trace, &replay.answers, &replay.run, &replay.view)
+    });
     let text = text.map_err(|error| Failure::Refused(error.to_string()))?;
     output::text(words, Some(&input), &text)?;
     ended(&input, &replay.run)

@@ -8,6 +8,7 @@ use amsulfezd::answer::{Answer, NextStation, Notice, Sent};
 use amsulfezd::capture::{export_whole, import_whole};
 use amsulfezd::refusal::Refusal;
 use amsulfezd::replay::{other_edition, replay_whole};
+use amsulfezd::run::Run;
 use amsulfezd::trace::{Edition, Header, HEADER_LENGTH};
 use amsulfezd_tools::explain::{Explanation, Line};
 use clap::{Arg, ArgAction, ArgMatches, Command};
@@ -44,11 +45,15 @@ pub fn command(command: Command) -> Command {
 
 pub fn run(words: &ArgMatches) -> Result<(), Failure> {
     let input = input::read(words)?;
-    let form = words
-        .get_one::<String>("AS")
-        .map(String::as_str)
-        .or_else(|| output::ending(words));
+    let form = words.get_one::<String>("AS").cloned();
+    let form = form.or_else(|| output::ending(words));
+    let form = form.as_deref();
     let link = match words.get_flag("private") {
+        true if form != Some("pcap") => {
+            return Err(Failure::Usage(
+                "--private is for a pcap file: --as pcap, or a name that ends in .pcap".to_string(),
+            ))
+        }
         true => pcap::USER,
         false => pcap::PROFIBUS,
     };
@@ -140,7 +145,14 @@ const COLUMNS: [&str; 19] = [
 /// The table of a trace's answers: a line for each entry.
 fn csv(words: &ArgMatches, input: &Input) -> Result<(), Failure> {
     let (run, answers) = progress::during("replaying", 1, |_| replay_whole(&input.bytes));
-    let explained = Explanation::of(&input.bytes, &answers, &run);
+    let text = progress::during("making the table", 1, |_| table(input, &answers, &run))?;
+    output::text(words, Some(input), &text)?;
+    ended(input, &run)
+}
+
+/// The text of that table.
+fn table(input: &Input, answers: &[Answer], run: &Run) -> Result<String, Failure> {
+    let explained = Explanation::of(&input.bytes, answers, run);
     let explained = explained.map_err(|error| Failure::Refused(error.to_string()))?;
     let mut table = csv::Writer::from_writer(Vec::new());
     let mut put = |row: &[String]| table.write_record(row).expect("it is written to memory");
@@ -149,9 +161,7 @@ fn csv(words: &ArgMatches, input: &Input) -> Result<(), Failure> {
         put(&row(line));
     }
     let bytes = table.into_inner().expect("it is written to memory");
-    let text = String::from_utf8(bytes).expect("rows of text");
-    output::text(words, Some(input), &text)?;
-    ended(input, &run)
+    Ok(String::from_utf8(bytes).expect("rows of text"))
 }
 
 /// A line of the table. What an answer does not have is empty.

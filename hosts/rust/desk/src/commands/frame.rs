@@ -1,12 +1,11 @@
 //! `amsulfezd frame`: the bytes of frames in words, and words as bytes.
 
 use super::examples;
-use crate::{failure::Failure, output};
+use crate::{failure::Failure, input, output};
 use amsulfezd::frame::{read, write, LONGEST_WRITTEN};
 use amsulfezd::record::{StationType, Telegram};
 use amsulfezd_tools::explain::telegram_words;
 use clap::{Arg, ArgAction, ArgMatches, Command};
-use std::io::Read;
 
 pub fn command(command: Command) -> Command {
     command
@@ -41,9 +40,9 @@ pub fn run(words: &ArgMatches) -> Result<(), Failure> {
         .unwrap_or_default()
         .collect();
     let (place, lines): (&str, Vec<String>) = if given.is_empty() {
-        let mut text = String::new();
-        let read = std::io::stdin().lock().read_to_string(&mut text);
-        read.map_err(|error| Failure::of_file("standard input", error))?;
+        let bytes = input::instead("no frame is named")?.bytes;
+        // Bytes that are no text are no digits and no words either.
+        let text = String::from_utf8_lossy(&bytes);
         (
             "standard input, line",
             text.lines().map(str::to_string).collect(),
@@ -120,9 +119,12 @@ fn written(place: &str, line: &str) -> Result<String, Failure> {
         ))
     };
     let telegram = telegram(line).ok_or_else(unknown)?;
-    let word = telegram
-        .word()
-        .map_err(|error| Failure::Refused(format!("{}: {}", place, error)))?;
+    let word = telegram.word().map_err(|_| {
+        Failure::Refused(format!(
+            "{}: an address is 0 to 127 and a status 0 to 15: '{}'",
+            place, line
+        ))
+    })?;
     let mut frame = [0; LONGEST_WRITTEN];
     let length = write(word, &mut frame).map_err(|refusal| Failure::refusal(place, refusal))?;
     Ok(format!("{}\n", hexadecimal(&frame[..length])))

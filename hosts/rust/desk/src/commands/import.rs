@@ -13,7 +13,7 @@ pub fn command(command: Command) -> Command {
         .about("Makes a trace of a bus monitor's capture: a text with a time and a frame on each line, or a pcap file")
         .long_about(
             "Makes a trace of a bus monitor's capture: a text with a time and a frame on each line, or a pcap file with link \
-             type 257 (PROFIBUS). Which of them it is, its content tells. Before the entries stand a header with the settings \
+             type 257 (PROFIBUS) or 147 (private use). Which of them it is, its content tells. Before the entries stand a header with the settings \
              below, for a station with one application that declines, and online. A trace is taken as it is, if its header is \
              accepted, and has its own settings. A refused line or packet is named, and nothing is written.",
         )

@@ -20,6 +20,7 @@ mod watchdog;
 use crate::failure::Failure;
 use crate::input::{self, Input};
 use crate::progress;
+use amsulfezd::answer::Answer;
 use amsulfezd::refusal::Refusal;
 use amsulfezd::replay::{counts as counts_of, replay_whole};
 use amsulfezd::run::Run;
@@ -166,13 +167,19 @@ fn range() -> [Arg; 2] {
     ]
 }
 
-/// The trace that is named, replayed by the proved library, with the notes beside it and the range that is asked for.
-fn replayed(words: &ArgMatches) -> Result<(Input, Replay), Failure> {
+/// The trace that is named, and the answers of the proved library.
+fn answered(words: &ArgMatches) -> Result<(Input, Run, Vec<Answer>), Failure> {
     let input = input::read(words)?.trace()?;
     let count = thousands(entries(&input.bytes).count() as u64);
     let (run, answers) = progress::during(&format!("replaying {} entries", count), 1, |_| {
         replay_whole(&input.bytes)
     });
+    Ok((input, run, answers))
+}
+
+/// The same, with the notes beside it and the range that is asked for.
+fn replayed(words: &ArgMatches) -> Result<(Input, Replay), Failure> {
+    let (input, run, answers) = answered(words)?;
     let word = |name: &str| {
         words
             .try_get_one::<String>(name)

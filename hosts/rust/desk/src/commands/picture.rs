@@ -2,7 +2,7 @@
 
 use super::heard::all_heard;
 use super::{ended, examples, range, replayed};
-use crate::{failure::Failure, input, output};
+use crate::{failure::Failure, input, output, progress};
 use amsulfezd_tools::picture::picture;
 use clap::{Arg, ArgAction, ArgMatches, Command};
 
@@ -26,7 +26,8 @@ pub fn run(words: &ArgMatches) -> Result<(), Failure> {
     if words.get_flag("heard") {
         replay.heard = Some(all_heard(&input)?.0);
     }
-    let text = picture(&replay).map_err(|error| Failure::Refused(error.to_string()))?;
+    let text = progress::during("drawing", 1, |_| picture(&replay));
+    let text = text.map_err(|error| Failure::Refused(error.to_string()))?;
     output::text(words, Some(&input), &text)?;
     ended(&input, &replay.run)
 }

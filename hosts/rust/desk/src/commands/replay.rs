@@ -1,6 +1,6 @@
 //! `amsulfezd replay`: the answers of the proved library.
 
-use super::{ended, examples, replayed};
+use super::{answered, ended, examples};
 use crate::{failure::Failure, input, output};
 use amsulfezd::run::to_text;
 use clap::{ArgMatches, Command};
@@ -14,7 +14,7 @@ pub fn command(command: Command) -> Command {
 }
 
 pub fn run(words: &ArgMatches) -> Result<(), Failure> {
-    let (input, replay) = replayed(words)?;
-    output::text(words, Some(&input), &to_text(&replay.answers, &replay.run))?;
-    ended(&input, &replay.run)
+    let (input, run, answers) = answered(words)?;
+    output::text(words, Some(&input), &to_text(&answers, &run))?;
+    ended(&input, &run)
 }

@@ -2,16 +2,16 @@
 
 use super::heard::all_heard;
 use super::{ended, examples, replayed};
-use crate::{failure::Failure, input, output, page};
+use crate::{failure::Failure, input, output, page, progress};
 use clap::{ArgMatches, Command};
 
 pub fn command(command: Command) -> Command {
     command
-        .about("A trace as one HTML file without a network: timeline, table, search, who was heard")
+        .about("A trace as one HTML file without a network: timeline, table, search, the counts, who was heard")
         .long_about(
             "A trace as one HTML file that a browser opens without a network: the timeline, which is zoomed with the wheel and \
              dragged, a table of the entries in words, a click on one marks the other, a search by address, state, refusal, \
-             notice and words, and who was heard.",
+             notice, alarm and words, the counts, and who was heard.",
         )
         .arg(input::file("A trace"))
         .arg(output::option())
@@ -24,7 +24,8 @@ pub fn run(words: &ArgMatches) -> Result<(), Failure> {
     if replay.run.ending.map_or(true, |_| replay.run.entries != 0) {
         replay.heard = Some(all_heard(&input)?.0);
     }
-    let text = page::page(&replay).map_err(|error| Failure::Refused(error.to_string()))?;
+    let text = progress::during("making the page", 1, |_| page::page(&replay));
+    let text = text.map_err(|error| Failure::Refused(error.to_string()))?;
     output::text(words, Some(&input), &text)?;
     ended(&input, &replay.run)
 }

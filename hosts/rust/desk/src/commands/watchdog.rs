@@ -15,6 +15,12 @@ const MOST_UNITS: u64 = 255 * 255;
 pub fn command(command: Command) -> Command {
     command
         .about("How the two watchdog factors of a time come about: the units, the two divisions, the time that they make")
+        .long_about(
+            "How the two watchdog factors of a time come about. The units are the time / 10 ms, rounded down. The first factor is \
+             the units / 255, rounded up, and at least 1; the second is the units / the first factor, rounded up. Both times 10 \
+             ms is the time that they make, which can be longer than the one that was asked for. More than 255 x 255 units are \
+             refused with 9. The settings take 10 to 650000 ms and refuse others with 8, which makes the status 1.",
+        )
         .arg(Arg::new("MS").required(true).num_args(1..).help("A time in milliseconds, of at most 19 digits"))
         .arg(output::option())
         .after_help(examples(&["amsulfezd watchdog 10000"]))

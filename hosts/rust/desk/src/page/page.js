@@ -13,6 +13,22 @@ const clockOf = (entry) => data.clock[entry] === null ? "" : thousands(data.cloc
 const stateOf = (entry) => data.before[entry] === data.state[entry]
     ? data.states[data.state[entry]]
     : data.states[data.before[entry]] + " → " + data.states[data.state[entry]];
+// The same with a sample of each state's colour.
+const stateParts = (entry) => {
+    const made = document.createDocumentFragment();
+    const state = (number) => {
+        const chip = document.createElement("i");
+        chip.className = "chip";
+        chip.style.background = "var(--s" + number + ")";
+        made.append(chip, data.states[number]);
+    };
+    state(data.before[entry]);
+    if (data.before[entry] !== data.state[entry]) {
+        made.append(" → ");
+        state(data.state[entry]);
+    }
+    return made;
+};
 const nextOf = (entry) => data.next[entry] < 0 ? "alone" : String(data.next[entry]);
 const timeOfDay = (clock) => {
     const second = Math.floor(clock / 1e6);
@@ -116,9 +132,9 @@ const lowerBound = (sorted, value) => {
 
 // ---- the table: only the lines that are seen are there ----
 const rows = element("rows"), space = element("space");
-const cell = (row, words) => {
+const cell = (row, words, parts) => {
     const made = document.createElement("span");
-    made.textContent = words;
+    made.append(parts || words);
     made.title = words;
     row.append(made);
 };
@@ -145,8 +161,9 @@ const fillTable = () => {
             if (item === chosen) row.classList.add("chosen");
             if (data.alarm[item]) row.classList.add("alarm");
             if (data.refusal[item]) row.classList.add("refused");
-            [item + 1, clockOf(item), data.texts[data.came[item]], stateOf(item), data.texts[data.did[item]]]
-                .forEach((words) => cell(row, words));
+            [item + 1, clockOf(item), data.texts[data.came[item]]].forEach((words) => cell(row, words));
+            cell(row, stateOf(item), stateParts(item));
+            cell(row, data.texts[data.did[item]]);
         }
         made.append(row);
     }
@@ -174,16 +191,16 @@ const choose = (entry, moveTimeline, moveTable) => {
     chosen = entry;
     const show = element("entry");
     show.replaceChildren();
-    const line = (name, words) => {
+    const line = (name, ...words) => {
         const made = document.createElement("p"), bold = document.createElement("b");
         bold.textContent = name;
-        made.append(bold, words);
+        made.append(bold, ...words);
         show.append(made);
     };
     line("Entry " + (entry + 1), clockOf(entry) + (data.clock[entry] === null ? "" : " (" + timeOfDay(data.clock[entry]) + ")"));
     line("came", data.texts[data.came[entry]]);
     line("did", data.texts[data.did[entry]]);
-    line("state", stateOf(entry) + "; next station: " + nextOf(entry));
+    line("state", stateParts(entry), "; next station: " + nextOf(entry));
     show.dataset.entry = entry + 1;
     if (moveTimeline && (entry < view.first + 1 || entry > view.first + columns() - 2)) {
         view.first = entry - columns() / 2 + 0.5;
@@ -405,7 +422,10 @@ const paintAxis = (pen, from, to) => {
     for (let entry = Math.ceil(from / far) * far; entry < to; entry += far) {
         if (data.clock[entry] === null) continue;
         const micros = String(data.clock[entry] % 1e6).padStart(6, "0");
-        pen.fillText(timeOfDay(data.clock[entry]) + "." + micros, xOf(entry) + 2, top.clock + 7);
+        const words = timeOfDay(data.clock[entry]) + "." + micros;
+        // Half a time says another one.
+        if (xOf(entry) + 2 + pen.measureText(words).width > LEFT + inner()) continue;
+        pen.fillText(words, xOf(entry) + 2, top.clock + 7);
     }
     if (view.width < 3) return;
     let before = null;
@@ -647,6 +667,7 @@ canvas.addEventListener("pointermove", (event) => {
 canvas.addEventListener("pointerup", (event) => {
     const x = placeOf(event), moved = hold && hold.moved;
     hold = null;
+    element("tip").hidden = true; // what it says stands below now
     canvas.classList.remove("dragged");
     const entry = entryAt(x);
     if (!moved && x >= LEFT && entry >= 0 && entry < N) choose(entry, false, true);
@@ -762,7 +783,7 @@ window.addEventListener("beforeprint", () => {
         if (kind) row.className = kind;
         for (const word of words) {
             const made = document.createElement(tag);
-            made.textContent = word;
+            made.append(word);
             row.append(made);
         }
         return row;
@@ -776,7 +797,7 @@ window.addEventListener("beforeprint", () => {
             table.append(line(["*", thousands(note[1]) + " us", note[2], "", ""], "td", "note"));
         } else {
             const kind = data.alarm[item] ? "alarm" : data.refusal[item] ? "refused" : "";
-            table.append(line([item + 1, clockOf(item), data.texts[data.came[item]], stateOf(item), data.texts[data.did[item]]], "td", kind));
+            table.append(line([item + 1, clockOf(item), data.texts[data.came[item]], stateParts(item), data.texts[data.did[item]]], "td", kind));
         }
     }
     if (list.length > ON_PAPER) {
@@ -791,6 +812,7 @@ window.addEventListener("afterprint", () => {
 
 window.addEventListener("resize", () => { keepInside(); fillTable(); draw(); });
 readColours();
+canvas.style.height = height + "px"; // before its width is asked for: a scroll bar beside it takes some
 view.width = Math.max(narrowest(), Math.min(widest, inner() / Math.max(1, Math.min(N, 60))));
 dressed();
 search();
