@@ -3,7 +3,7 @@
 use crate::number::{with_number, UnknownNumber};
 use std::fmt;
 
-/// Why a call, a header, an entry, a trace, a frame or a capture's line was refused.
+/// Why a call, a header, an entry, a trace, a frame, a capture's line or a station's bytes were refused.
 #[derive(Debug, Clone, Copy, PartialEq, Eq, Hash)]
 #[repr(u8)]
 #[non_exhaustive]
@@ -39,6 +39,7 @@ pub enum Refusal {
     CaptureTime = 32,
     CaptureCount = 33,
     FunctionCode = 34,
+    Station = 36,
 }
 
 /// Every refusal, in the order of their numbers.
@@ -73,6 +74,7 @@ pub const ALL: &[Refusal] = &[
     Refusal::CaptureTime,
     Refusal::CaptureCount,
     Refusal::FunctionCode,
+    Refusal::Station,
 ];
 
 impl Refusal {
@@ -124,6 +126,7 @@ impl Refusal {
             Refusal::FunctionCode => {
                 "top bit of the function code set; to be written, any other request"
             }
+            Refusal::Station => "no station",
         }
     }
 
@@ -134,7 +137,7 @@ impl Refusal {
 
     /// Whether a trace that is replayed, or one of its entries, can be refused so.
     pub fn is_of_replays(self) -> bool {
-        !self.is_of_frames() && self != Refusal::AskedAddress
+        !self.is_of_frames() && !matches!(self, Refusal::AskedAddress | Refusal::Station)
     }
 
     /// What the documents ask for instead, where the words alone do not say it.
@@ -181,3 +184,5 @@ impl fmt::Display for Refusal {
         write!(f, "{} ({})", self.number(), self.words())
     }
 }
+
+impl std::error::Error for Refusal {}
