@@ -57,7 +57,7 @@ if [ "$(uname -m)" = x86_64 ]; then
     by_program 500 scripts/compare_traces.sh "the trace call in a program is not the published station's"
     by_program 1000 scripts/compare_frames.sh "the calls on frames in a program are not document 02's"
     by_program 1000 scripts/compare_captures.sh "the calls on captures in a program are not document 02's"
-    by_program 300 scripts/compare_simulations.sh "the calls on a simulated bus in a program are not document 02's"
+    by_program 50 scripts/compare_simulations.sh "the calls on a simulated bus in a program are not document 02's"
 fi
 SEED=$seed COUNT=$frames bash scripts/compare_frames.sh || fail "the calls on frames are not document 02's (seed $seed)"
 SEED=$seed COUNT=$captures bash scripts/compare_captures.sh || fail "the calls on captures are not document 02's (seed $seed)"

@@ -1,8 +1,8 @@
 #!/usr/bin/env bash
-# Tries what a careless host or a broken disk would do to the proved call and the replay program: the C host's test under
-# valgrind, a trace of 1 GiB, a million polls in which nothing comes, a trace of nothing but bad records, and replay on
-# odd inputs and a closed output. Each line says what was done and what came. Not part of the gate: it takes a minute and
-# some memory.
+# Tries what a careless host or a broken disk would do to the proved calls and the replay program: the C host's test under
+# valgrind, a trace of 1 GiB, a million polls in which nothing comes, a trace of nothing but bad records, ten million stations of
+# random or changed bytes (STATIONS says otherwise), and replay on odd inputs and a closed output. Each line says what was done and
+# what came. Not part of the gate: it takes a minute and some memory.
 set -euo pipefail
 cd "$(dirname "$0")/.." || exit 1
 me="faults"
@@ -15,6 +15,7 @@ build_replay
 built=target/hosts/c
 c_host "$built/test" hosts/c/test.c
 c_host "$built/large" hosts/c/large.c
+c_host "$built/random_station" hosts/c/random_station.c
 
 # The header of example 12.
 header() {
@@ -48,6 +49,11 @@ for size in 1073741824 15000032; do
 done
 said=$("${emulator[@]}" "$built/large" bad 1000000) || fail "a trace of bad records was not answered"
 echo "faults: a trace of nothing but bad records: $said"
+
+mapfile -t traces < <(find traces/ hosts/rust -name '*.trace' | sort)
+said=$("${emulator[@]}" "$built/random_station" "${STATIONS:-10000000}" "${traces[@]}") ||
+    fail "a station of random bytes was neither refused nor sound"
+echo "faults: $said"
 
 expect "replay on empty input" "$(replay </dev/null)" "0 17"
 expect "replay on 15 bytes" "$(head -c 15 traces/example12.trace | replay)" "0 17"

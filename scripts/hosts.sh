@@ -12,21 +12,27 @@ built=target/hosts/c
 # The long trace says online this many times, which changes nothing.
 long=100000
 
-# How many traces are made at random to measure the stack.
+# How many traces are made at random to measure the stack, and how many stations to be refused or stepped (STATIONS says otherwise).
 at_random=1000
+stations=${STATIONS:-200000}
 
-# test_c TEST FAULTY CALL..: the C test holds, and it finds each fault that the file FAULTY plants in these calls.
+# What a C test is given: see test_c.
+test_words=()
+
+# test_c TEST FAULTY CALL..: the C test holds, run with test_words, and it finds each fault that the file FAULTY plants in these calls.
 test_c() {
     local test=hosts/c/$1.c faulty=hosts/c/$2.c calls=() call faults fault
     shift 2
     for call in "$@"; do calls+=("-Damsulfezd_$call=faulty_$call"); done
     c_host "$built/test" "$test"
-    "${emulator[@]}" "$built/test" || fail "the C host's $test does not hold"
+    "${emulator[@]}" "$built/test" "${test_words[@]}" || fail "the C host's $test does not hold"
     faults=$(grep -c '^    case [0-9]' "$faulty") || fail "$faulty has no faults"
+    "${compile[@]}" "${calls[@]}" -c "$test" -o "$built/renamed.o" || fail "$test does not build with other calls"
     for fault in $(seq "$faults"); do
         "${compile[@]}" -DFAULT="$fault" -c "$faulty" -o "$built/faulty.o" || fail "$faulty does not build"
-        c_host "$built/test-faulty" "${calls[@]}" "$test" "$built/faulty.o"
-        ! "${emulator[@]}" "$built/test-faulty" >/dev/null 2>&1 || fail "the C host's $test does not find planted fault $fault"
+        c_host "$built/test-faulty" "$built/renamed.o" "$built/faulty.o"
+        ! "${emulator[@]}" "$built/test-faulty" "${test_words[@]}" >/dev/null 2>&1 ||
+            fail "the C host's $test does not find planted fault $fault"
     done
     echo "C host: that test finds each of $faults planted faults"
 }
@@ -100,11 +106,35 @@ test_stack() {
     ! "${emulator[@]}" "$built/stack-faulty" "$at_random" >/dev/null 2>&1 || fail "a call that takes more stack is not found"
 }
 
+# The calls on a station, on every stored trace, and on bytes made at random.
+test_stations() {
+    local traces
+    [[ "$stations" =~ ^[1-9][0-9]{0,8}$ ]] || fail "STATIONS is a whole number above 0 of at most 9 digits, not '$stations'"
+    mapfile -t traces < <(find traces/ hosts/rust -name '*.trace' | sort)
+    test_words=("${traces[@]}")
+    test_c test_station faulty_station open_station step_station
+    test_words=("$stations" "${traces[@]}")
+    test_c random_station faulty_random step_station
+    test_words=()
+}
+
 # The C example prints what is stored.
 test_c_example() {
     c_host "$built/example" hosts/c/example.c
     "${emulator[@]}" "$built/example" | cmp - hosts/c/example.txt || fail "hosts/c/example.c does not print what is stored"
     echo "C host: its example prints what is stored"
+}
+
+# test_logger HOST COMMAND..: the logger on its simulated bus prints what is stated, also where it is restarted in the middle: its
+# station is saved to a file, which is there after it, and loaded again.
+test_logger() {
+    local host=$1 saved=target/hosts/logger.station
+    shift
+    "$@" | cmp - hosts/c/logger.txt || fail "the $host host's logger does not print what is stated"
+    rm -f "$saved"
+    "$@" "$saved" | cmp - hosts/c/logger.txt || fail "the $host host's logger does not go on after a restart"
+    [ -s "$saved" ] || fail "the $host host's logger was not restarted"
+    echo "$host host: its logger prints what is stated, restarted in the middle too"
 }
 
 # replay_all HOST COMMAND..: each trace of traces/ and of the pictures' tests, replayed by the host's example, is
@@ -172,8 +202,9 @@ test_rust_linked() {
     fi
     need_linked_rust
     test_rust "the proved library linked" linked_cargo test --package amsulfezd
-    linked_cargo build --package amsulfezd --example replay_file || fail "the Rust host's example does not build"
+    linked_cargo build --package amsulfezd --examples || fail "the Rust host's examples do not build"
     replay_all Rust "${emulator[@]}" "$linked/examples/replay_file"
+    test_logger Rust "${emulator[@]}" "$linked/examples/logger"
 }
 
 # The service desk's program: its tests; each story's trace answered, the stored pictures drawn anew; captures as other programs
@@ -320,9 +351,12 @@ test_c test_simulate faulty_simulate simulate simulated_trace
 test_c test_heard faulty_heard trace_heard
 test_c test_counts faulty_counts trace_counts
 test_c test_settings faulty_settings new_settings set_slot_bits set_max_retry_limit finish_settings
+test_stations
 test_header
 test_stack
 test_c_example
+c_host "$built/logger" hosts/c/logger.c
+test_logger C "${emulator[@]}" "$built/logger"
 c_host "$built/replay_file" hosts/c/replay_file.c
 replay_all C "${emulator[@]}" "$built/replay_file"
 test_stored_captures

@@ -9,7 +9,8 @@
  * bus, amsulfezd_write_frame writes one. amsulfezd_import_capture makes entries of a bus monitor's text,
  * amsulfezd_export_capture text of entries. amsulfezd_simulate runs several stations on one simulated bus,
  * amsulfezd_simulated_trace gives the trace of one of them. amsulfezd_new_settings makes a header with the defaults, amsulfezd_set_.. sets
- * one setting of it, amsulfezd_finish_settings checks it as a whole. In this file, in this order:
+ * one setting of it, amsulfezd_finish_settings checks it as a whole. amsulfezd_open_station makes a station in the caller's
+ * memory, amsulfezd_step_station takes it one entry further: a program that is on the bus itself. In this file, in this order:
  *
  *   the numbers in traces and answers      enum amsulfezd_..
  *   the calls on traces                    amsulfezd_replay_trace, amsulfezd_entries, amsulfezd_ending;
@@ -20,12 +21,15 @@
  *   the calls on captures                  amsulfezd_import_capture, amsulfezd_export_capture
  *   the calls on a simulated bus           amsulfezd_simulate, amsulfezd_simulated_trace, amsulfezd_ticks
  *   the calls on settings                  amsulfezd_new_settings, amsulfezd_set_.., amsulfezd_finish_settings
+ *   the calls on a station                 amsulfezd_open_station, amsulfezd_step_station, amsulfezd_stepped;
+ *                                          amsulfezd_station_counts
  *   readers of an answer                   amsulfezd_answer, amsulfezd_answer_..; amsulfezd_state_name,
  *                                          amsulfezd_refusal_words
  *   writers of a trace                     amsulfezd_write_header, amsulfezd_write_header_2, amsulfezd_write_command,
  *                                          amsulfezd_write_poll
+ *   who was heard, poll by poll            amsulfezd_hear
  *
- * example.c uses all but the frames, captures, simulations, counts, settings and who was heard. The field widths are document 01's, "Station"
+ * example.c replays a trace; logger.c is on a bus, with settings, a station, frames, counts and who was heard. The field widths are document 01's, "Station"
  * and "Trace", and document 02's, P6, P7 and P9; a frame's bytes are document 02's, P1, a setup's P12, a capture's text P13.
  *
  * Linking. `rt staticlib amsulfezd` proves the library and writes target/staticlib/libamsulfezd.a. From the
@@ -44,7 +48,7 @@
  * toolchain rattle-kit-5b. The method: the call runs on a stack of its own that was filled with a pattern, and the deepest
  * byte that changed is looked for, over all traces of traces/, one of 100,000 entries and 1,000 traces made at random,
  * which reach every state and every kind of send; each is replayed, asked for an address that was heard and for its
- * counts, its header moved to the other edition, and its entries exported; over a frame of each start byte and a word of
+ * counts, its header moved to the other edition, its entries exported and its station stepped; over a frame of each start byte and a word of
  * each kind; over the captures of traces/; over each call on settings; and over two setups of eight stations. hosts/c/stack.c does
  * this and is part of the tests, so that a library that uses more is found. The library's code has no recursion, takes no stack by a computed length
  * and calls nothing outside itself.
@@ -80,6 +84,13 @@ extern "C" {
 /* The length of what amsulfezd_trace_counts writes, in bytes. */
 #define AMSULFEZD_COUNTS_LENGTH 12
 
+/* The length of a table of who was heard, in bytes: see amsulfezd_hear. */
+#define AMSULFEZD_HEARD_TABLE_LENGTH (AMSULFEZD_HEARD_LENGTH * (AMSULFEZD_LAST_ADDRESS + 1))
+
+/* The length of a station, in bytes, and where the 12 bytes of its counts begin: see amsulfezd_open_station. */
+#define AMSULFEZD_STATION_LENGTH 96
+#define AMSULFEZD_STATION_COUNTS 64
+
 /* The longest entry, in bytes: a byte with the record's length, and the record. */
 #define AMSULFEZD_ENTRY_LENGTH 256
 
@@ -95,7 +106,8 @@ extern "C" {
  * 14, 25), 17 or 18; of amsulfezd_trace_heard also 26. In an answer: 0, or 12 to 15. Of a frame that is read: 0, 19 to 24 or
  * 34; of a word to be written: 0, 14, 18 or 34. Of a capture's line: 0, 18 to 24, 31 to 34; of an entry to be exported: 0,
  * 12 to 15, 17 or 18. Of a call on settings: 0, the number of a refused header, 17 or 18. Of a setup: 0, 17, 18, 27 to 30, 35, or
- * the number of a station's settings (1 to 8, 10, 25).
+ * the number of a station's settings (1 to 8, 10, 25). Of a station that is opened: 0, the number of a refused header, 17 or 18; of one
+ * that is stepped: 0, 36, 17 or 18.
  * Number 9 is never answered here. Number 16 belongs to earlier versions,
  * which refused the command passive; stored answers of theirs may have it, and no call answers with it any more.
  */
@@ -137,7 +149,8 @@ enum amsulfezd_refusal {
     AMSULFEZD_REFUSAL_CAPTURE_TIME = 32,      /* a time below the one before */
     AMSULFEZD_REFUSAL_CAPTURE_COUNT = 33,     /* more than 8 lines of one time */
     AMSULFEZD_REFUSAL_FUNCTION_CODE = 34,     /* top bit of the function code set; to be written: any other request */
-    AMSULFEZD_REFUSAL_TICKS = 35              /* a setup with more than 1,000,000 ticks */
+    AMSULFEZD_REFUSAL_TICKS = 35,             /* a setup with more than 1,000,000 ticks */
+    AMSULFEZD_REFUSAL_STATION = 36            /* bytes that are no station */
 };
 
 /* How a poll ended. */
@@ -618,6 +631,70 @@ uint64_t amsulfezd_set_watchdog_timeout(uint8_t *header, size_t header_len, uint
 uint64_t amsulfezd_finish_settings(const uint8_t *header, size_t header_len);
 #endif
 
+/* ---- The calls on a station -------------------------------------------------------------------------------------- */
+
+#ifndef AMSULFEZD_WITHOUT_CALL
+/*
+ * Makes a fresh station of a header's settings in the caller's memory: AMSULFEZD_STATION_LENGTH bytes, which are the whole
+ * station. They may be copied, saved and loaded again; a station's bytes depend on its header and its entries alone.
+ *
+ * header, header_len    The header, of either edition, such as finished settings. Bytes behind it are not looked at. It is
+ *                       read only.
+ * station, station_len  Where the station goes.
+ *
+ * Returns the number of bytes written, times 256, plus the refusal number, 0 if nothing was refused. Take it apart with
+ * amsulfezd_written and amsulfezd_number. Refused, in this order: 17 where header_len is less than the length of a header of
+ * its edition; the number that a trace with this header ends with; 18 where station_len is below AMSULFEZD_STATION_LENGTH.
+ *
+ * Which bytes change: the first AMSULFEZD_STATION_LENGTH of `station`, where nothing is refused. All others keep their value.
+ *
+ * What the caller must ensure, ownership and threads: as for amsulfezd_replay_trace. It always returns.
+ */
+uint64_t amsulfezd_open_station(const uint8_t *header, size_t header_len, uint8_t *station, size_t station_len);
+
+/*
+ * Takes a station one entry further: does what the entry says, a command or a poll, and writes its answer and the station after
+ * it. A trace is its header's station stepped along its entries, answer by answer.
+ *
+ * station, station_len  The station: what amsulfezd_open_station or this call wrote. Any content is allowed; bytes that are no
+ *                       station are refused with 36. Bytes behind the station are not looked at.
+ * entry, entry_len      The entry, as in a trace: what amsulfezd_write_command or amsulfezd_write_poll writes. A record has the
+ *                       decisions of as many applications as the station's header says. Bytes behind the entry are not looked
+ *                       at, so that the rest of a trace may be lent. It is read only.
+ * answer, answer_len    Where the answer goes: AMSULFEZD_ANSWER_LENGTH bytes, read with amsulfezd_answer.
+ *
+ * Returns the bytes of the entry, times 256, plus 0; or, refused, the number alone. Take it apart with amsulfezd_stepped and
+ * amsulfezd_number. Refused, in this order, with nothing written: 36 where the bytes are no station or too few for one; 17
+ * where the entry is empty or cut; 18 where answer_len is below 8. So an empty entry asks whether the bytes are a station: 17 if
+ * they are, 36 if not. An entry that a trace would answer with 12 to 15 is answered here too: the answer has the number, and the
+ * station's bytes keep their value.
+ *
+ * Which bytes change: the first AMSULFEZD_STATION_LENGTH of `station` and the first 8 of `answer`, where nothing is refused. All
+ * others keep their value.
+ *
+ * What the caller must ensure: the three point to memory that is theirs for the time of the call and do not overlap; none is
+ * NULL, not even with length 0; nobody else writes to them during the call. Several threads may step at the same time, each a
+ * station of its own. The call keeps no pointer, allocates nothing, has no state and always returns.
+ */
+uint64_t amsulfezd_step_station(uint8_t *station, size_t station_len, const uint8_t *entry, size_t entry_len, uint8_t *answer,
+                                size_t answer_len);
+#endif
+
+/* How many bytes the entry has, of what amsulfezd_step_station returned; 0 if it was refused. */
+static inline size_t amsulfezd_stepped(uint64_t returned)
+{
+    return (size_t)(returned / 256);
+}
+
+/*
+ * The counts of a station's life, read from its bytes: what amsulfezd_trace_counts says of the same header and entries. The
+ * bytes are a station, such as one that was just stepped.
+ */
+static inline struct amsulfezd_counts amsulfezd_station_counts(const uint8_t *station)
+{
+    return amsulfezd_counts_of(station + AMSULFEZD_STATION_COUNTS);
+}
+
 /* ---- Readers of an answer ---------------------------------------------------------------------------------------- */
 
 /* The answer in these 8 bytes, as a word whose fields the functions below read. Of entry i: answers + 8 * i. */
@@ -836,6 +913,8 @@ static inline const char *amsulfezd_refusal_words(unsigned number)
         return "top bit of the function code set; to be written, any other request";
     case AMSULFEZD_REFUSAL_TICKS:
         return "more than 1,000,000 ticks";
+    case AMSULFEZD_REFUSAL_STATION:
+        return "no station";
     default:
         return "unknown";
     }
@@ -1189,6 +1268,50 @@ static inline size_t amsulfezd_write_poll(uint8_t *to, size_t room, const struct
         to = amsulfezd_store(to, 4, amsulfezd_telegram_word(&telegrams[i]));
     }
     return 1 + length;
+}
+
+/* ---- Who was heard, poll by poll --------------------------------------------------------------------------------- */
+
+/*
+ * Takes note of who was heard in a poll, in a table of AMSULFEZD_HEARD_TABLE_LENGTH bytes that is the caller's: zeros to begin
+ * with, then the AMSULFEZD_HEARD_LENGTH bytes of each address, one after the other, as amsulfezd_trace_heard writes them:
+ *
+ *   amsulfezd_heard_of(table + AMSULFEZD_HEARD_LENGTH * address)
+ *
+ * entry is the entry that was stepped or replayed, whole, answer what it was answered with: the telegrams that the poll consumed
+ * are heard. Commands and refused entries change nothing. This is plain C and not proved; the tests hold the table to
+ * amsulfezd_trace_heard.
+ */
+static inline void amsulfezd_hear(uint8_t *table, const uint8_t *entry, uint64_t answer)
+{
+    unsigned consumed = amsulfezd_answer_consumed(answer), listed, i;
+    const uint8_t *telegrams;
+    uint64_t clock;
+    if (consumed == 0) {
+        return;
+    }
+    clock = amsulfezd_load(entry + 1, 6);
+    listed = amsulfezd_field(amsulfezd_load(entry + 7, 2), 11, 4);
+    telegrams = entry + 1 + entry[0] - 4 * listed; /* they are the record's last bytes */
+    for (i = 0; i < consumed; i++) {
+        struct amsulfezd_telegram telegram = amsulfezd_telegram_of((uint32_t)amsulfezd_load(telegrams + 4 * i, 4));
+        uint8_t *heard = table + AMSULFEZD_HEARD_LENGTH * telegram.source;
+        uint64_t times;
+        if (telegram.kind == AMSULFEZD_TELEGRAM_SHORT_CONFIRMATION || telegram.source > AMSULFEZD_LAST_ADDRESS) {
+            continue;
+        }
+        times = amsulfezd_load(heard, 4);
+        if (times == 0) {
+            amsulfezd_store(heard + 4, 6, clock);
+        }
+        if (times != UINT32_MAX) {
+            amsulfezd_store(heard, 4, times + 1);
+        }
+        amsulfezd_store(heard + 10, 6, clock);
+        if (telegram.kind == AMSULFEZD_TELEGRAM_RESPONSE) {
+            heard[16] = (uint8_t)(1 + telegram.station_type);
+        }
+    }
 }
 
 #ifdef __cplusplus

@@ -4,7 +4,7 @@
  * own that is filled with a pattern; afterwards the deepest byte that changed is looked for. The traces: those of the
  * files named, example 12's header with 100,000 times online, and as many made at random as are asked for, with headers
  * of both editions; each is replayed, asked for an address that was heard and for its counts, its header moved to the other
- * edition, and its entries exported as a capture; each state and each kind of send, moves both ways, an address that was heard,
+ * edition, its entries exported as a capture, and its station stepped one entry at a time; each state and each kind of send, moves both ways, an address that was heard,
  * and each of the counts must have been seen. Frames: one of each start byte, and a word of each kind. Captures: those of the files named, whose names end in
  * .capture, and one of each start byte. Simulations: eight stations that form a ring, and eight whose telegrams meet. Built with -DFAULT the call takes more, which must be found.
  *
@@ -153,14 +153,32 @@ static uint64_t trace_heard(const uint8_t *lent, size_t length, uint8_t *buffer,
     return amsulfezd_trace_heard(lent, length, 9, buffer, room);
 }
 
-/* Replays a trace, asks who was heard and for the counts, moves its header and exports its entries, and notes what came. */
+/* Opens the station of the trace that is lent and steps it along the entries; returns what the trace call would. */
+static uint64_t step_trace(const uint8_t *lent, size_t length, uint8_t *buffer, size_t room)
+{
+    static uint8_t station[AMSULFEZD_STATION_LENGTH];
+    size_t at = amsulfezd_header_length(lent, length);
+    uint64_t count = 0, stepped = amsulfezd_open_station(lent, length, station, sizeof station);
+    while (amsulfezd_number(stepped) == AMSULFEZD_OK && at < length) {
+        stepped = amsulfezd_step_station(station, sizeof station, lent + at, length - at, buffer, room);
+        at += amsulfezd_stepped(stepped);
+        count += amsulfezd_number(stepped) == AMSULFEZD_OK;
+    }
+    return 256 * count + amsulfezd_number(stepped);
+}
+
+/*
+ * Replays a trace, asks who was heard and for the counts, moves its header, exports its entries and steps its station, and notes what
+ * came.
+ */
 static void measure(const uint8_t *bytes, size_t length, const char *name)
 {
     struct amsulfezd_counts counts;
-    uint64_t i;
+    uint64_t i, replayed;
     trace = bytes;
     trace_len = length;
     run(amsulfezd_replay_trace, name);
+    replayed = returned;
     if (amsulfezd_ending(returned) == AMSULFEZD_REFUSAL_NO_ROOM) {
         fail("there was not room enough for the answers", name);
     }
@@ -181,6 +199,10 @@ static void measure(const uint8_t *bytes, size_t length, const char *name)
         moves_seen |= amsulfezd_written(returned) == AMSULFEZD_HEADER_LENGTH ? TO_FIRST : TO_SECOND;
     }
     run(export_capture, name);
+    run(step_trace, name);
+    if (returned != replayed) {
+        fail("its station is not stepped as it is replayed", name);
+    }
 }
 
 /* Imports a capture. */

@@ -1,6 +1,6 @@
 /*
  * Tests the proved call that says when an address was heard, against entries that are stated here by hand, from document 02,
- * P7, as asked.h says.
+ * P7, as asked.h says; and the table that a host keeps poll by poll with amsulfezd_hear, against the same entries.
  *
  * usage: test_heard
  */
@@ -101,6 +101,39 @@ static void ask_above(struct asked good, size_t at)
     }
 }
 
+/* The table that amsulfezd_hear makes of entries and answers, one after the other, is what the call says of the whole trace. */
+static void hear_entries(struct asked trace)
+{
+    static uint8_t table[AMSULFEZD_HEARD_TABLE_LENGTH];
+    uint8_t answers[AMSULFEZD_ANSWER_LENGTH * COUNT], bytes[AMSULFEZD_HEARD_LENGTH];
+    const uint8_t *entry = trace.bytes + trace.header;
+    memset(table, 0, sizeof table);
+    amsulfezd_replay_trace(trace.bytes, trace.length, answers, sizeof answers);
+    for (size_t i = 0; i < trace.count; i++) {
+        amsulfezd_hear(table, entry, amsulfezd_answer(answers + AMSULFEZD_ANSWER_LENGTH * i));
+        entry += trace.entries[i];
+        for (unsigned address = 0; address <= AMSULFEZD_LAST_ADDRESS; address++) {
+            expect((uint8_t)address, i + 1, bytes);
+            check(memcmp(table + AMSULFEZD_HEARD_LENGTH * address, bytes, sizeof bytes) == 0, "not the entry that it should be",
+                  "table", address);
+        }
+    }
+}
+
+/* A count at its largest stays there, and the rest goes on. */
+static void hear_largest(void)
+{
+    static uint8_t table[AMSULFEZD_HEARD_TABLE_LENGTH];
+    static const uint8_t poll[] = {18, 1, 2, 3, 4, 5, 6, 0x08, 0, 0, 0, 0, 0, 0, 0, 0xc2, 0x89, 0x20, 0};
+    static const uint8_t before[] = {0xff, 0xff, 0xff, 0xfe, 0, 0, 0, 0, 0, 7, 0, 0, 0, 0, 0, 9, 0};
+    static const uint8_t after[] = {0xff, 0xff, 0xff, 0xff, 0, 0, 0, 0, 0, 7, 1, 2, 3, 4, 5, 6, 2};
+    memcpy(table + AMSULFEZD_HEARD_LENGTH * 9, before, sizeof before);
+    for (int i = 0; i < 2; i++) {
+        amsulfezd_hear(table, poll, UINT64_C(1) << 24);
+        check(memcmp(table + AMSULFEZD_HEARD_LENGTH * 9, after, sizeof after) == 0, "not the largest count", "table", 9);
+    }
+}
+
 int main(int count, char **words)
 {
     uint8_t nine[AMSULFEZD_HEARD_LENGTH];
@@ -114,6 +147,9 @@ int main(int count, char **words)
     ask_refused_headers(of(9), first, second);
     ask_above(first, 15);
     ask_above(second, 13);
+    hear_entries(first);
+    hear_entries(second);
+    hear_largest();
     printf("C host: %lu checks of who was heard hold, each buffer between two guard pages\n", checks);
     return EXIT_SUCCESS;
 }

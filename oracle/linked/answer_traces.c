@@ -57,6 +57,43 @@ static uint64_t number_of(const uint8_t *bytes)
     return number;
 }
 
+/* Steps a trace one entry at a time, as oracle/src/comparison/steps.rs says. */
+static uint64_t step_trace(const uint8_t *trace, size_t length, uint8_t *answers, size_t room)
+{
+    uint8_t station[AMSULFEZD_STATION_LENGTH + 8], before[sizeof station];
+    memset(station, 0x69, sizeof station);
+    memcpy(before, station, sizeof station);
+    uint64_t opened = amsulfezd_open_station(trace, length, station, sizeof station);
+    if (amsulfezd_number(opened) != AMSULFEZD_OK) {
+        if (memcmp(station, before, sizeof station) != 0) {
+            fail("a refused header writes");
+        }
+        return opened;
+    }
+    if (amsulfezd_written(opened) != AMSULFEZD_STATION_LENGTH) {
+        fail("not the bytes of a station");
+    }
+    size_t at = amsulfezd_header_length(trace, length), answered = 0;
+    while (at < length) {
+        uint8_t *answer = answers + AMSULFEZD_ANSWER_LENGTH * answered;
+        memcpy(before, station, AMSULFEZD_STATION_LENGTH);
+        uint64_t stepped = amsulfezd_step_station(station, sizeof station, trace + at, length - at, answer,
+                                                  room - AMSULFEZD_ANSWER_LENGTH * answered);
+        unsigned number = amsulfezd_number(stepped);
+        unsigned refused = number == AMSULFEZD_OK ? amsulfezd_answer_refusal(amsulfezd_answer(answer)) : number;
+        if (memcmp(station, before, refused == AMSULFEZD_OK ? 0 : AMSULFEZD_STATION_LENGTH) != 0 ||
+            memcmp(station + AMSULFEZD_STATION_LENGTH, before + AMSULFEZD_STATION_LENGTH, 8) != 0) {
+            fail("what is refused changes the station, or a byte behind it");
+        }
+        if (number != AMSULFEZD_OK) {
+            return 256 * answered + stepped;
+        }
+        at += amsulfezd_stepped(stepped);
+        answered++;
+    }
+    return 256 * answered;
+}
+
 /* Makes the call with this number, which the comparison gives it. */
 static uint64_t make(uint8_t which, uint8_t address, const uint8_t *lent, size_t length, uint8_t *buffer, size_t room)
 {
@@ -69,6 +106,8 @@ static uint64_t make(uint8_t which, uint8_t address, const uint8_t *lent, size_t
         return amsulfezd_trace_heard(lent, length, address, buffer, room);
     case 3:
         return amsulfezd_trace_counts(lent, length, buffer, room);
+    case 4:
+        return step_trace(lent, length, buffer, room);
     default:
         fail("there is no such call");
         return 0;

@@ -73,6 +73,7 @@ pub mod comparison {
     pub mod run;
     pub mod shorten;
     pub mod speed;
+    pub mod steps;
     mod words;
     pub use words::hex;
 }

@@ -361,7 +361,7 @@ const COMPARE_SIMULATIONS: &str = env!("CARGO_BIN_EXE_compare_simulations");
 
 #[test]
 fn calls_in_another_process_are_the_same() {
-    programs::calls_in_another_process_are_the_same(COMPARE_SIMULATIONS, "300");
+    programs::calls_in_another_process_are_the_same(COMPARE_SIMULATIONS, "50");
 }
 
 #[test]

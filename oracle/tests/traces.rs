@@ -316,6 +316,11 @@ fn wrong_calls_are_found() {
             assert!(said.contains(part), "{}: {}", i, said);
         }
     }
+    // the same calls as a station that is stepped, and the trace call is right
+    for (i, call) in wrong.iter().enumerate() {
+        let (said, held) = compare_traces(Calls { step_trace: *call, ..ORACLE }, 5, 300);
+        assert!(!held && said.contains("a station that is stepped answers otherwise"), "{}: {}", i, said);
+    }
     // a program that says nothing
     let (status, said, _) = program(COMPARE_TRACES, &["5", "300", "--", "true"], &[]);
     assert_eq!(status, 1);

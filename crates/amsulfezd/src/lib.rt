@@ -1,12 +1,14 @@
 // The library for hosts: every call that C and Rust programs make of it, each thin over the crate that does the work. Their
 // names carry the prefix amsulfezd_, as a C library's names do. hosts/c/amsulfezd.h declares them. It leans on trace,
-// trace_editions, trace_heard, trace_counts, bus, bus_trace, settings_header, codec_frames, capture_import and capture_export.
+// trace_editions, trace_heard, trace_counts, bus, bus_trace, live, settings_header, codec_frames, capture_import and
+// capture_export.
 ghost use mathlib.Core.Path.{_≡_};
 ghost use lib.ListN.{length};
 ghost use Rattle.bus_run.specs.Run.{simulateNumber, simulateInto, traceNumber, traceInto};
 ghost use Rattle.capture_export.specs.Export.{exportOf, exportedOf, bufferOf as exportBuffer};
 ghost use Rattle.capture_import.specs.Import.{importOf, importedOf, bufferOf as importBuffer};
 ghost use Rattle.codec_frames.specs.Frames.{frameOf, readNumber, writeOf, writeNumber, writtenOver};
+ghost use Rattle.live.specs.Live.{openNumber, openInto, stepOf, stepNumber, stepInto, stepAnswer};
 ghost use Rattle.settings.specs.Settings.{slotBitsOf, hsaOf, rotationOf, gapWaitOf, retryOf, minTsdrOf, watchdogOf};
 ghost use Rattle.settings_header.specs.SettingsHeader.{setNumber, setInto, newNumber, newInto, finishNumber};
 ghost use Rattle.trace.specs.Trace.{replayOf, numberOf, bufferOf};
@@ -226,4 +228,26 @@ pub extern "C" fn amsulfezd_finish_settings(header: &[u8]) -> u64
     ensures { λ r. ⌜ r ≡ finishNumber (now (header .entry)) ⌝ }
 {
     settings_header::finish_settings(header)
+}
+
+// Opens a station: writes the 96 bytes of a fresh one, with the settings of the header that `header` begins with in either edition, and
+// returns the bytes written × 256. Refused with the header's numbers, or 18 where `station` is too short: then nothing is written.
+#[no_mangle]
+pub extern "C" fn amsulfezd_open_station(header: &[u8], station: &mut [u8]) -> u64
+    ensures { λ r. ⌜ r ≡ openNumber (now (header .entry)) (length (now (station .entry))) ⌝ }
+    ensures { λ _. ⌜ now (station .exit) ≡ openInto (now (header .entry)) (now (station .entry)) ⌝ }
+{
+    live::open_station(header, station)
+}
+
+// Steps a station by the entry that `entry` begins with, a command or a poll record as in a trace: writes its answer into the first 8
+// bytes of `answer` and the station after it into `station`, and returns the entry's bytes × 256. Refused with 36 where `station` holds
+// none, 17 where the entry is empty or cut, 18 where `answer` is too short: then nothing is written.
+#[no_mangle]
+pub extern "C" fn amsulfezd_step_station(station: &mut [u8], entry: &[u8], answer: &mut [u8]) -> u64
+    ensures { λ r. ⌜ r ≡ stepNumber (stepOf (now (station .entry)) (now (entry .entry)) (length (now (answer .entry)))) ⌝ }
+    ensures { λ _. ⌜ now (station .exit) ≡ stepInto (stepOf (now (station .entry)) (now (entry .entry)) (length (now (answer .entry)))) (now (station .entry)) ⌝ }
+    ensures { λ _. ⌜ now (answer .exit) ≡ stepAnswer (stepOf (now (station .entry)) (now (entry .entry)) (length (now (answer .entry)))) (now (answer .entry)) ⌝ }
+{
+    live::step_station(station, entry, answer)
 }

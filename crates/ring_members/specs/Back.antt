@@ -3,7 +3,7 @@
 use Prim.Native.Nat.{ℕ, zero, suc, _+_, _-_, _*_, _/_, _%_, _^_, _<_, _≤_}
 use mathlib.Core.Path.{_≡_, refl, sym, ap, subst, _∙_}
 use mathlib.Core.Bool.{Bool, true, false}
-use mathlib.Core.List.{List}
+use mathlib.Core.List.{List, [], _∷_}
 use native.Mathlib.Nat.{div-one, div-eq-of-lt, pow-suc}
 use native.Mathlib.Omega.{arith}
 use borrow.Author.Tests.{lt-ltb, eqb-true, eqb-false, ltb-true, ltb-false}
@@ -12,13 +12,14 @@ use lib.ListN.{length, getD, drop, set, length-set}
 use lib.Seq.{getD-set-same, getD-set-other, drop-set-lt}
 use lib.Dec.{eqb, ltb, lit<}
 use lib.Pow.{pow-mono, shr-shr, split, high, low}
-use Rattle.codec_fields.specs.Fields.{fieldOf, bitAt, bitNumber}
+use Rattle.codec_fields.specs.Fields.{fieldOf, bitAt, bitNumber, Bytes}
 use Rattle.codec_fields.specs.Laws.{bit-below, bit-read, bit-written}
 use Rattle.ring_addresses.specs.Set.{only}
+use Rattle.ring_links.specs.Tables.{tab-is}
 use Rattle.ring_links.specs.Sets.{links-same}
 use Rattle.ring.specs.Ring.{Ring, linksOf, has, make}
 use Rattle.ring.specs.Laws.{SoundRing, has-out, has-make}
-use Rattle.ring_members.specs.Members.{byteAt, inSet, setAdded, bitsOf, setWritten}
+use Rattle.ring_members.specs.Members.{byteAt, inSet, setAdded, bitsOf, setWritten, setBytes}
 use Rattle.ring_members.specs.Laws.{members-make}
 
 -- The bits of a byte.
@@ -90,7 +91,7 @@ module _ (out : List ℕ) (f : ℕ → Bool) where
   written-behind n (suc i) l = drop-set-lt n (setWritten out f i) i (bitsOf f (8 * i) 8) (omega (arith, l)) ∙ written-behind n i (omega (arith, l))
 
   -- an address is in the set that is written exactly if it is in f
-  in-bytes : (n x : ℕ) → n ≡ 8 * 16 → x < n → 16 ≤ length out → inSet (setWritten out f 16) x ≡ f x
+  pub in-bytes : (n x : ℕ) → n ≡ 8 * 16 → x < n → 16 ≤ length out → inSet (setWritten out f 16) x ≡ f x
   unfolding inSet byteAt
   in-bytes n x is l room =
       let place : x / 8 < 16 = omega (arith, l, is) in
@@ -102,6 +103,11 @@ module _ (out : List ℕ) (f : ℕ → Bool) where
 
   pub in-written : (x : ℕ) → x < 126 → 16 ≤ length out → inSet (setWritten out f 16) x ≡ f x
   in-written x l room = in-bytes 128 x refl (omega (arith, l)) room
+
+-- written over 16 bytes, the set's bytes are all that is there
+pub set-is : (out : List ℕ) (f : ℕ → Bool) → length out ≡ 16 → setWritten out f 16 ≡ setBytes f
+set-is out f e =
+    tab-is 0 (λ (i : ℕ). bitsOf f (8 * i) 8) 16 (setWritten out f 16) (written-length out f 16 ∙ e) (λ x l. written-at out f 16 x l (omega (arith, e)))
 
 -- The theorem: a sound ring, made of own alone and the set of its members in bytes, is the ring again.
 pub members-back : (r : Ring) (out : List ℕ) → SoundRing r → 16 ≤ length out → setAdded (make (r .own) (only (r .own)) (r .laps) (r .ready)) (setWritten out (has r) 16) 16 ≡ r
@@ -166,3 +172,29 @@ set-back own laps ready s out j a b small l room = set-again s out (has (make ow
     same x low =
         cases (ltb x 126) (λ t. has-make own (inSet s) laps ready x (ltb-true x 126 t))
         (λ f. has-out r x (ltb-false x 126 f) ∙ sym (last x (ltb-false x 126 f) low))
+
+-- a byte of bytes
+byte-below : (s : List ℕ) (x : ℕ) → Bytes s → getD s x 0 < 2 ^ 8
+byte-below [] x h = lit< tt
+byte-below (b ∷ s) zero h = h .0
+byte-below (b ∷ s) (suc x) h = byte-below s x (h .1)
+
+byte-there : (s : List ℕ) (x : ℕ) → x < length s → byteAt s x ≡ getD s x 0
+unfolding byteAt
+byte-there s x l = rw (lt-ltb x (length s) l)
+
+-- so its 16 bytes are those of that ring's members
+pub set-bytes-back : (own laps : ℕ) (ready : Bool) (s : List ℕ) → length s ≡ 16 → Bytes s → inSet s 126 ≡ false → inSet s 127 ≡ false → setBytes (has (make own (inSet s) laps ready)) ≡ s
+set-bytes-back own laps ready s e bytes a b =
+    sym (tab-is 0 (λ (i : ℕ). bitsOf f (8 * i) 8) 16 s e (λ x l. sym (at x l)))
+  where
+    f : ℕ → Bool
+    f = has (make own (inSet s) laps ready)
+
+    at : (x : ℕ) → x < 16 → bitsOf f (8 * x) 8 ≡ getD s x 0
+    at x l =
+        let room : 16 ≤ length s = omega (arith, e) in
+        let here : byteAt s x ≡ getD s x 0 = byte-there s x (omega (arith, l, e)) in
+        sym (written-at s f 16 x l room)
+        ∙ set-back own laps ready s s x a b (subst (λ (n : ℕ). n < 2 ^ 8) (sym here) (byte-below s x bytes)) l room
+        ∙ here

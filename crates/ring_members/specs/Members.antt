@@ -5,6 +5,7 @@ use mathlib.Core.List.{List}
 use lib.ListN.{length, getD, set}
 use lib.Dec.{eqb, ltb}
 use Rattle.codec_fields.specs.Fields.{bitAt, bitNumber}
+use Rattle.ring_links.specs.Links.{tab}
 use Rattle.ring.specs.Ring.{Ring, addOf}
 
 -- the byte at i, 0 where there is none
@@ -48,3 +49,7 @@ setWritten out f (suc i) = set (setWritten out f i) i (bitsOf f (8 * i) 8)
 -- all 16; as they are where there are fewer
 unfoldable pub setOver : List ℕ → (ℕ → Bool) → List ℕ
 setOver out f = cond (ltb (length out) 16) out (setWritten out f 16)
+
+-- the 16 bytes by themselves
+abbrev pub setBytes : (ℕ → Bool) → List ℕ
+setBytes f = tab (λ (i : ℕ). bitsOf f (8 * i) 8) 16 0

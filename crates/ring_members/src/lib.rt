@@ -6,7 +6,7 @@ ghost use Prim.Native.Nat.{_≤_};
 ghost use Rattle.codec_fields.specs.Fields.{bitNumber};
 ghost use Rattle.ring.specs.Ring.{ringOf};
 ghost use Rattle.ring_links.specs.Links.{listed};
-ghost use Rattle.ring_members.specs.Members.{byteAt, bitAdded, byteAdded, setAdded, bitsOf, setOver};
+ghost use Rattle.ring_members.specs.Members.{byteAt, inSet, bitAdded, byteAdded, setAdded, bitsOf, setOver};
 use codec_fields::bit;
 use ring::Head;
 use ring::set_next_station;
@@ -20,6 +20,13 @@ fn byte_at(set: &[u8], i: usize) -> u8
         return set[i];
     }
     0
+}
+
+// Whether `a` is in the set that these bytes are.
+pub fn in_set(set: &[u8], a: u8) -> bool
+    ensures { λ r. ⌜ r ≡ inSet (now (set .entry)) a ⌝ }
+{
+    bit(byte_at(set, (a / 8) as usize) as u64, (7 - a % 8) as u64)
 }
 
 // Adds `a` where its bit is one, the one above the lowest `at` of the byte.

@@ -12,6 +12,8 @@ use Rattle.amsulfezd.proofs.amsulfezd_read_frame.Reads as read-frame-reads
 use Rattle.amsulfezd.proofs.amsulfezd_write_frame.Reads as write-frame-reads
 use Rattle.amsulfezd.proofs.amsulfezd_import_capture.Reads as import-capture-reads
 use Rattle.amsulfezd.proofs.amsulfezd_export_capture.Reads as export-capture-reads
+use Rattle.amsulfezd.proofs.amsulfezd_open_station.Reads as open-station-reads
+use Rattle.amsulfezd.proofs.amsulfezd_step_station.Reads as step-station-reads
 use Rattle.amsulfezd.proofs.amsulfezd_new_settings.Reads as new-settings-reads
 use Rattle.amsulfezd.proofs.amsulfezd_set_slot_bits.Reads as set-slot-bits-reads
 use Rattle.amsulfezd.proofs.amsulfezd_set_highest_station_address.Reads as set-highest-station-address-reads
@@ -157,3 +159,18 @@ amsulfezd-set-watchdog-timeout κs a r₁ r₂ s₁ s₂ p q = (p .0 ∙ sym (q 
 
 pub amsulfezd-finish-settings : Determined finish-settings-reads.Post
 amsulfezd-finish-settings κs a r₁ r₂ s₁ s₂ p q = p ∙ sym q
+
+-- a station as bytes: the number, and each byte of what is lent
+pub amsulfezd-open-station :
+    (κs : _) (a : _) (r₁ r₂ : _) (s₁ s₂ : _)
+    → open-station-reads.Post κs a r₁ s₁
+    → open-station-reads.Post κs a r₂ s₂
+    → (r₁ ≡ r₂) × (now (s₁ .1 .0) ≡ now (s₂ .1 .0))
+amsulfezd-open-station κs a r₁ r₂ s₁ s₂ p q = (p .0 ∙ sym (q .0), p .1 ∙ sym (q .1))
+
+pub amsulfezd-step-station :
+    (κs : _) (a : _) (r₁ r₂ : _) (s₁ s₂ : _)
+    → step-station-reads.Post κs a r₁ s₁
+    → step-station-reads.Post κs a r₂ s₂
+    → (r₁ ≡ r₂) × (now (s₁ .0) ≡ now (s₂ .0)) × (now (s₁ .1 .1 .0) ≡ now (s₂ .1 .1 .0))
+amsulfezd-step-station κs a r₁ r₂ s₁ s₂ p q = (p .0 ∙ sym (q .0), p .1 .0 ∙ sym (q .1 .0), p .1 .1 ∙ sym (q .1 .1))

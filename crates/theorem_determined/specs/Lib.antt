@@ -42,6 +42,11 @@ pub mod TraceHeadersWritten
 pub mod TraceEditions
 pub mod SettingsHeader
 pub mod Trace
+pub mod StationNumbers
+pub mod StationWords
+pub mod StationLines
+pub mod StationBytes
+pub mod Live
 pub mod TraceCounts
 pub mod TraceHeard
 pub mod BusSetup

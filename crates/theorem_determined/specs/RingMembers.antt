@@ -1,9 +1,15 @@
--- Determined, for the public calls of ring_members: both return nothing and write, and every byte of what is lent is fixed.
+-- Determined, for the public calls of ring_members: what is asked has one answer, and the two that write leave one list of
+-- bytes.
 use mathlib.Core.Path.{_≡_, ap, _∙_, sym}
 use denote.Ref.{now}
+use Rattle.theorem_determined.specs.Claim.{Determined}
 use Rattle.ring.specs.Ring.{Ring}
+use Rattle.ring_members.proofs.in_set.Reads as in-set-reads
 use Rattle.ring_members.proofs.add_members.Reads as add-members-reads
 use Rattle.ring_members.proofs.write_members.Reads as write-members-reads
+
+pub in-set : Determined in-set-reads.Post
+in-set κs a r₁ r₂ s₁ s₂ p q = p ∙ sym q
 
 pub add-members :
     (κs : _) (a : _) (r₁ r₂ : _) (s₁ s₂ : _)

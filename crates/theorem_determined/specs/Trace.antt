@@ -3,10 +3,14 @@ use mathlib.Core.Path.{_≡_, _∙_, sym}
 use denote.Ref.{now}
 use Rattle.theorem_determined.specs.Claim.{Determined, DeterminedLent}
 use Rattle.theorem_determined.specs.Joins.{polled-same}
+use Rattle.trace.proofs.header_settings.Reads as header-settings-reads
 use Rattle.trace.proofs.trace_settings.Reads as trace-settings-reads
 use Rattle.trace.proofs.record_length.Reads as record-length-reads
 use Rattle.trace.proofs.answer_entry.Reads as answer-entry-reads
 use Rattle.trace.proofs.replay_trace.Reads as replay-trace-reads
+
+pub header-settings : Determined header-settings-reads.Post
+header-settings κs a r₁ r₂ s₁ s₂ p q = p ∙ sym q
 
 pub trace-settings : Determined trace-settings-reads.Post
 trace-settings κs a r₁ r₂ s₁ s₂ p q = p ∙ sym q

@@ -69,7 +69,7 @@ use Rattle.theorem_sound.specs.Kept.{hold-next, moves-keep}
 use Rattle.theorem_sound.specs.Keeps.{RingGood, either, again-good, remove-good}
 use Rattle.theorem_sound.specs.Hold.{AskedGood, asked-good}
 use Rattle.theorem_sound.specs.Pass.{advanced-good}
-use Rattle.theorem_sound.specs.Sound.{SoundStation, Call, poll, online, offline, passive, clock-fits, dispatched, inner-made, part-ring}
+use Rattle.theorem_sound.specs.Sound.{SoundStation, Call, poll, online, offline, passive, clock-fits, dispatched, few-pending, inner-made, part-ring}
 
 -- what a step sends, consumes and tells fits
 record StepFits (s : Step) : Type 0 where
@@ -285,13 +285,13 @@ module _ (p : Parameters) (n : ℕ) (bytes : List ℕ) (count : ℕ) (now : Micr
   poll-online-fits x c r t pending w g =
       either Fit (ongoingOf (c .«last_bus_activity») now t) _ _ (record { step-fits = done-fits _ _ _ }) (dispatch-fits x _ r (w .addresses) (w .next-one) g)
 
-  poll-inner-fits : (x : State) (c : Core) (r : Ring) (t : Bool) (pending : ℕ) → Clock now → SoundCore p n x c → RingGood p r → Fit (pollInner p x c r now t pending bytes n count)
+  poll-inner-fits : (x : State) (c : Core) (r : Ring) (t : Bool) (pending : ℕ) → pending < 2 ^ 16 → Clock now → SoundCore p n x c → RingGood p r → Fit (pollInner p x c r now t pending bytes n count)
   unfolding pollInner
-  poll-inner-fits x c r t pending l w g = go (isOffline (c .«connectivity_state»)) refl
+  poll-inner-fits x c r t pending few l w g = go (isOffline (c .«connectivity_state»)) refl
     where
       go : (b : Bool) → isOffline (c .«connectivity_state») ≡ b → Fit (cond b (ringStepOf (doneOf x c outcome.Offline) r) (pollOnline p (enteredOf (c .«connectivity_state») x) c r now t pending bytes n count))
       go true o = record { step-fits = done-fits _ _ _ }
-      go false o = poll-online-fits _ _ r t pending (dispatched p n now x c pending l o w) g
+      go false o = poll-online-fits _ _ r t pending (dispatched p n now x c pending few l o w) g
 
 -- a state's number is one of document 01's
 state-known : (x : State) → stateNumber x ≤ lastState
@@ -411,9 +411,9 @@ unfolding acceptedPoll acceptedAfter
 accepted-fits s bytes w z =
     let g = part-ring s w in
     let l = clock-fits bytes in
-    let m = inner-made s bytes _ _ _ w in
+    let m = inner-made s bytes _ _ _ (few-pending bytes) w in
     polled-fits (s .p) (s .applications) (s .counts) _ (w .eight) (moves-keep l (m .made-step .moves) (w .core-sound) .next-one) (m .made-ring)
-    (poll-inner-fits (s .p) (s .applications) bytes _ _ (given s bytes w z) (s .state) (s .core) (s .«token_ring») _ _ l (w .core-sound) g)
+    (poll-inner-fits (s .p) (s .applications) bytes _ _ (given s bytes w z) (s .state) (s .core) (s .«token_ring») _ _ (few-pending bytes) l (w .core-sound) g)
 
 -- The theorem, call by call: the answers of a sound station fit.
 pub poll-fits : (s : Station) (bytes : List ℕ) → SoundStation s → Fits (pollOf s bytes .answer)

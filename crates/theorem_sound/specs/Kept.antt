@@ -1,5 +1,5 @@
 -- Every move keeps every line of a sound state and core: a law for each line, then all together (`core-kept`, `moves-keep`).
-use Prim.Native.Nat.{ℕ, suc, _*_, _≤_, _<_}
+use Prim.Native.Nat.{ℕ, suc, _*_, _^_, _≤_, _<_}
 use mathlib.Core.Bool.{Bool, true, false}
 use mathlib.Core.Path.{_≡_, refl, sym, ap, _∙_}
 use mathlib.Core.Logic.{inl, inr}
@@ -146,6 +146,10 @@ pub hold-next : (p : Parameters) (c : Core) (t : Micros) → holdEndOf p c t .«
 unfolding withTokenTimes
 hold-next p c t = hold-same p c t (λ (x : Core). x .«next_application») refl
 
+hold-pending : (p : Parameters) (c : Core) (t : Micros) → holdEndOf p c t .«pending_bytes» ≡ c .«pending_bytes»
+unfolding withTokenTimes
+hold-pending p c t = hold-same p c t (λ (x : Core). x .«pending_bytes») refl
+
 hold-gap : (p : Parameters) (c : Core) (t : Micros) → holdEndOf p c t .«gap_state» ≡ c .«gap_state»
 unfolding withTokenTimes
 hold-gap p c t = hold-same p c t (λ (x : Core). x .«gap_state») refl
@@ -165,7 +169,7 @@ module _ {p : Parameters} {n : ℕ} {now : Micros} where
   state-kept P o' waits b = b
   state-kept P o' marks b = b
   state-kept P o' (sends bytes l) b = b
-  state-kept P o' (pends pending) b = b
+  state-kept P o' (pends pending few) b = b
   state-kept P o' (holds held cycled f) b = b
   state-kept P o' (turns a l) b = b
   state-kept P o' (gaps g l h) b = b
@@ -240,7 +244,7 @@ module _ {p : Parameters} {n : ℕ} {now : Micros} where
   next-kept waits b = b
   next-kept marks b = b
   next-kept (sends bytes l) b = b
-  next-kept (pends pending) b = b
+  next-kept (pends pending few) b = b
   next-kept (holds held cycled f) b = rw hold-next b
   next-kept (turns a l) b = l
   next-kept (gaps g l h) b = b
@@ -261,13 +265,40 @@ module _ {p : Parameters} {n : ℕ} {now : Micros} where
   next-kept goes-offline b = omega (arith, b)
   next-kept (connects v l) b = b
 
+  -- the pending bytes: no line of a sound core, but 16 bits hold them
+  pending-kept : {x y : State} {c d : Core} → Move p n now x c y d → c .«pending_bytes» < 2 ^ 16 → d .«pending_bytes» < 2 ^ 16
+  unfolding withActivity withPending withGap withTokenTimes withNextApplication withConnectivity freshCore
+  pending-kept waits b = b
+  pending-kept marks b = b
+  pending-kept (sends bytes l) b = b
+  pending-kept (pends pending few) b = few
+  pending-kept (holds held cycled f) b = rw hold-pending b
+  pending-kept (turns a l) b = b
+  pending-kept (gaps g l h) b = b
+  pending-kept (listens q q' k k' l o) b = b
+  pending-kept (passives q q' l w) b = b
+  pending-kept (idles q q' m m' k k' l h o) b = b
+  pending-kept (cycles held kept cycled f t) b = b
+  pending-kept claims b = b
+  pending-kept (listen-token i o) b = b
+  pending-kept (passive-idle i o) b = b
+  pending-kept (active-idle i o) b = b
+  pending-kept (use-token held i f) b = b
+  pending-kept (claim-token i o) b = b
+  pending-kept (await-data-response a held i l f t) b = b
+  pending-kept (pass-token gap attempt i) b = b
+  pending-kept (check-token-pass attempt i) b = b
+  pending-kept (await-status-response a i l) b = b
+  pending-kept goes-offline b = lit< tt
+  pending-kept (connects v l) b = b
+
   -- the gap state
   gap-kept : {x y : State} {c d : Core} → Move p n now x c y d → GapAddressed (c .«gap_state») → GapAddressed (d .«gap_state»)
   unfolding withActivity withPending withGap withTokenTimes withNextApplication withConnectivity freshCore
   gap-kept waits b = b
   gap-kept marks b = b
   gap-kept (sends bytes l) b = b
-  gap-kept (pends pending) b = b
+  gap-kept (pends pending few) b = b
   gap-kept (holds held cycled f) b = rw hold-gap b
   gap-kept (turns a l) b = b
   gap-kept (gaps g l h) b = l
@@ -294,7 +325,7 @@ module _ {p : Parameters} {n : ℕ} {now : Micros} where
   count-kept waits b = b
   count-kept marks b = b
   count-kept (sends bytes l) b = b
-  count-kept (pends pending) b = b
+  count-kept (pends pending few) b = b
   count-kept (holds held cycled f) b = rw hold-gap b
   count-kept (turns a l) b = b
   count-kept (gaps g l h) b = h
@@ -321,7 +352,7 @@ module _ {p : Parameters} {n : ℕ} {now : Micros} where
   offline-kept waits b = b
   offline-kept marks b = b
   offline-kept (sends bytes l) b = b
-  offline-kept (pends pending) b = b
+  offline-kept (pends pending few) b = b
   offline-kept (holds held cycled f) b = rw hold-online b
   offline-kept (turns a l) b = b
   offline-kept (gaps g l h) b = b
@@ -348,7 +379,7 @@ module _ {p : Parameters} {n : ℕ} {now : Micros} where
   known-kept {x} waits b = known-in x _ tt
   known-kept {x} marks b = known-in x _ (marked-known _ now)
   known-kept {x} (sends bytes l) b = known-in x _ tt
-  known-kept (pends pending) b = b
+  known-kept (pends pending few) b = b
   known-kept (holds held cycled f) b = rw hold-activity b
   known-kept (turns a l) b = b
   known-kept (gaps g l h) b = b
@@ -375,7 +406,7 @@ module _ {p : Parameters} {n : ℕ} {now : Micros} where
   activity-fits-kept waits l₀ b = known-fits (p .baudrate) _ now l₀ b
   activity-fits-kept marks l₀ b = marked-fits (p .baudrate) _ now l₀ b
   activity-fits-kept (sends bytes l) l₀ b = sent-fits p now bytes l l₀
-  activity-fits-kept (pends pending) l₀ b = b
+  activity-fits-kept (pends pending few) l₀ b = b
   activity-fits-kept (holds held cycled f) l₀ b = rw hold-activity b
   activity-fits-kept (turns a l) l₀ b = b
   activity-fits-kept (gaps g l h) l₀ b = b
@@ -402,7 +433,7 @@ module _ {p : Parameters} {n : ℕ} {now : Micros} where
   last-kept waits b = b
   last-kept marks b = b
   last-kept (sends bytes l) b = b
-  last-kept (pends pending) b = b
+  last-kept (pends pending few) b = b
   last-kept {c} (holds held cycled f) b = last-at _ held cycled (hold-last p c (held .«token_time»))
   last-kept (turns a l) b = b
   last-kept (gaps g l h) b = b
@@ -429,7 +460,7 @@ module _ {p : Parameters} {n : ℕ} {now : Micros} where
   time-kept waits b = b
   time-kept marks b = b
   time-kept (sends bytes l) b = b
-  time-kept (pends pending) b = b
+  time-kept (pends pending few) b = b
   time-kept {c} (holds held cycled f) b = rw (← hold-last p c (held .«token_time»)) (f .token-time)
   time-kept (turns a l) b = b
   time-kept (gaps g l h) b = b
@@ -456,7 +487,7 @@ module _ {p : Parameters} {n : ℕ} {now : Micros} where
   hold-kept waits t b = b
   hold-kept marks t b = b
   hold-kept (sends bytes l) t b = b
-  hold-kept (pends pending) t b = b
+  hold-kept (pends pending few) t b = b
   hold-kept {c} (holds held cycled f) t b = hold-set p c (held .«token_time») t b
   hold-kept (turns a l) t b = b
   hold-kept (gaps g l h) t b = b
@@ -497,3 +528,6 @@ module _ {p : Parameters} {n : ℕ} {now : Micros} where
 
   pub moves-keep : {x y : State} {c d : Core} → Clock now → Moves p n now x c y d → SoundCore p n x c → SoundCore p n y d
   moves-keep l ms w = keeps (SoundCore p n) (core-kept l) ms w
+
+  pub moves-pending : {x y : State} {c d : Core} → Moves p n now x c y d → c .«pending_bytes» < 2 ^ 16 → d .«pending_bytes» < 2 ^ 16
+  moves-pending ms b = keeps (λ (x : State) (c : Core). c .«pending_bytes» < 2 ^ 16) (λ x y c d m. pending-kept m) ms b

@@ -5,7 +5,7 @@
 -- state and core before it to those after it says that transitions lead there, each from a state that its assertion allows; and what each move keeps, each call keeps. The proof takes the
 -- transitions where the definitions make them, one by one; the statement alone says that such moves exist. Which states a poll joins
 -- is said by the table in Follows.antt.
-use Prim.Native.Nat.{ℕ, _+_, _≤_, _<_}
+use Prim.Native.Nat.{ℕ, _+_, _^_, _≤_, _<_}
 use mathlib.Core.Bool.{Bool, true, false, cond}
 use mathlib.Core.Path.{_≡_}
 use mathlib.Core.List.{List, [], _∷_}
@@ -120,8 +120,8 @@ pub data Move (p : Parameters) (n : ℕ) (now : Micros) : State → Core → Sta
   marks : {x : State} {c : Core} → Move p n now x c x (withActivity c (markedAt (c .«last_bus_activity») now))
   -- mark_tx: a telegram of at most 255 bytes
   sends : {x : State} {c : Core} (bytes : ℕ) → bytes ≤ 255 → Move p n now x c x (withActivity c (sentAt p now bytes))
-  -- check_for_bus_activity, mark_rx: the pending bytes
-  pends : {x : State} {c : Core} (pending : ℕ) → Move p n now x c x (withPending c pending)
+  -- check_for_bus_activity, mark_rx: the pending bytes, a number of 16 bits
+  pends : {x : State} {c : Core} (pending : ℕ) → pending < 2 ^ 16 → Move p n now x c x (withPending c pending)
   -- do_use_token: the end of hold and the last token time, by the token in hand
   holds : {c : Core} (held : UseTokenData) (cycled : Bool) → HeldFits n held → Move p n now (UseToken cycled held) c (UseToken cycled held) (holdEndOf p c (held .«token_time»))
   -- schedule_next_application

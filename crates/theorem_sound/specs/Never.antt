@@ -1,6 +1,6 @@
 -- What never happens: the arms of the definitions that are there only so that they are total, each with a theorem that no call reaches
 -- it; and tests that are never asked.
-use Prim.Native.Nat.{ℕ, zero, suc, _+_, _-_, _*_, _≤_, _<_}
+use Prim.Native.Nat.{ℕ, zero, suc, _+_, _-_, _*_, _^_, _≤_, _<_}
 use mathlib.Core.Bool.{Bool, true, false}
 use mathlib.Core.Path.{_≡_, refl, sym, ap}
 use mathlib.Core.Logic.{_⊎_, inl, inr}
@@ -358,6 +358,6 @@ unknown-listening (CheckTokenPass i) a z k e = absurd (rw e at k)
 unknown-listening (AwaitStatusResponse s) a z k e = absurd (rw e at k)
 unknown-listening (PassiveIdle q) a z k e = unknown-passive q a k e
 
-pub only-listening-unknown : (p : Parameters) (n : ℕ) (now : Micros) (x : State) (c : Core) (pending : ℕ) → Clock now → isOffline (c .«connectivity_state») ≡ false → SoundCore p n x c → busActivityOf c now pending .«last_bus_activity» ≡ activity.Unknown → MayNotKnow (enteredOf (c .«connectivity_state») x)
-only-listening-unknown p n now x c pending l o w e =
-    unknown-listening _ _ (dispatch-never-offline (c .«connectivity_state») x o) (dispatched p n now x c pending l o w .activity-known) e
+pub only-listening-unknown : (p : Parameters) (n : ℕ) (now : Micros) (x : State) (c : Core) (pending : ℕ) → pending < 2 ^ 16 → Clock now → isOffline (c .«connectivity_state») ≡ false → SoundCore p n x c → busActivityOf c now pending .«last_bus_activity» ≡ activity.Unknown → MayNotKnow (enteredOf (c .«connectivity_state») x)
+only-listening-unknown p n now x c pending few l o w e =
+    unknown-listening _ _ (dispatch-never-offline (c .«connectivity_state») x o) (dispatched p n now x c pending few l o w .activity-known) e

@@ -1,6 +1,6 @@
 -- Every station that the public calls make is sound: what `new` gives for an address of settings and a number of applications that is
 -- not refused, and what any list of polls and commands makes of it.
-use Prim.Native.Nat.{ℕ, _<_, _≤_}
+use Prim.Native.Nat.{ℕ, _^_, _<_, _≤_}
 use mathlib.Core.Bool.{Bool, true, false, cond}
 use mathlib.Core.Path.{_≡_, refl, sym, subst}
 use mathlib.Core.Logic.{inl}
@@ -14,7 +14,7 @@ use Rattle.settings_rules.specs.Laws.{outside-in}
 use Rattle.ring.specs.Ring.{Ring}
 use Rattle.ring.specs.Laws.{SoundRing}
 use Rattle.codec_records.specs.Records.{headOf, recordRefusal}
-use Rattle.codec_records.specs.Laws.{clock-below}
+use Rattle.codec_records.specs.Laws.{clock-below, pending-below}
 use Rattle.codec_answers.specs.declared.Outcome.the-variants as outcome
 use Rattle.station.specs.declared.OptionAddress.{OptionAddress}
 use Rattle.station.specs.declared.OptionAddress.the-variants as optionAddress
@@ -124,81 +124,81 @@ module _ {p : Parameters} {n : ℕ} {now : Micros} {x₀ : State} {c₀ : Core} 
   entered-came connectivity.Online x o f k = connected-came x (not-online _ o) k
 
   -- what a poll comes to by what its dispatch does, from the state x
-  poll-online-made : {E : State → Type 0} {x : State} {c : Core} (r : Ring) (t : Bool) (pending : ℕ) (bytes : List ℕ) (count : ℕ) → E x → ((d : Core) → Came p n now x₀ c₀ x d → RingMade p n now x₀ c₀ E (dispatchOf p x d r now bytes n count)) → Came p n now x₀ c₀ x c → RingGood p r → RingMade p n now x₀ c₀ E (pollOnline p x c r now t pending bytes n count)
+  poll-online-made : {E : State → Type 0} {x : State} {c : Core} (r : Ring) (t : Bool) (pending : ℕ) (few : pending < 2 ^ 16) (bytes : List ℕ) (count : ℕ) → E x → ((d : Core) → Came p n now x₀ c₀ x d → RingMade p n now x₀ c₀ E (dispatchOf p x d r now bytes n count)) → Came p n now x₀ c₀ x c → RingGood p r → RingMade p n now x₀ c₀ E (pollOnline p x c r now t pending bytes n count)
   unfolding pollOnline
-  poll-online-made {E} {c = c} r t pending bytes count y dispatch k g =
+  poll-online-made {E} {c = c} r t pending few bytes count y dispatch k g =
       either (RingMade p n now x₀ c₀ E) (ongoingOf (c .«last_bus_activity») now t) _ _ (record { made-step = done-made _ (marked k) y; made-ring = g })
-      (dispatch _ (bus pending k))
+      (dispatch _ (bus pending few k))
 
   -- what a poll comes to, by the state before it
-  connected-made : (x : State) {c : Core} (r : Ring) (t : Bool) (pending : ℕ) (bytes : List ℕ) (count : ℕ) → (SlotCoversPause p → FirstAttempt x) → (c .«connectivity_state» ≡ connectivity.Offline → ⊥) → Came p n now x₀ c₀ x c → RingGood p r → RingMade p n now x₀ c₀ (Follows p x) (pollOnline p (connectedOf x) c r now t pending bytes n count)
+  connected-made : (x : State) {c : Core} (r : Ring) (t : Bool) (pending : ℕ) (few : pending < 2 ^ 16) (bytes : List ℕ) (count : ℕ) → (SlotCoversPause p → FirstAttempt x) → (c .«connectivity_state» ≡ connectivity.Offline → ⊥) → Came p n now x₀ c₀ x c → RingGood p r → RingMade p n now x₀ c₀ (Follows p x) (pollOnline p (connectedOf x) c r now t pending bytes n count)
   unfolding connectedOf dispatchOf
-  connected-made Offline r t pending bytes count f o k g =
-      poll-online-made r t pending bytes count (goes refl tt)
+  connected-made Offline r t pending few bytes count f o k g =
+      poll-online-made r t pending few bytes count (goes refl tt)
       (λ d m. listen-token-made r bytes count (λ b. goes refl tt) (record { ends-offline = goes refl tt; ends-listen = λ q i. goes refl tt; ends-passive = λ q. goes refl tt }) m g)
       (to-listen refl o k) g
-  connected-made (ListenToken optionAddress.None i) r t pending bytes count f o k g =
-      poll-online-made r t pending bytes count (goes refl tt)
+  connected-made (ListenToken optionAddress.None i) r t pending few bytes count f o k g =
+      poll-online-made r t pending few bytes count (goes refl tt)
       (λ d m. listen-token-made r bytes count (λ b. goes refl tt) (record { ends-offline = goes refl tt; ends-listen = λ q i. goes refl tt; ends-passive = λ q. goes refl tt }) m g) k g
-  connected-made (ListenToken (optionAddress.Some a) i) r t pending bytes count f o k g =
-      poll-online-made r t pending bytes count (goes refl tt)
+  connected-made (ListenToken (optionAddress.Some a) i) r t pending few bytes count f o k g =
+      poll-online-made r t pending few bytes count (goes refl tt)
       (λ d m. listen-token-made r bytes count (λ b. goes refl tt) (goes refl tt, goes refl tt, goes refl tt) m g) k g
-  connected-made (ActiveIdle q m i) r t pending bytes count f o k g =
-      poll-online-made r t pending bytes count (goes refl tt)
+  connected-made (ActiveIdle q m i) r t pending few bytes count f o k g =
+      poll-online-made r t pending few bytes count (goes refl tt)
       (λ d m. active-idle-made r bytes count (λ b. goes refl tt)
       (record { ends-idle = λ q m i. goes refl tt; ends-accepted = λ held. goes refl tt; ends-left = goes refl tt }) m g)
       k g
-  connected-made (UseToken i d) r t pending bytes count f o k g =
-      poll-online-made r t pending bytes count (goes refl tt)
+  connected-made (UseToken i d) r t pending few bytes count f o k g =
+      poll-online-made r t pending few bytes count (goes refl tt)
       (λ d m. record { made-step = use-token-made i bytes (record { ends-use = λ cycled held. goes refl tt; ends-await = λ a held. goes refl tt; ends-pass = goes refl refl }) m; made-ring = g }) k g
-  connected-made (ClaimToken b) r t pending bytes count f o k g =
-      poll-online-made r t pending bytes count (goes refl tt) (λ d m. claim-token-made r (λ b. goes refl tt) (λ e held. goes refl tt) m g) k g
-  connected-made (AwaitDataResponse a d) r t pending bytes count f o k g =
-      poll-online-made r t pending bytes count (goes refl tt)
+  connected-made (ClaimToken b) r t pending few bytes count f o k g =
+      poll-online-made r t pending few bytes count (goes refl tt) (λ d m. claim-token-made r (λ b. goes refl tt) (λ e held. goes refl tt) m g) k g
+  connected-made (AwaitDataResponse a d) r t pending few bytes count f o k g =
+      poll-online-made r t pending few bytes count (goes refl tt)
       (λ d m. record { made-step = await-data-made bytes count (record { ends-use = λ cycled held. goes refl tt; ends-await = λ a held. goes refl tt; ends-pass = goes refl refl }) (goes refl tt) m; made-ring = g })
       k g
-  connected-made (PassToken gap a) r t pending bytes count f o k g =
-      poll-online-made r t pending bytes count (record { in-table = λ s. refl; at-first = f })
+  connected-made (PassToken gap a) r t pending few bytes count f o k g =
+      poll-online-made r t pending few bytes count (record { in-table = λ s. refl; at-first = f })
       (λ d m. pass-token-made gap r
       (record { ends-alone = λ held. goes refl tt; ends-check = λ j. goes refl tt; ends-asking = λ e a. goes refl tt })
       (λ u. record { in-table = λ s. refl; at-first = f }) m g)
       k g
-  connected-made (CheckTokenPass a) r t pending bytes count f o k g =
-      poll-online-made r t pending bytes count (goes refl tt)
+  connected-made (CheckTokenPass a) r t pending few bytes count f o k g =
+      poll-online-made r t pending few bytes count (goes refl tt)
       (λ d m. check-token-made a r bytes count
       (record { ends-alone = λ held. goes refl tt; ends-check = λ j. goes refl tt; ends-asking = λ e a. not-true e })
       (record { ends-idle = λ q m i. goes refl tt; ends-accepted = λ held. goes refl tt; ends-left = goes refl tt })
       (λ e u j. record { in-table = λ s. absurd (covered p _ now s e u); at-first = λ s. absurd (covered p _ now s e u) }) m g)
       k g
-  connected-made (AwaitStatusResponse a) r t pending bytes count f o k g =
-      poll-online-made r t pending bytes count (goes refl tt)
+  connected-made (AwaitStatusResponse a) r t pending few bytes count f o k g =
+      poll-online-made r t pending few bytes count (goes refl tt)
       (λ d m. await-status-made r bytes count
       (record { ends-alone = λ held. goes refl tt; ends-check = λ j. goes refl tt; ends-asking = λ e a. not-true e }) (goes refl refl) (goes refl tt) (goes refl tt) m g)
       k g
-  connected-made (PassiveIdle q) r t pending bytes count f o k g =
-      poll-online-made r t pending bytes count (goes refl tt)
+  connected-made (PassiveIdle q) r t pending few bytes count f o k g =
+      poll-online-made r t pending few bytes count (goes refl tt)
       (λ d m. listen-token-made r bytes count (λ b. goes refl tt) (record { ends-offline = goes refl tt; ends-listen = λ q i. goes refl tt; ends-passive = λ q. goes refl tt }) m g)
       (to-listen refl o k) g
 
   -- what a poll of PassiveIdle comes to, from a state that may be left for it
-  idle-made : {E : State → Type 0} {c : Core} (q : OptionAddress) (r : Ring) (t : Bool) (pending : ℕ) (bytes : List ℕ) (count : ℕ) → ((q' : OptionAddress) → E (PassiveIdle q')) → Came p n now x₀ c₀ (PassiveIdle q) c → RingGood p r → RingMade p n now x₀ c₀ E (pollOnline p (PassiveIdle q) c r now t pending bytes n count)
+  idle-made : {E : State → Type 0} {c : Core} (q : OptionAddress) (r : Ring) (t : Bool) (pending : ℕ) (few : pending < 2 ^ 16) (bytes : List ℕ) (count : ℕ) → ((q' : OptionAddress) → E (PassiveIdle q')) → Came p n now x₀ c₀ (PassiveIdle q) c → RingGood p r → RingMade p n now x₀ c₀ E (pollOnline p (PassiveIdle q) c r now t pending bytes n count)
   unfolding dispatchOf
-  idle-made {E} q r t pending bytes count e k g =
-      poll-online-made r t pending bytes count (e q) (λ d m. ends-where (λ y w. subst E (sym (w .1)) (e (w .0))) (passive-idle-made q r bytes count m g)) k g
+  idle-made {E} q r t pending few bytes count e k g =
+      poll-online-made r t pending few bytes count (e q) (λ d m. ends-where (λ y w. subst E (sym (w .1)) (e (w .0))) (passive-idle-made q r bytes count m g)) k g
 
   -- what a poll of a passive station comes to, by the state before it
-  passivated-made : (x : State) {c : Core} (r : Ring) (t : Bool) (pending : ℕ) (bytes : List ℕ) (count : ℕ) → (SlotCoversPause p → FirstAttempt x) → c .«connectivity_state» ≡ connectivity.Passive → Came p n now x₀ c₀ x c → RingGood p r → RingMade p n now x₀ c₀ (Follows p x) (pollOnline p (passivatedOf x) c r now t pending bytes n count)
+  passivated-made : (x : State) {c : Core} (r : Ring) (t : Bool) (pending : ℕ) (few : pending < 2 ^ 16) (bytes : List ℕ) (count : ℕ) → (SlotCoversPause p → FirstAttempt x) → c .«connectivity_state» ≡ connectivity.Passive → Came p n now x₀ c₀ x c → RingGood p r → RingMade p n now x₀ c₀ (Follows p x) (pollOnline p (passivatedOf x) c r now t pending bytes n count)
   unfolding passivatedOf connectedOf
-  passivated-made Offline r t pending bytes count f o k g = idle-made _ r t pending bytes count (λ q. goes refl tt) (to-passive refl o k) g
-  passivated-made (ListenToken q i) r t pending bytes count f o k g = idle-made _ r t pending bytes count (λ q. goes refl tt) (to-passive refl o k) g
-  passivated-made (ActiveIdle q m i) r t pending bytes count f o k g = idle-made _ r t pending bytes count (λ q. goes refl tt) (to-passive refl o k) g
-  passivated-made (UseToken i d) r t pending bytes count f o k g = connected-made (UseToken i d) r t pending bytes count f (not-passive _ o) k g
-  passivated-made (ClaimToken b) r t pending bytes count f o k g = connected-made (ClaimToken b) r t pending bytes count f (not-passive _ o) k g
-  passivated-made (AwaitDataResponse a d) r t pending bytes count f o k g = connected-made (AwaitDataResponse a d) r t pending bytes count f (not-passive _ o) k g
-  passivated-made (PassToken gap a) r t pending bytes count f o k g = connected-made (PassToken gap a) r t pending bytes count f (not-passive _ o) k g
-  passivated-made (CheckTokenPass a) r t pending bytes count f o k g = connected-made (CheckTokenPass a) r t pending bytes count f (not-passive _ o) k g
-  passivated-made (AwaitStatusResponse a) r t pending bytes count f o k g = connected-made (AwaitStatusResponse a) r t pending bytes count f (not-passive _ o) k g
-  passivated-made (PassiveIdle q) r t pending bytes count f o k g = idle-made q r t pending bytes count (λ q. goes refl tt) k g
+  passivated-made Offline r t pending few bytes count f o k g = idle-made _ r t pending few bytes count (λ q. goes refl tt) (to-passive refl o k) g
+  passivated-made (ListenToken q i) r t pending few bytes count f o k g = idle-made _ r t pending few bytes count (λ q. goes refl tt) (to-passive refl o k) g
+  passivated-made (ActiveIdle q m i) r t pending few bytes count f o k g = idle-made _ r t pending few bytes count (λ q. goes refl tt) (to-passive refl o k) g
+  passivated-made (UseToken i d) r t pending few bytes count f o k g = connected-made (UseToken i d) r t pending few bytes count f (not-passive _ o) k g
+  passivated-made (ClaimToken b) r t pending few bytes count f o k g = connected-made (ClaimToken b) r t pending few bytes count f (not-passive _ o) k g
+  passivated-made (AwaitDataResponse a d) r t pending few bytes count f o k g = connected-made (AwaitDataResponse a d) r t pending few bytes count f (not-passive _ o) k g
+  passivated-made (PassToken gap a) r t pending few bytes count f o k g = connected-made (PassToken gap a) r t pending few bytes count f (not-passive _ o) k g
+  passivated-made (CheckTokenPass a) r t pending few bytes count f o k g = connected-made (CheckTokenPass a) r t pending few bytes count f (not-passive _ o) k g
+  passivated-made (AwaitStatusResponse a) r t pending few bytes count f o k g = connected-made (AwaitStatusResponse a) r t pending few bytes count f (not-passive _ o) k g
+  passivated-made (PassiveIdle q) r t pending few bytes count f o k g = idle-made q r t pending few bytes count (λ q. goes refl tt) k g
 
 -- a poll that changes nothing stays in the table
 stays-in-table : (x : State) → lists (reached x) (stateNumber x) ≡ true
@@ -218,17 +218,17 @@ begins : {p : Parameters} {n : ℕ} {now : Micros} {x : State} {c : Core} → Cl
 begins l w = record { clock = l; start = w; by = none }
 
 -- the state and core that the state's step is given: past enteredOf and check_for_bus_activity
-pub dispatched : (p : Parameters) (n : ℕ) (now : Micros) (x : State) (c : Core) (pending : ℕ) → Clock now → isOffline (c .«connectivity_state») ≡ false → SoundCore p n x c → SoundCore p n (enteredOf (c .«connectivity_state») x) (busActivityOf c now pending)
-dispatched p n now x c pending l o w = sound-at (bus pending (entered-came (c .«connectivity_state») x refl o (begins l w)))
+pub dispatched : (p : Parameters) (n : ℕ) (now : Micros) (x : State) (c : Core) (pending : ℕ) → pending < 2 ^ 16 → Clock now → isOffline (c .«connectivity_state») ≡ false → SoundCore p n x c → SoundCore p n (enteredOf (c .«connectivity_state») x) (busActivityOf c now pending)
+dispatched p n now x c pending few l o w = sound-at (bus pending few (entered-came (c .«connectivity_state») x refl o (begins l w)))
 
-poll-inner-made : (p : Parameters) (n : ℕ) (now : Micros) (x : State) (c : Core) (r : Ring) (t : Bool) (pending : ℕ) (bytes : List ℕ) (count : ℕ) → Clock now → SoundCore p n x c → (SlotCoversPause p → FirstAttempt x) → RingGood p r → RingMade p n now x c (Follows p x) (pollInner p x c r now t pending bytes n count)
+poll-inner-made : (p : Parameters) (n : ℕ) (now : Micros) (x : State) (c : Core) (r : Ring) (t : Bool) (pending : ℕ) (few : pending < 2 ^ 16) (bytes : List ℕ) (count : ℕ) → Clock now → SoundCore p n x c → (SlotCoversPause p → FirstAttempt x) → RingGood p r → RingMade p n now x c (Follows p x) (pollInner p x c r now t pending bytes n count)
 unfolding pollInner enteredOf isOffline
-poll-inner-made p n now x c r t pending bytes count l w f g = go (c .«connectivity_state») refl
+poll-inner-made p n now x c r t pending few bytes count l w f g = go (c .«connectivity_state») refl
   where
     go : (v : ConnectivityState) → c .«connectivity_state» ≡ v → RingMade p n now x c (Follows p x) (cond (isOffline v) (ringStepOf (doneOf x c outcome.Offline) r) (pollOnline p (enteredOf v x) c r now t pending bytes n count))
     go connectivity.Offline o = record { made-step = done-made _ (begins l w) (record { in-table = λ s. stays-in-table x; at-first = f }); made-ring = g }
-    go connectivity.Passive o = passivated-made x r t pending bytes count f o (begins l w) g
-    go connectivity.Online o = connected-made x r t pending bytes count f (not-online _ o) (begins l w) g
+    go connectivity.Passive o = passivated-made x r t pending few bytes count f o (begins l w) g
+    go connectivity.Online o = connected-made x r t pending few bytes count f (not-online _ o) (begins l w) g
 
 -- A call's moves: the station after it has come there from a sound one by moves, and its ring is sound. The settings and the number of
 -- applications stay.
@@ -254,15 +254,19 @@ refused-made : (s : Station) (now : Micros) (k : ℕ) → SoundStation s → Cal
 unfolding refusedPoll
 refused-made s now k w = stays-made s now w
 
+-- a record's pending bytes have 11 bits
+pub few-pending : (bytes : List ℕ) → headOf bytes .pending < 2 ^ 16
+few-pending bytes = omega (arith, pending-below bytes)
+
 -- the step of a poll whose record is not refused
-pub inner-made : (s : Station) (bytes : List ℕ) (t : Bool) (pending count : ℕ) → SoundStation s → RingMade (s .p) (s .applications) (clockOf (poll bytes)) (s .state) (s .core) (Follows (s .p) (s .state)) (pollInner (s .p) (s .state) (s .core) (s .«token_ring») (clockOf (poll bytes)) t pending bytes (s .applications) count)
-inner-made s bytes t pending count w =
-    poll-inner-made (s .p) (s .applications) _ (s .state) (s .core) (s .«token_ring») t pending bytes count (clock-fits bytes) (w .core-sound) (w .first-attempt) (part-ring s w)
+pub inner-made : (s : Station) (bytes : List ℕ) (t : Bool) (pending count : ℕ) → pending < 2 ^ 16 → SoundStation s → RingMade (s .p) (s .applications) (clockOf (poll bytes)) (s .state) (s .core) (Follows (s .p) (s .state)) (pollInner (s .p) (s .state) (s .core) (s .«token_ring») (clockOf (poll bytes)) t pending bytes (s .applications) count)
+inner-made s bytes t pending count few w =
+    poll-inner-made (s .p) (s .applications) _ (s .state) (s .core) (s .«token_ring») t pending few bytes count (clock-fits bytes) (w .core-sound) (w .first-attempt) (part-ring s w)
 
 accepted-made : (s : Station) (bytes : List ℕ) → SoundStation s → CallMade s (clockOf (poll bytes)) (acceptedPoll s bytes .station)
 unfolding acceptedPoll acceptedAfter
 accepted-made s bytes w =
-    let m = inner-made s bytes _ _ _ w in
+    let m = inner-made s bytes _ _ _ (few-pending bytes) w in
     polled-made s _ _ (record { made-step = record { moves = m .made-step .moves; ends = m .made-step .ends .at-first }; made-ring = m .made-ring })
 
 poll-made : (s : Station) (bytes : List ℕ) → SoundStation s → CallMade s (clockOf (poll bytes)) (pollOf s bytes .station)
@@ -353,7 +357,7 @@ new-sound p n l e =
 -- A poll leaves a sound station in a state that the table has.
 accepted-follows : (s : Station) (bytes : List ℕ) → SoundStation s → Follows (s .p) (s .state) (acceptedPoll s bytes .station .state)
 unfolding acceptedPoll acceptedAfter polledOf
-accepted-follows s bytes w = inner-made s bytes _ _ _ w .made-step .ends
+accepted-follows s bytes w = inner-made s bytes _ _ _ (few-pending bytes) w .made-step .ends
 
 refused-follows : (s : Station) (k : ℕ) → SoundStation s → Follows (s .p) (s .state) (refusedPoll s k .station .state)
 unfolding refusedPoll

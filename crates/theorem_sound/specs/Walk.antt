@@ -1,9 +1,9 @@
 -- What a step comes to: moves from a sound state and core, which lead to a state and its core. One law for each way of active.rs to write
 -- to the station; the steps of each crate (Hold, Listen, Pass) and the calls (Sound) are put together of these.
-use Prim.Native.Nat.{ℕ, _≤_, _<_}
+use Prim.Native.Nat.{ℕ, _^_, _≤_, _<_}
 use mathlib.Core.Bool.{Bool, true, false}
 use mathlib.Core.Path.{_≡_, refl}
-use lib.Dec.{ltb}
+use lib.Dec.{ltb, lit<}
 use Rattle.bit_times.specs.declared.Micros.{Micros}
 use Rattle.settings.specs.declared.Parameters.{Parameters}
 use Rattle.ring.specs.Ring.{Ring}
@@ -132,12 +132,12 @@ module _ {p : Parameters} {n : ℕ} {now : Micros} {x₀ : State} {c₀ : Core} 
 
   pub rx : {x : State} {c : Core} → Came p n now x₀ c₀ x c → Came p n now x₀ c₀ x (rxOf c now)
   unfolding rxOf withActivity withPending
-  rx k = moved (moved k (pends 0)) marks
+  rx k = moved (moved k (pends 0 (lit< tt))) marks
 
-  pub bus : {x : State} {c : Core} (pending : ℕ) → Came p n now x₀ c₀ x c → Came p n now x₀ c₀ x (busActivityOf c now pending)
+  pub bus : {x : State} {c : Core} (pending : ℕ) → pending < 2 ^ 16 → Came p n now x₀ c₀ x c → Came p n now x₀ c₀ x (busActivityOf c now pending)
   unfolding busActivityOf
-  bus {c} pending k =
-      either (Came p n now x₀ c₀ _) (ltb (c .«pending_bytes») pending) _ _ (moved (moved k marks) (pends pending)) k
+  bus {c} pending few k =
+      either (Came p n now x₀ c₀ _) (ltb (c .«pending_bytes») pending) _ _ (moved (moved k marks) (pends pending few)) k
 
   -- the end of hold, the next application, the gap's turn
   pub hold-set-at : {cycled : Bool} {held : UseTokenData} {c : Core} → Came p n now x₀ c₀ (UseToken cycled held) c → Came p n now x₀ c₀ (UseToken cycled held) (holdEndOf p c (held .«token_time»))

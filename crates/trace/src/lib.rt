@@ -16,7 +16,7 @@ use station_answer::Polled;
 use trace_headers::Header;
 
 // The settings that a header gives, or its first refusal.
-fn header_settings(header: Header) -> Created
+pub fn header_settings(header: Header) -> Created
     ensures { λ r. ⌜ r ≡ settingsOf header ⌝ }
 {
     let refusal = trace_headers::header_refusal(header);

@@ -1,5 +1,9 @@
 //! The proved calls as a Rust host makes them. This is the one place with unsafe code.
 
+use oracle::comparison::steps::STATION;
+use oracle::editions::Edition;
+use oracle::trace::ANSWER;
+
 mod proved {
     extern "C" {
         /// The call of the static library; its contract is document 01's "Trace".
@@ -16,6 +20,22 @@ mod proved {
         ) -> u64;
         /// The call that gives the counts of a finished trace: document 02's P6.
         pub fn amsulfezd_trace_counts(trace: *const u8, trace_len: usize, counts: *mut u8, counts_len: usize) -> u64;
+        /// The call that makes a station: the live door.
+        pub fn amsulfezd_open_station(
+            header: *const u8,
+            header_len: usize,
+            station: *mut u8,
+            station_len: usize,
+        ) -> u64;
+        /// The call that takes a station one entry further: the live door.
+        pub fn amsulfezd_step_station(
+            station: *mut u8,
+            station_len: usize,
+            entry: *const u8,
+            entry_len: usize,
+            answer: *mut u8,
+            answer_len: usize,
+        ) -> u64;
         /// The call that reads a frame: document 02's P1.
         pub fn amsulfezd_read_frame(frame: *const u8, frame_len: usize) -> u64;
         /// The call that writes a frame: document 02's P1.
@@ -73,6 +93,43 @@ pub fn trace_heard(trace: &[u8], address: u8, entry: &mut [u8]) -> u64 {
 pub fn trace_counts(trace: &[u8], counts: &mut [u8]) -> u64 {
     // Safety: as above.
     unsafe { proved::amsulfezd_trace_counts(trace.as_ptr(), trace.len(), counts.as_mut_ptr(), counts.len()) }
+}
+
+/// Makes a station by the proved call.
+pub fn open_station(header: &[u8], station: &mut [u8]) -> u64 {
+    // Safety: as above.
+    unsafe { proved::amsulfezd_open_station(header.as_ptr(), header.len(), station.as_mut_ptr(), station.len()) }
+}
+
+/// Takes a station one entry further by the proved call.
+pub fn step_station(station: &mut [u8], entry: &[u8], answer: &mut [u8]) -> u64 {
+    let (to, room) = (answer.as_mut_ptr(), answer.len());
+    // Safety: as above.
+    unsafe {
+        proved::amsulfezd_step_station(station.as_mut_ptr(), station.len(), entry.as_ptr(), entry.len(), to, room)
+    }
+}
+
+/// Steps a trace one entry at a time by the proved calls.
+pub fn step_trace(trace: &[u8], answers: &mut [u8]) -> u64 {
+    oracle::comparison::steps::step_trace(&open_station, &step_station, trace, answers)
+}
+
+/// Steps a trace one entry at a time by the proved calls, and does nothing else: to measure. The trace has whole entries, and there is
+/// room for their answers.
+pub fn only_step_trace(trace: &[u8], answers: &mut [u8]) -> u64 {
+    let mut station = [0; STATION];
+    let opened = open_station(trace, &mut station);
+    assert_eq!(opened % 256, 0, "a refused header");
+    let mut rest = &trace[Edition::of(trace).length()..];
+    let mut entries = 0;
+    for answer in answers.chunks_exact_mut(ANSWER) {
+        let stepped = step_station(&mut station, rest, answer);
+        assert_eq!(stepped % 256, 0, "a refused step");
+        rest = &rest[(stepped / 256) as usize..];
+        entries += 1;
+    }
+    256 * entries
 }
 
 /// Reads a frame by the proved call.

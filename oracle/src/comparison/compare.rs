@@ -1,10 +1,11 @@
-//! Runs generated traces through the oracle and through another `replay_trace`, their headers through `other_edition` of both,
+//! Runs generated traces through the oracle and through another `replay_trace`, steps them one entry at a time by the other's
+//! station, moves their headers by `other_edition` of both,
 //! asks `trace_heard` of both for every address and both `trace_counts`, and holds the number and every byte of the buffer to
 //! each other.
 
 use super::run::{
-    counts_otherwise, first_difference, hears_otherwise, moves_otherwise, parts_from_oracle, run, Ask, Call, Calls,
-    Count, Move, Question,
+    counts_otherwise, first_difference, hears_otherwise, moves_otherwise, parts_from_oracle, run, steps_otherwise, Ask,
+    Call, Calls, Count, Move, Question,
 };
 use super::shorten::shorten;
 use super::words;
@@ -112,6 +113,12 @@ pub fn compare_traces(calls: Calls, seed: u64, count: u64) -> (String, bool) {
             let at = format!("seed {}, trace {}, entry {}", seed, index, entry);
             return (format!("traces: {}: the answers differ\n{}", at, shortest), false);
         }
+        if let Some(entry) = steps_otherwise(calls, &made) {
+            let step = calls.step_trace;
+            let shortest = describe(step, &shorten(&|trace| parts_from_oracle(step, trace).is_some(), &made));
+            let at = format!("seed {}, trace {}, entry {}", seed, index, entry);
+            return (format!("traces: {}: a station that is stepped answers otherwise\n{}", at, shortest), false);
+        }
         if let Some(found) = moves_otherwise(calls.other_edition, &made) {
             let at = format!("seed {}, trace {}", seed, index);
             return (format!("traces: {}: the header moves otherwise\n{}", at, describe_move(&found)), false);
@@ -142,6 +149,7 @@ pub fn compare_traces(calls: Calls, seed: u64, count: u64) -> (String, bool) {
     if missed.is_empty() {
         say(format!("all {} coverage points reached", points.size()));
     }
+    say(format!("each stepped one entry at a time, {} entries, 0 differ", met.entries));
     say(format!("their headers moved to the other edition and back, {} calls, 0 differ", met.moves));
     say(format!("each asked for every address that was heard or not, {} calls, 0 differ", met.asked));
     say(format!("each asked for the counts of its station's life, {} calls, 0 differ", met.counted));

@@ -1,8 +1,8 @@
 //! The calls in another process: a program that reads calls from its standard input and writes what each left to its
 //! standard output. So the proved library is compared where this machine cannot link it but can run it.
 //!
-//! A call is a byte that says which, 0 for `replay_trace`, 1 for `other_edition`, 2 for `trace_heard` and 3 for `trace_counts`, a
-//! byte that is the address asked for in `trace_heard` and 0 in the others, the lengths of the bytes that are lent and of the buffer, 8 bytes each, most
+//! A call is a byte that says which, 0 for `replay_trace`, 1 for `other_edition`, 2 for `trace_heard`, 3 for
+//! `trace_counts` and 4 for a trace that is stepped (see `steps`), a byte that is the address asked for in `trace_heard` and 0 in the others, the lengths of the bytes that are lent and of the buffer, 8 bytes each, most
 //! significant first, then these bytes and the buffer. What it left is the number, 8 bytes, a byte that is 1 if nothing but the
 //! buffer was changed, and the buffer.
 
@@ -20,6 +20,7 @@ const REPLAY_TRACE: u8 = 0;
 const OTHER_EDITION: u8 = 1;
 const TRACE_HEARD: u8 = 2;
 const TRACE_COUNTS: u8 = 3;
+const STEP_TRACE: u8 = 4;
 
 /// A program with its arguments, and the process that runs it. After a failure it is started anew, so that a trace that
 /// ends it can be made short.
@@ -53,6 +54,11 @@ impl Program {
     /// Asks the program for the counts.
     pub fn trace_counts(&self, trace: &[u8], counts: &mut [u8]) -> u64 {
         self.make([TRACE_COUNTS, 0], trace, counts)
+    }
+
+    /// Has the program step a trace one entry at a time.
+    pub fn step_trace(&self, trace: &[u8], answers: &mut [u8]) -> u64 {
+        self.make([STEP_TRACE, 0], trace, answers)
     }
 
     /// Has the program make the call. That it does not answer is a panic, which the comparison counts as a difference.
@@ -119,7 +125,7 @@ pub fn serve() -> Result<()> {
         input.read_exact(&mut lent)?;
         input.read_exact(&mut buffer)?;
         let number = match which {
-            REPLAY_TRACE => replay_trace(&lent, &mut buffer),
+            REPLAY_TRACE | STEP_TRACE => replay_trace(&lent, &mut buffer),
             OTHER_EDITION => other_edition(&lent, &mut buffer),
             TRACE_HEARD => trace_heard(&lent, address, &mut buffer),
             TRACE_COUNTS => trace_counts(&lent, &mut buffer),

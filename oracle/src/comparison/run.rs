@@ -22,6 +22,8 @@ pub struct Calls<'a> {
     pub other_edition: Call<'a>,
     pub trace_heard: Ask<'a>,
     pub trace_counts: Call<'a>,
+    /// What `replay_trace` returns and leaves, by a station that is opened and stepped one entry at a time.
+    pub step_trace: Call<'a>,
 }
 
 /// The oracle's own.
@@ -30,6 +32,7 @@ pub const ORACLE: Calls = Calls {
     other_edition: &other_edition,
     trace_heard: &trace_heard,
     trace_counts: &trace_counts,
+    step_trace: &replay_trace,
 };
 
 /// What a call left: the number it returned, `None` if it panicked, and the whole buffer.
@@ -79,6 +82,11 @@ pub fn first_difference(expected: &Left, got: &Left) -> Option<usize> {
 /// The entry at which a call parts from the oracle on this trace, if it does.
 pub fn parts_from_oracle(replay: Call, trace: &Trace) -> Option<usize> {
     first_difference(&run(&replay_trace, trace), &run(replay, trace))
+}
+
+/// The entry at which a trace that is stepped parts from the same calls' replay of it, if it does.
+pub fn steps_otherwise(calls: Calls, trace: &Trace) -> Option<usize> {
+    first_difference(&run(calls.replay_trace, trace), &run(calls.step_trace, trace))
 }
 
 /// A move of a header to the other edition on which a call parts from the oracle.

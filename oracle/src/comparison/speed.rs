@@ -1,4 +1,4 @@
-//! Entries per second of two calls on one long ordinary trace, in one process.
+//! Entries per second of several calls on one long ordinary trace, in one process.
 
 use super::run::Call;
 use crate::editions::Edition;
@@ -48,46 +48,57 @@ pub fn middle_and_spread(runs: &[f64]) -> (f64, f64) {
     (middle, spread)
 }
 
-/// Runs both calls in turn and says how fast each is. `Err` if their answers differ.
-pub fn speed(names: [&str; 2], calls: [Call; 2], entries: usize) -> Result<String, String> {
+/// A call with its name.
+pub type Named<'a> = (&'a str, Call<'a>);
+
+/// Runs the calls in turn and says how fast each is, the last beside each of the others. `Err` if their answers differ.
+pub fn speed(calls: &[Named], entries: usize) -> Result<String, String> {
     let (trace, _) = ordinary_trace(entries);
-    let mut runs = [Vec::new(), Vec::new()];
+    let mut runs = vec![Vec::new(); calls.len()];
     for _ in 0..RUNS {
-        let (first, number, answers) = once(calls[0], &trace, entries);
-        let (second, other_number, other_answers) = once(calls[1], &trace, entries);
-        if (number, answers) != (other_number, other_answers) {
-            return Err("speed: the two calls answer the ordinary trace differently".to_string());
+        let mut before = None;
+        for ((_, call), runs) in calls.iter().zip(&mut runs) {
+            let (run, number, answers) = once(call, &trace, entries);
+            if before.get_or_insert_with(|| (number, answers.clone())) != &(number, answers) {
+                return Err("speed: the calls answer the ordinary trace differently".to_string());
+            }
+            runs.push(run);
         }
-        runs[0].push(first);
-        runs[1].push(second);
     }
     let mut said =
         format!("speed: {} entries of one ordinary trace, {} runs each in turn, one process\n", entries, RUNS);
     let mut middles = Vec::new();
-    for (name, runs) in names.iter().zip(&runs) {
+    for ((name, _), runs) in calls.iter().zip(&runs) {
         let (middle, spread) = middle_and_spread(runs);
         let listed: Vec<String> = runs.iter().map(|run| format!("{:.0}", run)).collect();
         said.push_str(&format!(
-            "speed: {}: {} entries/s, middle {:.0}, spread {:.1} %\n",
+            "speed: {}: {} entries/s, middle {:.0} ({:.0} ns an entry), spread {:.1} %\n",
             name,
             listed.join(", "),
             middle,
+            1e9 / middle,
             spread
         ));
         middles.push(middle);
     }
-    said.push_str(&format!("speed: {} : {} = {:.2}\n", names[0], names[1], middles[0] / middles[1]));
+    if let (Some(((last, _), others)), Some(slowest)) = (calls.split_last(), middles.last()) {
+        for ((name, _), middle) in others.iter().zip(&middles) {
+            said.push_str(&format!("speed: {} : {} = {:.2}\n", name, last, middle / slowest));
+        }
+    }
     let alone: Vec<f64> = (0..RUNS).map(|_| station_alone(&trace)).collect();
     let (middle, spread) = middle_and_spread(&alone);
     said.push_str(&format!(
-        "speed: the oracle's station alone, records read before, answers not written: middle {:.0} entries/s, spread {:.1} %\n",
-        middle, spread
+        "speed: the oracle's station alone, records read before, answers not written: middle {:.0} entries/s ({:.0} ns an entry), spread {:.1} %\n",
+        middle,
+        1e9 / middle,
+        spread
     ));
     Ok(said)
 }
 
 /// The whole program: `ENTRIES`, at least a million by default. Gives its exit status.
-pub fn main(names: [&str; 2], calls: [Call; 2], words: &[String]) -> i32 {
+pub fn main(calls: &[Named], words: &[String]) -> i32 {
     let entries = match words {
         [] => Some(2_000_000),
         [word] => word.parse().ok().filter(|entries| *entries > 0),
@@ -100,7 +111,7 @@ pub fn main(names: [&str; 2], calls: [Call; 2], words: &[String]) -> i32 {
             return 2;
         }
     };
-    match speed(names, calls, entries) {
+    match speed(calls, entries) {
         Ok(said) => {
             print!("{}", said);
             0
@@ -126,7 +137,11 @@ mod tests {
     #[test]
     fn calls_that_differ_are_not_timed() {
         let wrong = |trace: &[u8], answers: &mut [u8]| replay_trace(trace, answers) + 1;
-        assert!(speed(["a", "b"], [&replay_trace, &replay_trace], 100).is_ok());
-        assert!(speed(["a", "b"], [&replay_trace, &wrong], 100).is_err());
+        assert!(speed(&[("a", &replay_trace), ("b", &replay_trace)], 100).is_ok());
+        for place in 0..3 {
+            let mut calls: [Named; 3] = [("a", &replay_trace), ("b", &replay_trace), ("c", &replay_trace)];
+            calls[place].1 = &wrong;
+            assert!(speed(&calls, 100).is_err(), "{}", place);
+        }
     }
 }

@@ -1,7 +1,8 @@
 //! Document 02, P7: who was heard, and when. The call is there where the static library is linked (see [`crate::replay`]).
 
+use crate::answer::Answer;
 use crate::bits::{Reader, Writer};
-use crate::record::StationType;
+use crate::record::{Poll, StationType, Telegram};
 use crate::run::{NotARun, Run};
 
 /// The length of an address's entry in bytes.
@@ -64,6 +65,72 @@ impl Heard {
         let mut bytes = word.bytes(HEARD_LENGTH - 1);
         bytes.push(self.station_type.map_or(0, |kind| u8::from(kind) + 1));
         bytes.try_into().expect("17 bytes")
+    }
+}
+
+/// Who was heard, poll by poll: a table for a host that steps a station or replays a trace itself. It is plain Rust and not
+/// proved; the tests hold it to the proved call.
+///
+/// ```
+/// use amsulfezd::answer::Answer;
+/// use amsulfezd::heard::Table;
+/// use amsulfezd::record::{Poll, Telegram};
+///
+/// let mut table = Table::default();
+/// let poll = Poll::at(1_000).telegram(Telegram::token(9, 12));
+/// table.hear(&poll, &Answer::try_from(0x0310_0000_0100_0024)?); // one telegram consumed
+/// let nine = table.of(9).expect("9 was heard");
+/// assert_eq!((nine.times, nine.first, nine.last), (1, 1_000, 1_000));
+/// assert_eq!(table.of(12), None);
+/// # Ok::<(), amsulfezd::answer::NotAnAnswer>(())
+/// ```
+#[derive(Debug, Clone, PartialEq, Eq)]
+pub struct Table {
+    entries: [Option<Heard>; LAST_ADDRESS as usize + 1],
+}
+
+impl Default for Table {
+    /// Nobody was heard.
+    fn default() -> Table {
+        Table {
+            entries: [None; LAST_ADDRESS as usize + 1],
+        }
+    }
+}
+
+impl Table {
+    /// Takes note of a poll and of what it was answered with: the telegrams that it consumed are heard.
+    pub fn hear(&mut self, poll: &Poll, answer: &Answer) {
+        for telegram in poll.telegrams.iter().take(usize::from(answer.consumed)) {
+            let (source, station_type) = match *telegram {
+                Telegram::ShortConfirmation => continue,
+                Telegram::Token { source, .. } | Telegram::Request { source, .. } => (source, None),
+                Telegram::Response {
+                    source,
+                    station_type,
+                    ..
+                } => (source, Some(station_type)),
+            };
+            if let Some(entry) = self.entries.get_mut(usize::from(source)) {
+                let before = entry.unwrap_or(Heard {
+                    times: 0,
+                    first: poll.clock,
+                    last: poll.clock,
+                    station_type: None,
+                });
+                *entry = Some(Heard {
+                    times: before.times.saturating_add(1),
+                    last: poll.clock,
+                    station_type: station_type.or(before.station_type),
+                    ..before
+                });
+            }
+        }
+    }
+
+    /// When this address was heard; none if never, or above 125.
+    pub fn of(&self, address: u8) -> Option<Heard> {
+        self.entries.get(usize::from(address)).copied().flatten()
     }
 }
 

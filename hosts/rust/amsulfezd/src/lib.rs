@@ -12,6 +12,8 @@
 //! | `replay` | the calls on traces, safe; only where the static library is linked |
 //! | [`frame`] | the bytes of frames; reading and writing them, safe, only where the static library is linked |
 //! | `settings` | settings in a header's bytes, safe; only where the static library is linked |
+//! | `station` | a station in bytes, stepped one entry at a time, safe; only where the static library is linked |
+//! | `fdl` | a live station with the shape of profirust's: `poll(now, phy, app)`; only where the static library is linked |
 //! | [`capture`] | a bus monitor's text; importing and exporting it, safe, only where the static library is linked |
 //! | [`simulation`] | a setup of several stations, as bytes and as text; simulating it, safe, only where the static library is linked |
 //! | [`number`] | the error of a number that the documents do not have |
@@ -52,6 +54,8 @@ pub mod answer;
 mod bits;
 pub mod capture;
 pub mod counts;
+#[cfg(linked)]
+pub mod fdl;
 pub mod frame;
 pub mod heard;
 pub mod number;
@@ -63,5 +67,7 @@ pub mod run;
 #[cfg(linked)]
 pub mod settings;
 pub mod simulation;
+#[cfg(linked)]
+pub mod station;
 pub mod trace;
 pub mod words;

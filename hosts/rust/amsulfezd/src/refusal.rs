@@ -3,7 +3,7 @@
 use crate::number::{with_number, UnknownNumber};
 use std::fmt;
 
-/// Why a call, a header, an entry, a trace, a frame, a capture's line or a setup was refused.
+/// Why a call, a header, an entry, a trace, a frame, a capture's line, a setup or a station's bytes were refused.
 #[derive(Debug, Clone, Copy, PartialEq, Eq, Hash)]
 #[repr(u8)]
 #[non_exhaustive]
@@ -44,6 +44,7 @@ pub enum Refusal {
     CaptureCount = 33,
     FunctionCode = 34,
     Ticks = 35,
+    Station = 36,
 }
 
 /// Every refusal, in the order of their numbers.
@@ -83,6 +84,7 @@ pub const ALL: &[Refusal] = &[
     Refusal::CaptureCount,
     Refusal::FunctionCode,
     Refusal::Ticks,
+    Refusal::Station,
 ];
 
 impl Refusal {
@@ -139,6 +141,7 @@ impl Refusal {
                 "top bit of the function code set; to be written, any other request"
             }
             Refusal::Ticks => "more than 1,000,000 ticks",
+            Refusal::Station => "no station",
         }
     }
 
@@ -154,7 +157,9 @@ impl Refusal {
 
     /// Whether a trace that is replayed, or one of its entries, can be refused so.
     pub fn is_of_replays(self) -> bool {
-        !self.is_of_frames() && !self.is_of_setups() && self != Refusal::AskedAddress
+        !self.is_of_frames()
+            && !self.is_of_setups()
+            && !matches!(self, Refusal::AskedAddress | Refusal::Station)
     }
 
     /// What the documents ask for instead, where the words alone do not say it.
@@ -203,3 +208,5 @@ impl fmt::Display for Refusal {
         write!(f, "{} ({})", self.number(), self.words())
     }
 }
+
+impl std::error::Error for Refusal {}

@@ -274,17 +274,17 @@ impl TraceBuilder {
 
     /// The station was put online.
     pub fn online(&mut self) {
-        self.bytes.push(0);
+        self.bytes.push(ONLINE);
     }
 
     /// The station was taken offline.
     pub fn offline(&mut self) {
-        self.bytes.push(1);
+        self.bytes.push(OFFLINE);
     }
 
     /// The station was told to be passive.
     pub fn passive(&mut self) {
-        self.bytes.push(2);
+        self.bytes.push(PASSIVE);
     }
 
     /// The station was polled.
@@ -294,11 +294,7 @@ impl TraceBuilder {
 
     /// A poll record given by its bytes, good or bad: 3 to 255 of them.
     pub fn record(&mut self, record: &[u8]) -> Result<(), Unfit> {
-        if record.len() < 3 || 255 < record.len() {
-            return Err(Unfit("a record of fewer than 3 or more than 255 bytes"));
-        }
-        self.bytes.push(record.len() as u8);
-        self.bytes.extend_from_slice(record);
+        self.bytes.extend(entry_of_record(record)?);
         Ok(())
     }
 
@@ -306,6 +302,24 @@ impl TraceBuilder {
     pub fn into_bytes(self) -> Vec<u8> {
         self.bytes
     }
+}
+
+/// The first byte of a command: the station is put online, taken offline, told to be passive.
+pub const ONLINE: u8 = 0;
+pub const OFFLINE: u8 = 1;
+pub const PASSIVE: u8 = 2;
+
+/// The entry of a poll, for a station with this many applications: a byte with the record's length, and the record.
+pub fn entry_of(poll: &Poll, applications: usize) -> Result<Vec<u8>, Unfit> {
+    entry_of_record(&poll.to_bytes(applications)?)
+}
+
+/// The entry of a poll record given by its bytes.
+fn entry_of_record(record: &[u8]) -> Result<Vec<u8>, Unfit> {
+    if record.len() < 3 || 255 < record.len() {
+        return Err(Unfit("a record of fewer than 3 or more than 255 bytes"));
+    }
+    Ok([&[record.len() as u8], record].concat())
 }
 
 /// An entry of a trace.
@@ -340,7 +354,11 @@ impl<'a> Iterator for Entries<'a> {
 
     fn next(&mut self) -> Option<Entry<'a>> {
         let (&first, after) = self.rest.split_first()?;
-        let length = if first < 3 { 0 } else { usize::from(first) };
+        let length = if first <= PASSIVE {
+            0
+        } else {
+            usize::from(first)
+        };
         if after.len() < length {
             self.rest = &[];
             return Some(Entry::Cut(after));
@@ -348,9 +366,9 @@ impl<'a> Iterator for Entries<'a> {
         let (record, rest) = after.split_at(length);
         self.rest = rest;
         Some(match first {
-            0 => Entry::Online,
-            1 => Entry::Offline,
-            2 => Entry::Passive,
+            ONLINE => Entry::Online,
+            OFFLINE => Entry::Offline,
+            PASSIVE => Entry::Passive,
             _ => Entry::Poll(record),
         })
     }

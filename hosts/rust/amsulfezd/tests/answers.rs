@@ -204,7 +204,7 @@ fn states_outcomes_and_types_have_document_01s_numbers() {
 #[test]
 fn refusals_have_the_documents_numbers() {
     let numbers: Vec<u8> = ALL.iter().map(|refusal| refusal.number()).collect();
-    assert_eq!(numbers, (1..=35).collect::<Vec<u8>>());
+    assert_eq!(numbers, (1..=36).collect::<Vec<u8>>());
     for &refusal in ALL {
         assert_eq!(Refusal::try_from(refusal.number()), Ok(refusal));
         assert_eq!(u8::from(refusal), refusal.number());
@@ -250,8 +250,9 @@ fn refusals_have_the_documents_numbers() {
         .collect();
     assert_eq!(
         elsewhere,
-        [19, 20, 21, 22, 23, 24, 26, 27, 28, 29, 30, 31, 32, 33, 34, 35]
+        [19, 20, 21, 22, 23, 24, 26, 27, 28, 29, 30, 31, 32, 33, 34, 35, 36]
     );
+    assert_eq!(Refusal::Station.to_string(), "36 (no station)");
     assert_eq!(
         Refusal::AskedAddress.to_string(),
         "26 (who was heard: an address above 125)"

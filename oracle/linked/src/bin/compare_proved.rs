@@ -14,6 +14,7 @@ const PROVED: Calls = Calls {
     other_edition: &linked::other_edition,
     trace_heard: &linked::trace_heard,
     trace_counts: &linked::trace_counts,
+    step_trace: &linked::step_trace,
 };
 
 /// Traces of 2^32 bytes and one more, with good headers of both editions and a bad one and room for two answers: the longer

@@ -1,0 +1,3 @@
+-- Definitions first, then what the proofs use.
+pub mod Live
+pub mod Laws

@@ -1,0 +1,3 @@
+-- Definitions first, then what the proofs use, then the round trip.
+pub mod Bytes
+pub mod Laws

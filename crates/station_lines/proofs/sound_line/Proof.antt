@@ -1,0 +1,19 @@
+use borrow.Author.Tests.{le-leb, le-ltb, lt-leb, lt-ltb}
+use borrow.Author.Needs.{needs}
+use Rattle.station_lines.specs.Lines.{soundLine}
+use Rattle.station_lines.proofs.sound_line.Statement.{statement}
+use Rattle.station_lines.proofs.sound_line.Tie as tie
+
+pub sound-line-spec : {M : Type 1} → statement M
+unfolding soundLine
+sound-line-spec =
+    tie.close
+    (tie.spec
+    (λ c κs. search needs)
+    (λ c κs. search needs)
+    (λ c κs. search needs)
+    (λ c κs. search needs)
+    (λ c. simp (le-leb _ _ (c .before .before .before .before .before .before .if1 .taken), le-ltb _ _ (c .before .before .before .before .before .before .if1 .taken), ← c .before .before .before .before .before .offline-line .ensures, c .before .before .before .before .if2 .taken, ← c .before .before .before .activity-known .ensures, ← c .before .before .state-line .ensures, c .before .if3 .taken, ← c .core-line .ensures))
+    (λ c. simp (le-leb _ _ (c .before .before .before .before .before .if1 .taken), le-ltb _ _ (c .before .before .before .before .before .if1 .taken), ← c .before .before .before .before .offline-line .ensures, c .before .before .before .if2 .taken, ← c .before .before .activity-known .ensures, ← c .before .state-line .ensures, c .if3 .left))
+    (λ c. simp (le-leb _ _ (c .before .before .if1 .taken), le-ltb _ _ (c .before .before .if1 .taken), ← c .before .offline-line .ensures, c .if2 .left))
+    (λ c. simp (lt-ltb _ _ (c .if1 .left), lt-leb _ _ (c .if1 .left))))

@@ -1,0 +1,3 @@
+-- Definitions first, then what a proof uses.
+pub mod Lines
+pub mod Laws
