@@ -77,7 +77,7 @@ find_runner
 need_c_compiler
 choose_jobs
 log=$(mktemp) || fail "no temporary file could be made"
-trap 'rm -f "$log" "$log.beside"; jobs -p | xargs -r kill 2>/dev/null' EXIT
+trap 'rm -f "$log" "$log.beside"; jobs -pr | xargs -r kill 2>/dev/null || true' EXIT
 
 part "the formatter's layout (rt fmt)" rt fmt --check
 part "the shell scripts (shellcheck)" shellcheck --external-sources .ci/run scripts/*.sh
