@@ -34,7 +34,6 @@ use Rattle.station_bytes.specs.Bytes.{Read, Taken, readOf, wordList, allBytes, 
 use Rattle.station_bytes.specs.Laws.{all-length, set-length}
 use Rattle.live.specs.Live.{Stepped, Answers, stepFound, stepOn, stepOf, stepNumber, stepInto, stepAnswer}
 use Rattle.live.specs.Laws.{found-answered}
-use Rattle.theorem_sound.specs.Kept.{moves-pending}
 use Rattle.theorem_sound.specs.Keeps.{either}
 use Rattle.theorem_sound.specs.Sound.{SoundStation, Call, poll, online, offline, passive, call-made, call-sound, after}
 use Rattle.theorem_every_trace.specs.Statement.{Entry, Whole, along}
@@ -121,7 +120,6 @@ call-kept s c k =
           ∙ k .given
           ∙ ap created.Accepted (sym (m .settings-stay));
       settings-fit = subst (λ (q : Parameters). PlainFits (plainOf q)) (sym (m .settings-stay)) (k .settings-fit);
-      pending-fits = moves-pending (m .moves) (k .pending-fits);
       counts-fit = call-counts s c (k .counts-fit);
     }
 
