@@ -106,13 +106,14 @@ test_stack() {
     ! "${emulator[@]}" "$built/stack-faulty" "$at_random" >/dev/null 2>&1 || fail "a call that takes more stack is not found"
 }
 
-# The calls on a station, on every stored trace, and on bytes made at random.
+# The calls on a station and those beside it, on every stored trace, and on bytes made at random.
 test_stations() {
     local traces
     [[ "$stations" =~ ^[1-9][0-9]{0,8}$ ]] || fail "STATIONS is a whole number above 0 of at most 9 digits, not '$stations'"
     mapfile -t traces < <(find traces/ hosts/rust -name '*.trace' | sort)
     test_words=("${traces[@]}")
     test_c test_station faulty_station open_station step_station
+    test_c test_beside faulty_beside station_counts table_heard step_heard
     test_words=("$stations" "${traces[@]}")
     test_c random_station faulty_random step_station
     test_words=()
