@@ -29,10 +29,10 @@ use Rattle.theorem_from_header.specs.FromHeader.{from-header}
 use Rattle.theorem_heard.specs.Statement.{consumedBy}
 use Rattle.theorem_heard.specs.Theorem.{parts, parts-bytes, parts-stop, heard-is}
 use Rattle.theorem_live.specs.Back.{Kept}
-use Rattle.theorem_live.specs.Stepped.{entryBytes, then, stepped-along}
+use Rattle.theorem_live.specs.Stepped.{entryBytes, then, kept-back, step-is, entry-kept, stepped-along}
 use Rattle.theorem_live.specs.Opened.{opened-kept, started-opens, trace-stepped}
 use Rattle.theorem_live_beside.specs.Statement.{Lent, lentAfter, lentAlong, opened, TraceBeside}
-use Rattle.theorem_live_beside.specs.Kept.{then-kept, then-applications, along-kept, kept-back, kept-steps}
+use Rattle.theorem_live_beside.specs.Kept.{then-applications, along-kept}
 use Rattle.theorem_live_beside.specs.Beside.{lent-long, lent-step, same-along}
 
 -- A table along entries.
@@ -69,9 +69,9 @@ table-along n s (e ∷ es) table k same w long =
     let step = lent-step l e long in
     let still = then-applications s e k ∙ same in
     let left : lentAfter l e .station ≡ stationBytes (then s e) = ap (λ (x : Stepped). stepInto x (stationBytes s)) step ∙ stepped-along s (e ∷ []) k (w .0, tt) .0 in
-    let fed : lentAfter l e .table ≡ hearAll table heard = ap (λ (x : Stepped). stepTable x (entryBytes e) table) (step ∙ kept-steps s e k (w .0)) ∙ fed-by n s e table still (w .0) in
+    let fed : lentAfter l e .table ≡ hearAll table heard = ap (λ (x : Stepped). stepTable x (entryBytes e) table) (step ∙ step-is s e k (w .0)) ∙ fed-by n s e table still (w .0) in
     ap (λ (b : List ℕ). lentAlong (record { station = b; table = lentAfter l e .table }) es .table) left
-    ∙ table-along n (then s e) es (lentAfter l e .table) (then-kept s e k) still (w .1) (lent-long l e long)
+    ∙ table-along n (then s e) es (lentAfter l e .table) (entry-kept s e k) still (w .1) (lent-long l e long)
     ∙ ap (λ (t : List ℕ). hearAll t more) fed
     ∙ sym (hear-append table heard more)
 
