@@ -38,7 +38,7 @@ build_early() {
     nice -n 19 bash scripts/build_early.sh >/dev/null 2>&1 || true
 }
 
-# Sets RT_JOBS, how many crates or edits rt checks at a time. A check takes up to 1.9 GB, and 0.6 GB of what it removes at its end.
+# Sets RT_JOBS, how many crates or edits rt checks at a time. A check takes up to 1.9 GB, and 0.6 GB of files that it removes at its end.
 # Crates of one level are proved side by side, and the next level waits for all of them; edits go in batches, and the next batch
 # waits too: with nine at a time two cores wait less.
 choose_jobs() {
@@ -56,25 +56,11 @@ choose_jobs() {
     echo "$me: $RT_JOBS crates at a time, by ${free:-0} MiB of memory that are free; RT_JOBS=n says otherwise"
 }
 
-# Sets `scratch`, where a check keeps what it removes at its end: a file for each module of the crates below its own, up to some
-# thousands. On a disk it waits for them; so they are kept in memory where there are 4 GB for it from which programs can be run.
-choose_scratch() {
-    local free
-    scratch=${TMPDIR:-/tmp}
-    [ -z "${TMPDIR:-}" ] || return 0
-    free=$(df --output=avail -k /dev/shm 2>/dev/null | tail -n 1) || return 0
-    [ "${free:-0}" -ge 4000000 ] 2>/dev/null || return 0
-    shm=$(mktemp -d /dev/shm/amsulfezd.XXXXXX 2>/dev/null) || return 0
-    { chmod 711 "$shm" && cp "$(command -v true)" "$shm/true" && "$shm/true"; } 2>/dev/null || return 0
-    rm "$shm/true"
-    scratch=$shm
-}
-
 # Runs rt ci. All that it prints goes on at once but for its last line, which is kept back in `verdict`.
 prove() {
     rm -rf target || fail "target/ could not be removed"
     build_early &
-    TMPDIR=$scratch rt ci 2>&1 | tee "$log" | awk 'NR > 1 { print line; fflush() } { line = $0 }' ||
+    rt ci 2>&1 | tee "$log" | awk 'NR > 1 { print line; fflush() } { line = $0 }' ||
         fail "rt ci ended with status ${PIPESTATUS[0]}: $(tail -n 1 "$log")"
     verdict=$(tail -n 1 "$log")
     [[ "$verdict" =~ ^[1-9][0-9]*\ passed,\ 0\ failed$ ]] || fail "rt ci's last line is not a verdict: $verdict"
@@ -90,10 +76,8 @@ need tshark tshark
 find_runner
 need_c_compiler
 choose_jobs
-shm=
 log=$(mktemp) || fail "no temporary file could be made"
-trap 'rm -f "$log" "$log.beside"; [ -z "$shm" ] || rm -rf "$shm"; jobs -pr | xargs -r kill 2>/dev/null || true' EXIT
-choose_scratch
+trap 'rm -f "$log" "$log.beside"; jobs -pr | xargs -r kill 2>/dev/null || true' EXIT
 
 part "the formatter's layout (rt fmt)" rt fmt --check
 part "the shell scripts (shellcheck)" shellcheck --external-sources .ci/run scripts/*.sh
