@@ -233,8 +233,9 @@ lacking_crates() {
 }
 
 # desk_cargo WORD..: cargo on the service desk, with the proved library linked and Debian's crates in the place of any from a network.
+# Its tests run the program, on another machine than x86-64 by the emulator.
 desk_cargo() {
-    env "${linked_words[@]}" AMSULFEZD_STATICLIB_DIR="$PWD/target/staticlib" CARGO_TARGET_DIR=target/hosts-linked \
+    env "${linked_words[@]}" AMSULFEZD_EMULATOR="${emulator[*]}" AMSULFEZD_STATICLIB_DIR="$PWD/target/staticlib" CARGO_TARGET_DIR=target/hosts-linked \
         "$linked_with" "$@" --release --offline --quiet --manifest-path hosts/rust/desk/Cargo.toml \
         --config 'source.crates-io.replace-with="debian"' --config "source.debian.directory=\"$registry\""
 }
@@ -247,10 +248,11 @@ need_desk() {
     build_staticlib
 }
 
-# Builds the service desk's program, where that is not done yet of the sources as they are, and sets `desk` to how it is run.
+# Builds the service desk's program, where that is not done yet of the sources as they are, and sets `desk` to how it is run. A script
+# that calls other scripts exports DESK_BUILT=yes after it, so that they do not ask again.
 build_desk() {
     need_desk
-    desk_cargo build || fail "the service desk's program does not build"
+    [ "${DESK_BUILT:-}" = yes ] || desk_cargo build || fail "the service desk's program does not build"
     desk=("${emulator[@]}" "$PWD/$linked/amsulfezd")
 }
 

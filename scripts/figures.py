@@ -46,15 +46,20 @@ def is_law(path, has_code):
     name = os.path.basename(path)
     if not has_code:
         return name not in CLAIMS
+    if path.endswith("station_numbers/specs/Numbers.antt"):
+        return False
     return name.endswith("Laws.antt") or path.endswith("codec_slices/specs/Parts.antt") or name in (
         "Alike.antt",
         "Arrives.antt",
+        "Back.antt",
         "Built.antt",
+        "Calls.antt",
         "Cycle.antt",
         "Distances.antt",
         "Examples.antt",
         "Finish.antt",
         "Finished.antt",
+        "Linked.antt",
         "Loops.antt",
         "Made.antt",
         "Moves.antt",
@@ -70,11 +75,13 @@ def is_law(path, has_code):
         "Starts.antt",
         "Stores.antt",
         "Tables.antt",
+        "Taken.antt",
         "Ticks.antt",
         "Traces.antt",
         "Turns.antt",
         "Waits.antt",
         "Ways.antt",
+        "Weights.antt",
         "Widths.antt",
         "Worked.antt",
         "Written.antt",

@@ -106,13 +106,14 @@ test_stack() {
     ! "${emulator[@]}" "$built/stack-faulty" "$at_random" >/dev/null 2>&1 || fail "a call that takes more stack is not found"
 }
 
-# The calls on a station, on every stored trace, and on bytes made at random.
+# The calls on a station and those beside it, on every stored trace, and on bytes made at random.
 test_stations() {
     local traces
     [[ "$stations" =~ ^[1-9][0-9]{0,8}$ ]] || fail "STATIONS is a whole number above 0 of at most 9 digits, not '$stations'"
     mapfile -t traces < <(find traces/ hosts/rust -name '*.trace' | sort)
     test_words=("${traces[@]}")
     test_c test_station faulty_station open_station step_station
+    test_c test_beside faulty_beside station_counts table_heard step_heard
     test_words=("$stations" "${traces[@]}")
     test_c random_station faulty_random step_station
     test_words=()
@@ -216,6 +217,7 @@ test_desk() {
         return 0
     fi
     build_desk
+    export DESK_BUILT=yes
     test_rust "the service desk" desk_cargo test
     test_terminal
     desk_answers
@@ -228,10 +230,11 @@ test_desk() {
 # What the service desk does for a person at a terminal, and for nobody else: a bar on standard error after a second; no waiting for
 # words that are not typed; no bytes that are no text on the screen.
 test_terminal() {
-    local folder=target/hosts/terminal said
+    local folder=target/hosts/terminal entries=300000 said
+    [ "$machine" = x86_64 ] || entries=30000 # under an emulator that takes more than a second too
     { rm -rf "$folder" && mkdir -p "$folder"; } || fail "$folder could not be made"
     need script bsdutils
-    python3 scripts/browser.py --repeat traces/night.trace "$folder/long.trace" 300000 || fail "no long trace is made"
+    python3 scripts/browser.py --repeat traces/night.trace "$folder/long.trace" "$entries" || fail "no long trace is made"
     said=$("${desk[@]}" heard "$folder/long.trace" -o "$folder/heard" 2>&1) || fail "amsulfezd heard fails"
     [ -z "$said" ] || fail "a bar where standard error is no terminal: $said"
     said=$(at_terminal heard "$folder/long.trace" -o "$folder/again") || fail "amsulfezd heard fails at a terminal"

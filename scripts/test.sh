@@ -38,9 +38,9 @@ build_early() {
     nice -n 19 bash scripts/build_early.sh >/dev/null 2>&1 || true
 }
 
-# Sets RT_JOBS, how many crates or edits rt checks at a time. A check takes up to 1.9 GB. Crates of one level are proved side by
-# side, and the next level waits for all of them; edits go in batches, and the next batch waits too: with eleven at a time two cores
-# wait less.
+# Sets RT_JOBS, how many crates or edits rt checks at a time. A check takes up to 1.9 GB, and 0.6 GB of files that it removes at its end.
+# Crates of one level are proved side by side, and the next level waits for all of them; edits go in batches, and the next batch
+# waits too: with nine at a time two cores wait less.
 choose_jobs() {
     local free
     if [ -n "${RT_JOBS:-}" ]; then
@@ -49,9 +49,9 @@ choose_jobs() {
         return
     fi
     free=$(awk '/^MemAvailable:/ { print int($2 / 1024) }' /proc/meminfo 2>/dev/null) || free=0
-    RT_JOBS=$((${free:-0} / 2000))
+    RT_JOBS=$((${free:-0} / 2500))
     [ "$RT_JOBS" -ge 1 ] || RT_JOBS=1
-    [ "$RT_JOBS" -le 11 ] || RT_JOBS=11
+    [ "$RT_JOBS" -le 9 ] || RT_JOBS=9
     export RT_JOBS
     echo "$me: $RT_JOBS crates at a time, by ${free:-0} MiB of memory that are free; RT_JOBS=n says otherwise"
 }

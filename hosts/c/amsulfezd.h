@@ -10,7 +10,9 @@
  * amsulfezd_export_capture text of entries. amsulfezd_simulate runs several stations on one simulated bus,
  * amsulfezd_simulated_trace gives the trace of one of them. amsulfezd_new_settings makes a header with the defaults, amsulfezd_set_.. sets
  * one setting of it, amsulfezd_finish_settings checks it as a whole. amsulfezd_open_station makes a station in the caller's
- * memory, amsulfezd_step_station takes it one entry further: a program that is on the bus itself. In this file, in this order:
+ * memory, amsulfezd_step_station takes it one entry further: a program that is on the bus itself. amsulfezd_step_heard does the
+ * same and keeps beside the station who was heard, of whom amsulfezd_table_heard tells; amsulfezd_station_counts says how often
+ * that station claimed the token, removed a neighbour and met its own address. In this file, in this order:
  *
  *   the numbers in traces and answers      enum amsulfezd_..
  *   the calls on traces                    amsulfezd_replay_trace, amsulfezd_entries, amsulfezd_ending;
@@ -22,12 +24,11 @@
  *   the calls on a simulated bus           amsulfezd_simulate, amsulfezd_simulated_trace, amsulfezd_ticks
  *   the calls on settings                  amsulfezd_new_settings, amsulfezd_set_.., amsulfezd_finish_settings
  *   the calls on a station                 amsulfezd_open_station, amsulfezd_step_station, amsulfezd_stepped;
- *                                          amsulfezd_station_counts
+ *                                          amsulfezd_step_heard, amsulfezd_table_heard; amsulfezd_station_counts
  *   readers of an answer                   amsulfezd_answer, amsulfezd_answer_..; amsulfezd_state_name,
  *                                          amsulfezd_refusal_words
  *   writers of a trace                     amsulfezd_write_header, amsulfezd_write_header_2, amsulfezd_write_command,
  *                                          amsulfezd_write_poll
- *   who was heard, poll by poll            amsulfezd_hear
  *
  * example.c replays a trace; logger.c is on a bus, with settings, a station, frames, counts and who was heard. The field widths are document 01's, "Station"
  * and "Trace", and document 02's, P6, P7 and P9; a frame's bytes are document 02's, P1, a setup's P12, a capture's text P13.
@@ -44,11 +45,12 @@
  *
  * Stack. A call uses at most AMSULFEZD_STACK_BYTES of the caller's stack, its return address included, whatever the
  * trace's length; the two calls on a simulated bus, which keep eight stations there, at most AMSULFEZD_SIMULATION_STACK_BYTES.
- * Measured: 15,272 and 18,456 bytes for these two, else 5,304 bytes (amsulfezd_trace_heard, which keeps its table there), with the library of the
+ * Measured: 15,272 and 18,456 bytes for these two, else 5,208 bytes (amsulfezd_trace_heard, which keeps its table there), with the library of the
  * toolchain rattle-kit-5b. The method: the call runs on a stack of its own that was filled with a pattern, and the deepest
  * byte that changed is looked for, over all traces of traces/, one of 100,000 entries and 1,000 traces made at random,
  * which reach every state and every kind of send; each is replayed, asked for an address that was heard and for its
- * counts, its header moved to the other edition, its entries exported and its station stepped; over a frame of each start byte and a word of
+ * counts, its header moved to the other edition, its entries exported and its station stepped, without a table and with one, which
+ * is asked for an address, and asked for its counts; over a frame of each start byte and a word of
  * each kind; over the captures of traces/; over each call on settings; and over two setups of eight stations. hosts/c/stack.c does
  * this and is part of the tests, so that a library that uses more is found. The library's code has no recursion, takes no stack by a computed length
  * and calls nothing outside itself.
@@ -77,17 +79,20 @@ extern "C" {
 /* The first byte of a header of edition 2. Any other begins a header of edition 1, where it is the address. */
 #define AMSULFEZD_EDITION_2 0x82
 
-/* The length of what amsulfezd_trace_heard writes, in bytes, and the last address that it is asked for. */
+/* The length of what amsulfezd_trace_heard and amsulfezd_table_heard write, in bytes, and the last address that they are asked for. */
 #define AMSULFEZD_HEARD_LENGTH 17
 #define AMSULFEZD_LAST_ADDRESS 125
 
-/* The length of what amsulfezd_trace_counts writes, in bytes. */
+/* The length of what amsulfezd_trace_counts and amsulfezd_station_counts write, in bytes. */
 #define AMSULFEZD_COUNTS_LENGTH 12
 
-/* The length of a table of who was heard, in bytes: see amsulfezd_hear. */
+/* The length of a table of who was heard, in bytes: see amsulfezd_step_heard. */
 #define AMSULFEZD_HEARD_TABLE_LENGTH (AMSULFEZD_HEARD_LENGTH * (AMSULFEZD_LAST_ADDRESS + 1))
 
-/* The length of a station, in bytes, and where the 12 bytes of its counts begin: see amsulfezd_open_station. */
+/*
+ * The length of a station, in bytes, see amsulfezd_open_station, and where the 12 bytes of its counts begin, which
+ * amsulfezd_station_counts reads.
+ */
 #define AMSULFEZD_STATION_LENGTH 96
 #define AMSULFEZD_STATION_COUNTS 64
 
@@ -107,7 +112,8 @@ extern "C" {
  * 34; of a word to be written: 0, 14, 18 or 34. Of a capture's line: 0, 18 to 24, 31 to 34; of an entry to be exported: 0,
  * 12 to 15, 17 or 18. Of a call on settings: 0, the number of a refused header, 17 or 18. Of a setup: 0, 17, 18, 27 to 30, 35, or
  * the number of a station's settings (1 to 8, 10, 25). Of a station that is opened: 0, the number of a refused header, 17 or 18; of one
- * that is stepped: 0, 36, 17 or 18.
+ * that is stepped, with a table or without: 0, 36, 17 or 18; of one that is asked for its counts: 0, 36 or 18. Of a table that is asked
+ * for an address: 0, 26 or 18.
  * Number 9 is never answered here. Number 16 belongs to earlier versions,
  * which refused the command passive; stored answers of theirs may have it, and no call answers with it any more.
  */
@@ -130,7 +136,7 @@ enum amsulfezd_refusal {
     AMSULFEZD_REFUSAL_NO_BYTES = 15,        /* sending 0 bytes */
     AMSULFEZD_REFUSAL_PASSIVE = 16,         /* passive; of earlier versions, no longer answered */
     AMSULFEZD_REFUSAL_CUT = 17,             /* trace ends inside header or entry, or is above 2^32 bytes */
-    AMSULFEZD_REFUSAL_NO_ROOM = 18,         /* no 8 bytes left for an answer; no room for what is to be written */
+    AMSULFEZD_REFUSAL_NO_ROOM = 18,         /* no 8 bytes left for an answer; no room for what is to be written; a short table */
     /* Document 02's: 25 of a header, 26 of an address asked for, 27 to 30 and 35 of a simulation's setup, 31 to 33 of a capture,
        the others of a frame. */
     AMSULFEZD_REFUSAL_FRAME_CUT = 19,         /* frame empty or cut short */
@@ -404,7 +410,7 @@ static inline uint64_t amsulfezd_load(const uint8_t *bytes, unsigned count)
     return number;
 }
 
-/* What the AMSULFEZD_HEARD_LENGTH bytes say that amsulfezd_trace_heard wrote. */
+/* What the AMSULFEZD_HEARD_LENGTH bytes say that amsulfezd_trace_heard or amsulfezd_table_heard wrote. */
 static inline struct amsulfezd_heard amsulfezd_heard_of(const uint8_t *entry)
 {
     struct amsulfezd_heard heard;
@@ -416,7 +422,7 @@ static inline struct amsulfezd_heard amsulfezd_heard_of(const uint8_t *entry)
     return heard;
 }
 
-/* What the AMSULFEZD_COUNTS_LENGTH bytes say that amsulfezd_trace_counts wrote. */
+/* What the AMSULFEZD_COUNTS_LENGTH bytes say that amsulfezd_trace_counts or amsulfezd_station_counts wrote. */
 static inline struct amsulfezd_counts amsulfezd_counts_of(const uint8_t *bytes)
 {
     struct amsulfezd_counts counts;
@@ -678,21 +684,80 @@ uint64_t amsulfezd_open_station(const uint8_t *header, size_t header_len, uint8_
  */
 uint64_t amsulfezd_step_station(uint8_t *station, size_t station_len, const uint8_t *entry, size_t entry_len, uint8_t *answer,
                                 size_t answer_len);
+
+/*
+ * Takes a station one entry further, as amsulfezd_step_station does, and takes note of who was heard in a table that is the
+ * caller's: the telegrams that the poll consumed are heard, by the rules of amsulfezd_trace_heard. The station and the answer
+ * are those of a step without a table. Where a fresh station is stepped so along a trace's entries, with a table that began as
+ * zeros, the table says of each address what amsulfezd_trace_heard says of that trace.
+ *
+ * station, station_len  The station, as above.
+ * entry, entry_len      The entry, as above.
+ * answer, answer_len    Where the answer goes, as above.
+ * table, table_len      The table: AMSULFEZD_HEARD_TABLE_LENGTH bytes, AMSULFEZD_HEARD_LENGTH for each of the 126 addresses. It
+ *                       begins as zeros: nobody was heard. Ask it with amsulfezd_table_heard. It may be copied, saved and loaded
+ *                       again, as a station; going offline forgets nothing of it. Any content is taken as a table: where the last
+ *                       of an address's bytes is above 4 it is taken as 4. Bytes behind the table are not looked at.
+ *
+ * Returns the bytes of the entry, times 256, plus 0; or, refused, the number alone. Take it apart with amsulfezd_stepped and
+ * amsulfezd_number. Refused, in this order, with nothing written: 36 where the bytes are no station or too few for one; 17
+ * where the entry is empty or cut; 18 where answer_len is below 8 or table_len below AMSULFEZD_HEARD_TABLE_LENGTH: a short table
+ * is refused and not filled in part.
+ *
+ * Which bytes change: the first AMSULFEZD_STATION_LENGTH of `station`, the first 8 of `answer`, and of `table` those of the
+ * addresses that were heard, where nothing is refused. All others keep their value. A command, and an entry that is answered with
+ * 12 to 15, leave the whole table as it was.
+ *
+ * What the caller must ensure: the four point to memory that is theirs for the time of the call and do not overlap; none is
+ * NULL, not even with length 0; nobody else writes to them during the call. Several threads may step at the same time, each a
+ * station and a table of its own. The call keeps no pointer, allocates nothing, has no state and always returns.
+ */
+uint64_t amsulfezd_step_heard(uint8_t *station, size_t station_len, const uint8_t *entry, size_t entry_len, uint8_t *answer,
+                              size_t answer_len, uint8_t *table, size_t table_len);
+
+/*
+ * Writes what a table says of one address: when it was heard, as amsulfezd_trace_heard writes it.
+ *
+ * table, table_len  The table: what amsulfezd_step_heard left, or zeros. It is read only. Any content and any length are allowed:
+ *                   an address whose AMSULFEZD_HEARD_LENGTH bytes are not all in it, or whose times are 0, was never heard, and
+ *                   a last byte above 4 is taken as 4.
+ * address           The address that is asked for, 0..125.
+ * entry, entry_len  Where AMSULFEZD_HEARD_LENGTH bytes go, all zero for an address that was never heard. Read them with
+ *                   amsulfezd_heard_of.
+ *
+ * Returns the refusal number, 0 if nothing was refused. Refused, in this order, with nothing written: 26 if the address is above
+ * 125; 18 if entry_len is below 17.
+ *
+ * Which bytes change: the first 17 of `entry`, where nothing was refused. All others keep their value.
+ *
+ * What the caller must ensure, ownership and threads: as for amsulfezd_replay_trace. It always returns.
+ */
+uint64_t amsulfezd_table_heard(const uint8_t *table, size_t table_len, uint8_t address, uint8_t *entry, size_t entry_len);
+
+/*
+ * Writes the counts of a station's life, which amsulfezd_trace_counts explains: those that it writes of the trace of the same
+ * header and entries.
+ *
+ * station, station_len  The station: what amsulfezd_open_station, amsulfezd_step_station or amsulfezd_step_heard wrote. It is
+ *                       read only. Any content is allowed; bytes that are no station are refused with 36. Bytes behind the
+ *                       station are not looked at.
+ * counts, counts_len    Where AMSULFEZD_COUNTS_LENGTH bytes go: claims, removals and meetings, 4 bytes each. Read them with
+ *                       amsulfezd_counts_of.
+ *
+ * Returns the refusal number, 0 if nothing was refused. Refused, in this order, with nothing written: 36 where the bytes are no
+ * station or too few for one; 18 if counts_len is below 12.
+ *
+ * Which bytes change: the first 12 of `counts`, where nothing was refused. All others keep their value.
+ *
+ * What the caller must ensure, ownership and threads: as for amsulfezd_replay_trace. It always returns.
+ */
+uint64_t amsulfezd_station_counts(const uint8_t *station, size_t station_len, uint8_t *counts, size_t counts_len);
 #endif
 
-/* How many bytes the entry has, of what amsulfezd_step_station returned; 0 if it was refused. */
+/* How many bytes the entry has, of what amsulfezd_step_station or amsulfezd_step_heard returned; 0 if it was refused. */
 static inline size_t amsulfezd_stepped(uint64_t returned)
 {
     return (size_t)(returned / 256);
-}
-
-/*
- * The counts of a station's life, read from its bytes: what amsulfezd_trace_counts says of the same header and entries. The
- * bytes are a station, such as one that was just stepped.
- */
-static inline struct amsulfezd_counts amsulfezd_station_counts(const uint8_t *station)
-{
-    return amsulfezd_counts_of(station + AMSULFEZD_STATION_COUNTS);
 }
 
 /* ---- Readers of an answer ---------------------------------------------------------------------------------------- */
@@ -1268,50 +1333,6 @@ static inline size_t amsulfezd_write_poll(uint8_t *to, size_t room, const struct
         to = amsulfezd_store(to, 4, amsulfezd_telegram_word(&telegrams[i]));
     }
     return 1 + length;
-}
-
-/* ---- Who was heard, poll by poll --------------------------------------------------------------------------------- */
-
-/*
- * Takes note of who was heard in a poll, in a table of AMSULFEZD_HEARD_TABLE_LENGTH bytes that is the caller's: zeros to begin
- * with, then the AMSULFEZD_HEARD_LENGTH bytes of each address, one after the other, as amsulfezd_trace_heard writes them:
- *
- *   amsulfezd_heard_of(table + AMSULFEZD_HEARD_LENGTH * address)
- *
- * entry is the entry that was stepped or replayed, whole, answer what it was answered with: the telegrams that the poll consumed
- * are heard. Commands and refused entries change nothing. This is plain C and not proved; the tests hold the table to
- * amsulfezd_trace_heard.
- */
-static inline void amsulfezd_hear(uint8_t *table, const uint8_t *entry, uint64_t answer)
-{
-    unsigned consumed = amsulfezd_answer_consumed(answer), listed, i;
-    const uint8_t *telegrams;
-    uint64_t clock;
-    if (consumed == 0) {
-        return;
-    }
-    clock = amsulfezd_load(entry + 1, 6);
-    listed = amsulfezd_field(amsulfezd_load(entry + 7, 2), 11, 4);
-    telegrams = entry + 1 + entry[0] - 4 * listed; /* they are the record's last bytes */
-    for (i = 0; i < consumed; i++) {
-        struct amsulfezd_telegram telegram = amsulfezd_telegram_of((uint32_t)amsulfezd_load(telegrams + 4 * i, 4));
-        uint8_t *heard = table + AMSULFEZD_HEARD_LENGTH * telegram.source;
-        uint64_t times;
-        if (telegram.kind == AMSULFEZD_TELEGRAM_SHORT_CONFIRMATION || telegram.source > AMSULFEZD_LAST_ADDRESS) {
-            continue;
-        }
-        times = amsulfezd_load(heard, 4);
-        if (times == 0) {
-            amsulfezd_store(heard + 4, 6, clock);
-        }
-        if (times != UINT32_MAX) {
-            amsulfezd_store(heard, 4, times + 1);
-        }
-        amsulfezd_store(heard + 10, 6, clock);
-        if (telegram.kind == AMSULFEZD_TELEGRAM_RESPONSE) {
-            heard[16] = (uint8_t)(1 + telegram.station_type);
-        }
-    }
 }
 
 #ifdef __cplusplus

@@ -7,7 +7,17 @@
 #include <string.h>
 
 /* Where a station has some of its fields: docs/FORMAT.md, section 14. */
-enum { LAPS = 3, HEADER = 8, ZERO = 31, ACTIVITY = 56, MEMBERS = 80 };
+enum {
+    LAPS = 3,
+    HEADER = 8,
+    STATE = 24,
+    ADDRESS = 29,
+    ZERO = 31,
+    ACTIVITY = 56,
+    PENDING = 76,
+    GAP = 79,
+    MEMBERS = 80
+};
 
 uint64_t faulty_step_station(uint8_t *station, size_t station_len, const uint8_t *entry, size_t entry_len, uint8_t *answer,
                              size_t answer_len);
@@ -29,6 +39,26 @@ static void mend(uint8_t *station)
         station[LAPS] = 0;
         station[LAPS + 1] %= 3;
         break;
+    case 5: /* 2,048 pending bytes are taken */
+        if (station[PENDING] == 8 && station[PENDING + 1] == 0) {
+            station[PENDING] = 0;
+        }
+        break;
+    case 6: /* the status of another station than the one that the gap poll asks is awaited */
+        if (station[STATE] / 2 == AMSULFEZD_STATE_AWAIT_STATUS_RESPONSE) {
+            station[ADDRESS] = station[GAP];
+        }
+        break;
+    case 7: /* a claim before its first token is taken */
+        if (station[STATE] / 2 == AMSULFEZD_STATE_CLAIM_TOKEN) {
+            station[STATE] &= 0xfe;
+        }
+        break;
+    case 8: /* a pending byte in Offline is taken */
+        if (station[STATE] / 2 == AMSULFEZD_STATE_OFFLINE && station[PENDING] == 0 && station[PENDING + 1] == 1) {
+            station[PENDING + 1] = 0;
+        }
+        break;
     }
 }
 
@@ -48,17 +78,17 @@ uint64_t faulty_step_station(uint8_t *station, size_t station_len, const uint8_t
         }
     }
     switch (FAULT) {
-    case 5: /* the answer is written where the station was refused */
+    case 9: /* the answer is written where the station was refused */
         if (number == AMSULFEZD_REFUSAL_STATION) {
             memset(answer, 0, answer_len);
         }
         break;
-    case 6: /* the last activity is beyond every clock */
+    case 10: /* the last activity is beyond every clock */
         if (number == AMSULFEZD_OK) {
             station[ACTIVITY] |= 0x80;
         }
         break;
-    case 7: /* the same step leaves something else */
+    case 11: /* the same step leaves something else */
         if (number == AMSULFEZD_OK) {
             station[AMSULFEZD_STATION_COUNTS] = turn++;
         }

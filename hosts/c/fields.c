@@ -172,14 +172,11 @@ static void test_counts(void)
     check(AMSULFEZD_COUNTS_LENGTH == 3 * 4, "lengths", "counts");
 }
 
-/* What a step returned, and the counts in a station's bytes. */
+/* What a step returned, and the lengths of a station, of its counts in it and of a table of who was heard. */
 static void test_station(void)
 {
-    uint8_t station[AMSULFEZD_STATION_LENGTH] = {0};
-    struct amsulfezd_counts counts;
-    bytes_of("01020304 05060708 090a0b0c", 16, station + AMSULFEZD_STATION_COUNTS);
-    counts = amsulfezd_station_counts(station);
-    check(counts.claims == 0x01020304 && counts.removals == 0x05060708 && counts.meetings == 0x090a0b0c, "counts", "station");
+    check(AMSULFEZD_STATION_LENGTH == 96 && AMSULFEZD_STATION_COUNTS == 64, "lengths", "station");
+    check(AMSULFEZD_HEARD_TABLE_LENGTH == 126 * 17, "lengths", "table");
     check(amsulfezd_stepped(256 * 19) == 19 && amsulfezd_stepped(AMSULFEZD_REFUSAL_STATION) == 0, "bytes stepped", "station");
     check(amsulfezd_stepped(256 * 256) == 256 && amsulfezd_number(256 * 256) == 0, "bytes stepped", "the longest entry");
 }
@@ -600,60 +597,6 @@ static void test_unfit(void)
     UNFIT(telegrams[0].status, 16)
 }
 
-/* ---- Who was heard, poll by poll --------------------------------------------------------------------------------- */
-
-/* Takes note of an entry whose poll has consumed so many telegrams; all other fields of the answer are ones. */
-static void hears(uint8_t *table, const char *digits, uint64_t consumed)
-{
-    uint8_t entry[AMSULFEZD_ENTRY_LENGTH];
-    const size_t count = bytes_of(digits, 16, entry);
-    check(count == 1 + (size_t)entry[0], "not an entry", digits);
-    amsulfezd_hear(table, entry, ~(UINT64_C(15) << 24) | consumed << 24);
-}
-
-/* An address has this entry in the table. */
-static void has_heard(const uint8_t *table, size_t address, const char *digits)
-{
-    uint8_t bytes[AMSULFEZD_HEARD_LENGTH + 1];
-    const size_t count = bytes_of(digits, 16, bytes);
-    check(count == AMSULFEZD_HEARD_LENGTH, "not 17 bytes", digits);
-    check(memcmp(table + AMSULFEZD_HEARD_LENGTH * address, bytes, count) == 0, "not the table's entry", digits);
-}
-
-/* A table, by hand. A record of two applications lists tokens from 9, 20, 9 and 12, and three of them are consumed. */
-static void test_hear(void)
-{
-    static uint8_t table[AMSULFEZD_HEARD_TABLE_LENGTH];
-    const char *never = "00000000 000000000000 000000000000 00";
-    size_t i;
-    check(sizeof table == 126 * 17, "lengths", "table");
-    hears(table, "24 010203040506 2003 000000000000 000000000000 04890000 04940000 04890000 048c0000", 0);
-    for (i = 0; i < sizeof table; i++) {
-        check(table[i] == 0, "heard though not consumed", "table");
-    }
-    hears(table, "24 010203040506 2003 000000000000 000000000000 04890000 04940000 04890000 048c0000", 3);
-    has_heard(table, 9, "00000002 010203040506 010203040506 00");
-    has_heard(table, 20, "00000001 010203040506 010203040506 00");
-    has_heard(table, 12, never);
-    /* Later, and with a clock that went back: responses from 9, in ring, from 125 and from 0; a request from 9. */
-    hears(table, "1a 0a0b0c0d0e0f 9800 000000000000 c2896000 c2fd0000 c2802200", 3);
-    has_heard(table, 9, "00000003 010203040506 0a0b0c0d0e0f 04");
-    has_heard(table, 125, "00000001 0a0b0c0d0e0f 0a0b0c0d0e0f 01");
-    has_heard(table, 0, "00000001 0a0b0c0d0e0f 0a0b0c0d0e0f 02");
-    hears(table, "12 000000000001 0800 000000000000 82898000", 1);
-    has_heard(table, 9, "00000004 010203040506 000000000001 04");
-    /* Short confirmations and the sources 126 and 127 are skipped. */
-    hears(table, "1a 000000000002 1800 000000000000 40000000 c2fe6000 04ff0000", 3);
-    has_heard(table, 0, "00000001 0a0b0c0d0e0f 0a0b0c0d0e0f 02");
-    has_heard(table, 125, "00000001 0a0b0c0d0e0f 0a0b0c0d0e0f 01");
-    /* A count stops at its largest. */
-    bytes_of("fffffffe 000000000000 000000000000 00", 16, table + AMSULFEZD_HEARD_LENGTH * 20);
-    for (i = 0; i < 2; i++) {
-        hears(table, "12 000000000003 0800 000000000000 04940000", 1);
-        has_heard(table, 20, "ffffffff 000000000000 000000000003 00");
-    }
-}
-
 int main(int count, char **words)
 {
     (void)words;
@@ -672,7 +615,6 @@ int main(int count, char **words)
     test_commands();
     test_polls();
     test_unfit();
-    test_hear();
     printf("C host: %lu checks of the readers and writers hold\n", checks);
     return EXIT_SUCCESS;
 }

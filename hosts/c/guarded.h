@@ -64,14 +64,10 @@ static uint8_t *at_end(struct guarded guarded, size_t length, bool upper)
     return upper ? guarded.page + guarded.size - length : guarded.page;
 }
 
+/* Whether all these bytes are the pattern: the first is, and each other is like the one before it. */
 static bool all_are(const uint8_t *bytes, size_t length, uint8_t pattern)
 {
-    for (size_t i = 0; i < length; i++) {
-        if (bytes[i] != pattern) {
-            return false;
-        }
-    }
-    return true;
+    return length == 0 || (bytes[0] == pattern && memcmp(bytes, bytes + 1, length - 1) == 0);
 }
 
 /* A touched guard page ends the program with one line. */

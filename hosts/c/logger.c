@@ -310,12 +310,12 @@ static void note_ring(struct logger *logger, uint64_t now, uint64_t answer)
     logger->state = state;
 }
 
-/* Takes the station one entry further. */
+/* Takes the station one entry further, with the table of who was heard beside it. */
 static uint64_t step(struct logger *logger, const uint8_t *entry, size_t length)
 {
     uint8_t bytes[AMSULFEZD_ANSWER_LENGTH];
-    uint64_t returned =
-        amsulfezd_step_station(logger->station, sizeof logger->station, entry, length, bytes, sizeof bytes);
+    uint64_t returned = amsulfezd_step_heard(logger->station, sizeof logger->station, entry, length, bytes, sizeof bytes,
+                                             logger->heard, sizeof logger->heard);
     uint64_t answer = amsulfezd_answer(bytes);
     unsigned number = amsulfezd_number(returned);
     if (number == AMSULFEZD_OK) {
@@ -324,7 +324,6 @@ static uint64_t step(struct logger *logger, const uint8_t *entry, size_t length)
     if (number != AMSULFEZD_OK) {
         fail("the station refuses: %s", amsulfezd_refusal_words(number));
     }
-    amsulfezd_hear(logger->heard, entry, answer);
     return answer;
 }
 
@@ -402,13 +401,20 @@ static void open_station(struct logger *logger)
 /* The counts of the station's life, and who was heard. */
 static void print_end(const struct logger *logger)
 {
-    struct amsulfezd_counts counts = amsulfezd_station_counts(logger->station);
+    uint8_t bytes[AMSULFEZD_COUNTS_LENGTH], entry[AMSULFEZD_HEARD_LENGTH];
+    if (amsulfezd_station_counts(logger->station, sizeof logger->station, bytes, sizeof bytes) != AMSULFEZD_OK) {
+        fail("the station has no counts");
+    }
+    struct amsulfezd_counts counts = amsulfezd_counts_of(bytes);
     printf("%u polls: %" PRIu32 " tokens claimed, %" PRIu32 " neighbour removed, our own address met %" PRIu32 " times\n",
            logger->polls, counts.claims, counts.removals, counts.meetings);
-    for (size_t address = 0; address <= AMSULFEZD_LAST_ADDRESS; address++) {
-        struct amsulfezd_heard heard = amsulfezd_heard_of(logger->heard + AMSULFEZD_HEARD_LENGTH * address);
+    for (uint8_t address = 0; address <= AMSULFEZD_LAST_ADDRESS; address++) {
+        if (amsulfezd_table_heard(logger->heard, sizeof logger->heard, address, entry, sizeof entry) != AMSULFEZD_OK) {
+            fail("the table says nothing");
+        }
+        struct amsulfezd_heard heard = amsulfezd_heard_of(entry);
         if (heard.times != 0) {
-            printf("heard %zu: %" PRIu32 " times, last at ", address, heard.times);
+            printf("heard %u: %" PRIu32 " times, last at ", address, heard.times);
             print_time(heard.last);
             putchar('\n');
         }

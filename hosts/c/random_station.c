@@ -54,6 +54,7 @@ enum {
     LAST_TOKEN_TIME = 40,
     END_OF_HOLD = 48,
     ACTIVITY = 56,
+    PENDING = 76,
     ZERO_2 = 78,
     GAP = 79,
     MEMBERS = 80
@@ -86,6 +87,12 @@ static bool is_clock(uint64_t time)
     return time >> 48 == 0;
 }
 
+/* A poll record has 11 bits for the pending bytes. */
+static bool is_pending(uint64_t bytes)
+{
+    return bytes >> 11 == 0;
+}
+
 /* An address that the state holds, or none. */
 static bool is_address_or_none(uint8_t byte)
 {
@@ -99,16 +106,23 @@ static bool sound_whole(const uint8_t *station)
     uint8_t own = station[HEADER];
     return station[EDITION] == 1 && amsulfezd_finish_settings(station + HEADER, AMSULFEZD_HEADER_LENGTH) == AMSULFEZD_OK &&
            station[CONNECTIVITY] <= ONLINE && station[NEXT_APPLICATION] < applications_of(station) &&
-           number_at(station, LAPS, 2) <= 2 && flags <= 7 && station[ZERO] == 0 && station[ZERO_2] == 0 &&
+           number_at(station, LAPS, 2) <= 2 && flags <= 7 && is_pending(number_at(station, PENDING, 2)) && station[ZERO] == 0 &&
+           station[ZERO_2] == 0 &&
            (station[MEMBERS + own / 8] >> (7 - own % 8) & 1) == 1 &&
            (station[MEMBERS + 15] & 3) == 0;
 }
 
-/* The gap state: an address that is polled, or a count of rotations. */
+/* Whether the gap is polled. */
+static bool is_polled(const uint8_t *station)
+{
+    return (station[FLAGS + 2] & 2) != 0;
+}
+
+/* The gap state: an address below HSA that is polled and is not our own, or a count of rotations. */
 static bool sound_gap(const uint8_t *station)
 {
-    bool polled = (station[FLAGS + 2] & 2) != 0;
-    return polled ? station[GAP] <= AMSULFEZD_LAST_ADDRESS : station[GAP] <= station[HEADER + 8] + 1;
+    return is_polled(station) ? station[GAP] < station[HEADER + 9] && station[GAP] != station[HEADER]
+                              : station[GAP] <= station[HEADER + 8] + 1;
 }
 
 /* The times: the last activity, where it is known, and the end of hold. */
@@ -126,6 +140,13 @@ static bool sound_times(const uint8_t *station)
     return is_clock(last) && (known ? activity <= latest : activity == 0) && (fresh || set || set_for_gap);
 }
 
+/* Nothing but the activity and the connectivity is other than in a fresh station. */
+static bool is_fresh(const uint8_t *station)
+{
+    return number_at(station, LAST_TOKEN_TIME, 8) == 0 && number_at(station, END_OF_HOLD, 8) == 0 && !is_polled(station) &&
+           station[GAP] == 0 && number_at(station, PENDING, 2) == 0 && station[NEXT_APPLICATION] == 0;
+}
+
 /* The fields that a state can have. */
 enum { FLAG = 1, ASKED = 2, PREVIOUS = 4, COLLIDED = 8, TRIED = 16, AWAITED = 32, TOKEN = 64 };
 
@@ -135,7 +156,7 @@ static const unsigned fields[] = {
     [AMSULFEZD_STATE_LISTEN_TOKEN] = ASKED | COLLIDED,
     [AMSULFEZD_STATE_ACTIVE_IDLE] = ASKED | PREVIOUS | COLLIDED,
     [AMSULFEZD_STATE_USE_TOKEN] = FLAG | TOKEN,
-    [AMSULFEZD_STATE_CLAIM_TOKEN] = FLAG,
+    [AMSULFEZD_STATE_CLAIM_TOKEN] = 0,
     [AMSULFEZD_STATE_AWAIT_DATA_RESPONSE] = AWAITED | TOKEN,
     [AMSULFEZD_STATE_PASS_TOKEN] = FLAG,
     [AMSULFEZD_STATE_CHECK_TOKEN_PASS] = TRIED,
@@ -156,10 +177,11 @@ static bool sound_fields(const uint8_t *station, unsigned has)
            ((has & TOKEN) != 0 ? is_clock(number_at(station, TOKEN_TIME, 8)) : number_at(station, TOKEN_TIME, 8) == 0);
 }
 
-/* The state, and what it says of the rest: when it is offline, when the activity is known, which token is in hand. */
+/* The state, and what it says of the rest: when it is offline, when the activity is known, which token is in hand, who is asked. */
 static bool sound_state(const uint8_t *station)
 {
     unsigned state = station[STATE] / 2u;
+    uint8_t own = station[HEADER];
     bool known = (station[FLAGS + 2] & 1) != 0;
     bool last_token = number_at(station, TOKEN_TIME, 8) == number_at(station, LAST_TOKEN_TIME, 8);
     if (state > AMSULFEZD_STATE_PASSIVE_IDLE || !sound_fields(station, fields[state])) {
@@ -167,13 +189,18 @@ static bool sound_state(const uint8_t *station)
     }
     switch (state) {
     case AMSULFEZD_STATE_OFFLINE:
-        return true;
+        return is_fresh(station);
     case AMSULFEZD_STATE_LISTEN_TOKEN:
-        return station[CONNECTIVITY] != OFFLINE;
+        return station[CONNECTIVITY] != OFFLINE && station[REQUEST] != own;
+    case AMSULFEZD_STATE_ACTIVE_IDLE:
+        return station[CONNECTIVITY] != OFFLINE && known && station[NEW_PREVIOUS] != own;
     case AMSULFEZD_STATE_PASSIVE_IDLE:
-        return station[CONNECTIVITY] != OFFLINE && (known || station[REQUEST] == NONE);
+        return station[CONNECTIVITY] != OFFLINE && station[REQUEST] != own && (known || station[REQUEST] == NONE);
     case AMSULFEZD_STATE_USE_TOKEN:
-        return station[CONNECTIVITY] != OFFLINE && known && (last_token || station[STATE] % 2 == 0);
+        return station[CONNECTIVITY] != OFFLINE && known &&
+               (station[STATE] % 2 == 0 ? station[FIRST_APPLICATION] == NONE : last_token);
+    case AMSULFEZD_STATE_AWAIT_STATUS_RESPONSE:
+        return station[CONNECTIVITY] != OFFLINE && known && is_polled(station) && station[ADDRESS] == station[GAP];
     case AMSULFEZD_STATE_AWAIT_DATA_RESPONSE:
         return station[CONNECTIVITY] != OFFLINE && known && last_token;
     default:

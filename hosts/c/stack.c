@@ -4,8 +4,9 @@
  * own that is filled with a pattern; afterwards the deepest byte that changed is looked for. The traces: those of the
  * files named, example 12's header with 100,000 times online, and as many made at random as are asked for, with headers
  * of both editions; each is replayed, asked for an address that was heard and for its counts, its header moved to the other
- * edition, its entries exported as a capture, and its station stepped one entry at a time; each state and each kind of send, moves both ways, an address that was heard,
- * and each of the counts must have been seen. Frames: one of each start byte, and a word of each kind. Captures: those of the files named, whose names end in
+ * edition, its entries exported as a capture, and its station stepped one entry at a time, without a table of who was heard and with
+ * one, which is then asked for that address, and asked for its counts; each state and each kind of send, moves both ways, an address
+ * that was heard, and each of the counts must have been seen. Frames: one of each start byte, and a word of each kind. Captures: those of the files named, whose names end in
  * .capture, and one of each start byte. Simulations: eight stations that form a ring, and eight whose telegrams meet. Built with -DFAULT the call takes more, which must be found.
  *
  * usage: stack TRACES FILE..
@@ -167,6 +168,39 @@ static uint64_t step_trace(const uint8_t *lent, size_t length, uint8_t *buffer, 
     return 256 * count + amsulfezd_number(stepped);
 }
 
+/* The station and the table that step_heard leaves. */
+static uint8_t live[AMSULFEZD_STATION_LENGTH], table[AMSULFEZD_HEARD_TABLE_LENGTH];
+
+/* The same with a table of who was heard beside the station. */
+static uint64_t step_heard(const uint8_t *lent, size_t length, uint8_t *buffer, size_t room)
+{
+    size_t at = amsulfezd_header_length(lent, length);
+    uint64_t count = 0, stepped = amsulfezd_open_station(lent, length, live, sizeof live);
+    memset(table, 0, sizeof table);
+    while (amsulfezd_number(stepped) == AMSULFEZD_OK && at < length) {
+        stepped = amsulfezd_step_heard(live, sizeof live, lent + at, length - at, buffer, room, table, sizeof table);
+        at += amsulfezd_stepped(stepped);
+        count += amsulfezd_number(stepped) == AMSULFEZD_OK;
+    }
+    return 256 * count + amsulfezd_number(stepped);
+}
+
+/* Asks that table when address 9 was heard. */
+static uint64_t table_heard(const uint8_t *lent, size_t length, uint8_t *buffer, size_t room)
+{
+    (void)lent;
+    (void)length;
+    return amsulfezd_table_heard(table, sizeof table, 9, buffer, room);
+}
+
+/* Asks that station for its counts. */
+static uint64_t station_counts(const uint8_t *lent, size_t length, uint8_t *buffer, size_t room)
+{
+    (void)lent;
+    (void)length;
+    return amsulfezd_station_counts(live, sizeof live, buffer, room);
+}
+
 /*
  * Replays a trace, asks who was heard and for the counts, moves its header, exports its entries and steps its station, and notes what
  * came.
@@ -174,6 +208,7 @@ static uint64_t step_trace(const uint8_t *lent, size_t length, uint8_t *buffer, 
 static void measure(const uint8_t *bytes, size_t length, const char *name)
 {
     struct amsulfezd_counts counts;
+    uint8_t heard[AMSULFEZD_HEARD_LENGTH], counted[AMSULFEZD_COUNTS_LENGTH];
     uint64_t i, replayed;
     trace = bytes;
     trace_len = length;
@@ -190,9 +225,11 @@ static void measure(const uint8_t *bytes, size_t length, const char *name)
     memset(answers, 0, AMSULFEZD_HEARD_LENGTH);
     run(trace_heard, name);
     heard_seen |= amsulfezd_heard_of(answers).times != 0;
+    memcpy(heard, answers, sizeof heard);
     memset(answers, 0, AMSULFEZD_COUNTS_LENGTH);
     run(amsulfezd_trace_counts, name);
     counts = amsulfezd_counts_of(answers);
+    memcpy(counted, answers, sizeof counted);
     counts_seen |= (counts.claims != 0 ? 1u : 0) | (counts.removals != 0 ? 2u : 0) | (counts.meetings != 0 ? 4u : 0);
     run(amsulfezd_other_edition, name);
     if (amsulfezd_written(returned) != 0) {
@@ -202,6 +239,20 @@ static void measure(const uint8_t *bytes, size_t length, const char *name)
     run(step_trace, name);
     if (returned != replayed) {
         fail("its station is not stepped as it is replayed", name);
+    }
+    run(step_heard, name);
+    if (returned != replayed) {
+        fail("its station is not stepped with a table as it is replayed", name);
+    }
+    if (amsulfezd_entries(replayed) != 0) {
+        run(table_heard, name);
+        if (returned != AMSULFEZD_OK || memcmp(heard, answers, sizeof heard) != 0) {
+            fail("its table does not say what the trace says of an address", name);
+        }
+        run(station_counts, name);
+        if (returned != AMSULFEZD_OK || memcmp(counted, answers, sizeof counted) != 0) {
+            fail("its station does not have the trace's counts", name);
+        }
     }
 }
 

@@ -1,6 +1,6 @@
 /*
  * Tests the proved call that says when an address was heard, against entries that are stated here by hand, from document 02,
- * P7, as asked.h says; and the table that a host keeps poll by poll with amsulfezd_hear, against the same entries.
+ * P7, as asked.h says; and the table beside a station that is stepped along the same trace, against the same entries.
  *
  * usage: test_heard
  */
@@ -101,36 +101,25 @@ static void ask_above(struct asked good, size_t at)
     }
 }
 
-/* The table that amsulfezd_hear makes of entries and answers, one after the other, is what the call says of the whole trace. */
-static void hear_entries(struct asked trace)
+/* A station that is stepped along the entries with a table: after each of them the table says what is stated after so many. */
+static void step_entries(struct asked trace)
 {
     static uint8_t table[AMSULFEZD_HEARD_TABLE_LENGTH];
-    uint8_t answers[AMSULFEZD_ANSWER_LENGTH * COUNT], bytes[AMSULFEZD_HEARD_LENGTH];
+    uint8_t station[AMSULFEZD_STATION_LENGTH], answer[AMSULFEZD_ANSWER_LENGTH];
+    uint8_t bytes[AMSULFEZD_HEARD_LENGTH], said[AMSULFEZD_HEARD_LENGTH];
     const uint8_t *entry = trace.bytes + trace.header;
     memset(table, 0, sizeof table);
-    amsulfezd_replay_trace(trace.bytes, trace.length, answers, sizeof answers);
+    amsulfezd_open_station(trace.bytes, trace.header, station, sizeof station);
     for (size_t i = 0; i < trace.count; i++) {
-        amsulfezd_hear(table, entry, amsulfezd_answer(answers + AMSULFEZD_ANSWER_LENGTH * i));
+        uint64_t returned = amsulfezd_step_heard(station, sizeof station, entry, trace.entries[i], answer, sizeof answer, table,
+                                                 sizeof table);
+        check(returned == 256 * trace.entries[i], "not what it should return", "step", i);
         entry += trace.entries[i];
         for (unsigned address = 0; address <= AMSULFEZD_LAST_ADDRESS; address++) {
             expect((uint8_t)address, i + 1, bytes);
-            check(memcmp(table + AMSULFEZD_HEARD_LENGTH * address, bytes, sizeof bytes) == 0, "not the entry that it should be",
-                  "table", address);
+            amsulfezd_table_heard(table, sizeof table, (uint8_t)address, said, sizeof said);
+            check(memcmp(said, bytes, sizeof bytes) == 0, "not the entry that it should be", "table", address);
         }
-    }
-}
-
-/* A count at its largest stays there, and the rest goes on. */
-static void hear_largest(void)
-{
-    static uint8_t table[AMSULFEZD_HEARD_TABLE_LENGTH];
-    static const uint8_t poll[] = {18, 1, 2, 3, 4, 5, 6, 0x08, 0, 0, 0, 0, 0, 0, 0, 0xc2, 0x89, 0x20, 0};
-    static const uint8_t before[] = {0xff, 0xff, 0xff, 0xfe, 0, 0, 0, 0, 0, 7, 0, 0, 0, 0, 0, 9, 0};
-    static const uint8_t after[] = {0xff, 0xff, 0xff, 0xff, 0, 0, 0, 0, 0, 7, 1, 2, 3, 4, 5, 6, 2};
-    memcpy(table + AMSULFEZD_HEARD_LENGTH * 9, before, sizeof before);
-    for (int i = 0; i < 2; i++) {
-        amsulfezd_hear(table, poll, UINT64_C(1) << 24);
-        check(memcmp(table + AMSULFEZD_HEARD_LENGTH * 9, after, sizeof after) == 0, "not the largest count", "table", 9);
     }
 }
 
@@ -147,9 +136,8 @@ int main(int count, char **words)
     ask_refused_headers(of(9), first, second);
     ask_above(first, 15);
     ask_above(second, 13);
-    hear_entries(first);
-    hear_entries(second);
-    hear_largest();
+    step_entries(first);
+    step_entries(second);
     printf("C host: %lu checks of who was heard hold, each buffer between two guard pages\n", checks);
     return EXIT_SUCCESS;
 }

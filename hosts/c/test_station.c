@@ -1,22 +1,18 @@
 /*
  * Tests the proved calls on a station in the caller's memory. What they return, refuse and leave is stated here by hand, from
  * docs/FORMAT.md; what a step answers is held to the trace call: each trace that is named is stepped one entry at a time, and
- * every answer, the ending, the counts in the station's bytes and the table of who was heard are those of the calls on the whole
- * trace. The order of refusals is tried on a station in each state. Header, station, entry and answer lie each between two pages that may not be touched, flush against the upper or the
- * lower one, and everything else is filled with a pattern: a byte read or written outside ends the program, and a byte that should
- * have kept its value is found.
+ * every answer, the ending and the counts of the station's life are those of the calls on the whole trace. (test_beside.c does so
+ * with a table of who was heard.) The order of refusals is tried on a station in each state. Header, station, entry and answer lie
+ * each between two pages that may not be touched, flush against the upper or the lower one, and everything else is filled with a
+ * pattern: a byte read or written outside ends the program, and a byte that should have kept its value is found.
  *
  * usage: test_station TRACE..
  */
-#include "guarded.h"
+#include "placed.h"
 
 #include "files.h"
 
-enum { LENGTH = AMSULFEZD_STATION_LENGTH, MORE = 3, ANSWER = AMSULFEZD_ANSWER_LENGTH };
-
-/* Station 5 with one application, in both editions; fields.c has the bits of the second. */
-#define HEADER 0x05, 0x06, 0x00, 0xc8, 0x00, 0x00, 0x7e, 0xb4, 0x0a, 0x7e, 0x01, 0x0b, 0x01, 0x00, 0x00, 0x00
-#define HEADER_2 0x82, 0x0a, 0xc0, 0x19, 0x00, 0x07, 0xeb, 0x41, 0x5f, 0x84, 0x2c, 0x00, 0x00, 0x00
+/* A station's header, in both editions. */
 static const uint8_t header_1[] = {HEADER}, header_2[] = {HEADER_2};
 
 /* Their fresh station, as docs/FORMAT.md, section 14, has it: offline, no field of a state, address 5 alone in the ring. */
@@ -26,36 +22,20 @@ static const uint8_t fresh[LENGTH] = {
 
 static struct guarded lent_page, station_page, answer_page;
 
-/* A slice of this length at one end of a page that is filled with the pattern, with these bytes at its start. */
-static uint8_t *placed(struct guarded page, const uint8_t *bytes, size_t count, size_t length, bool upper, uint8_t pattern)
-{
-    memset(page.page, pattern, page.size);
-    uint8_t *slice = at_end(page, length, upper);
-    memcpy(slice, bytes, count < length ? count : length);
-    return slice;
-}
-
-/* Whether all of the page but the slice's first bytes is the pattern. */
-static bool kept_around(struct guarded page, const uint8_t *slice, size_t count, uint8_t pattern)
-{
-    size_t below = (size_t)(slice - page.page);
-    return all_are(page.page, below, pattern) && all_are(slice + count, page.size - below - count, pattern);
-}
-
 /* ---- Opening ----------------------------------------------------------------------------------------------------------- */
 
 /* Opens a station with so many bytes of a header and so much room: this number, and nothing written where it is not 0. */
 static void open_once(const uint8_t *header, size_t length, size_t room, unsigned number, uint8_t *opened, bool upper,
                       uint8_t pattern)
 {
-    const uint8_t *lent = placed(lent_page, header, length, length, upper, pattern);
-    uint8_t *station = placed(station_page, NULL, 0, room, upper, pattern);
+    struct slice given = {header, length, length};
+    const uint8_t *lent = placed(lent_page, given, upper, pattern);
+    uint8_t *station = placed(station_page, room_of(room), upper, pattern);
     uint64_t returned = amsulfezd_open_station(lent, length, station, room);
     size_t written = number == AMSULFEZD_OK ? LENGTH : 0;
     check(returned == 256 * written + number, "not what it should return", "open", room);
     check(kept_around(station_page, station, written, pattern), "a byte that is not the station's has changed", "open", room);
-    check(memcmp(lent, header, length) == 0 && kept_around(lent_page, lent, length, pattern), "the header has changed", "open",
-          length);
+    check(kept(lent_page, lent, given, pattern), "the header has changed", "open", length);
     memcpy(opened, station, written);
 }
 
@@ -114,13 +94,6 @@ static void test_open(void)
 
 /* ---- Stepping ---------------------------------------------------------------------------------------------------------- */
 
-/* A slice: so many bytes of it are given, and it is so long. */
-struct slice {
-    const uint8_t *bytes;
-    size_t count;
-    size_t length;
-};
-
 /* What a step leaves: what it returned, the station, and the answer's bytes. */
 struct left {
     uint64_t returned;
@@ -132,11 +105,10 @@ struct left {
 static struct left step_once(struct slice given, struct slice entry, size_t room, bool upper, uint8_t pattern)
 {
     struct left left = {0, {0}, {0}};
-    uint8_t *station = placed(station_page, given.bytes, given.count, given.length, upper, pattern);
-    const uint8_t *lent = placed(lent_page, entry.bytes, entry.count, entry.length, upper, pattern);
-    uint8_t *answer = placed(answer_page, NULL, 0, room, upper, pattern);
-    size_t have = given.count < given.length ? given.count : given.length;
-    size_t lent_have = entry.count < entry.length ? entry.count : entry.length;
+    uint8_t *station = placed(station_page, given, upper, pattern);
+    const uint8_t *lent = placed(lent_page, entry, upper, pattern);
+    uint8_t *answer = placed(answer_page, room_of(room), upper, pattern);
+    size_t have = given_in(given);
     left.returned = amsulfezd_step_station(station, given.length, lent, entry.length, answer, room);
     bool refused = amsulfezd_number(left.returned) != AMSULFEZD_OK;
     check(!refused || left.returned < 256, "a refusal with bytes", "step", given.length);
@@ -144,8 +116,7 @@ static struct left step_once(struct slice given, struct slice entry, size_t room
     check(!refused || memcmp(station, given.bytes, have) == 0, "a refused step has changed the station", "step", given.length);
     check(kept_around(answer_page, answer, refused ? 0 : ANSWER, pattern), "a byte that is not the answer's has changed", "step",
           room);
-    check(memcmp(lent, entry.bytes, lent_have) == 0 && kept_around(lent_page, lent, lent_have, pattern),
-          "the entry has changed", "step", entry.length);
+    check(kept(lent_page, lent, entry, pattern), "the entry has changed", "step", entry.length);
     memcpy(left.station, station, have < LENGTH ? have : LENGTH);
     memcpy(left.answer, answer, refused ? 0 : ANSWER);
     return left;
@@ -169,9 +140,8 @@ static void step_refused(const uint8_t *station, size_t station_len, struct slic
     check(step_all(given, entry, room).returned == number, "not the number that it should return", "step", number);
 }
 
-/* A poll at 1,000 us that hears a token from 9 to 9, and a record of 3 bytes, which is refused with 12. */
-static const uint8_t poll[] = {18, 0, 0, 0, 0, 0x03, 0xe8, 0x08, 3, 0, 0, 0, 0, 0, 0, 0x04, 0x89, 0, 0};
-static const uint8_t short_record[] = {3, 0, 0, 0};
+static const uint8_t poll[] = {POLL};
+static const uint8_t short_record[] = {SHORT_RECORD};
 static const uint8_t online[] = {AMSULFEZD_COMMAND_ONLINE};
 
 /* The refusals of a step on this station, in their order: 36, 17, 18. */
@@ -222,30 +192,18 @@ static void test_order(const uint8_t *station)
 static unsigned long stepped;
 static unsigned states_seen;
 
-/* How long the entry at the start of these bytes is; they may be fewer. */
-static size_t entry_length(const uint8_t *bytes)
+/* The counts of the station's life are what the call on the whole trace says. */
+static void test_asked(struct content trace, const uint8_t *station, const char *name)
 {
-    return bytes[0] <= AMSULFEZD_COMMAND_PASSIVE ? 1 : (size_t)bytes[0] + 1;
-}
-
-/* The counts in the station's bytes and the table of who was heard are what the calls on the whole trace say. */
-static void test_asked(struct content trace, const uint8_t *station, const uint8_t *table, const char *name)
-{
-    uint8_t counts[AMSULFEZD_COUNTS_LENGTH], entry[AMSULFEZD_HEARD_LENGTH];
-    amsulfezd_trace_counts(trace.bytes, trace.length, counts, sizeof counts);
-    struct amsulfezd_counts stated = amsulfezd_counts_of(counts), read = amsulfezd_station_counts(station);
-    check(stated.claims == read.claims && stated.removals == read.removals && stated.meetings == read.meetings,
+    uint8_t stated[AMSULFEZD_COUNTS_LENGTH], read[AMSULFEZD_COUNTS_LENGTH];
+    amsulfezd_trace_counts(trace.bytes, trace.length, stated, sizeof stated);
+    check(amsulfezd_station_counts(station, LENGTH, read, sizeof read) == AMSULFEZD_OK && memcmp(stated, read, sizeof read) == 0,
           "not the trace's counts", name, trace.length);
-    for (unsigned address = 0; address <= AMSULFEZD_LAST_ADDRESS; address++) {
-        amsulfezd_trace_heard(trace.bytes, trace.length, (uint8_t)address, entry, sizeof entry);
-        check(memcmp(entry, table + AMSULFEZD_HEARD_LENGTH * address, sizeof entry) == 0, "heard otherwise", name, address);
-    }
 }
 
 /* A trace, stepped one entry at a time. */
 static void test_trace(const char *name)
 {
-    static uint8_t table[AMSULFEZD_HEARD_TABLE_LENGTH];
     struct content trace = read_file(name);
     size_t at = amsulfezd_header_length(trace.bytes, trace.length), room = ANSWER * trace.length, entry = 0;
     uint8_t *answers = take(room), station[LENGTH];
@@ -254,7 +212,6 @@ static void test_trace(const char *name)
                                           amsulfezd_ending(run) == AMSULFEZD_REFUSAL_CUT);
     open_all(trace.bytes, at < trace.length ? at : trace.length, LENGTH, has_run ? (unsigned)AMSULFEZD_OK : amsulfezd_ending(run),
              station);
-    memset(table, 0, sizeof table);
     while (has_run && at < trace.length && entry_length(trace.bytes + at) <= trace.length - at) {
         struct slice given = {station, LENGTH, LENGTH + (entry + 1) % 2};
         struct slice one = {trace.bytes + at, entry_length(trace.bytes + at), entry_length(trace.bytes + at)};
@@ -265,7 +222,6 @@ static void test_trace(const char *name)
         uint64_t answer = amsulfezd_answer(left.answer);
         check(amsulfezd_answer_refusal(answer) == AMSULFEZD_OK || memcmp(station, left.station, LENGTH) == 0,
               "a refused entry has changed the station", name, entry + 1);
-        amsulfezd_hear(table, one.bytes, answer);
         memcpy(station, left.station, LENGTH);
         if ((states_seen & 1u << amsulfezd_answer_state(answer)) == 0) {
             states_seen |= 1u << amsulfezd_answer_state(answer);
@@ -280,7 +236,7 @@ static void test_trace(const char *name)
         struct slice rest = {trace.bytes + at, trace.length - at, trace.length - at};
         step_refused(station, LENGTH, rest, ANSWER, AMSULFEZD_REFUSAL_CUT);
         check((at < trace.length) == (amsulfezd_ending(run) == AMSULFEZD_REFUSAL_CUT), "not the trace's ending", name, at);
-        test_asked(trace, station, table, name);
+        test_asked(trace, station, name);
     }
     free(answers);
     free(trace.bytes);

@@ -57,10 +57,34 @@ static uint64_t number_of(const uint8_t *bytes)
     return number;
 }
 
-/* Steps a trace one entry at a time, as oracle/src/comparison/steps.rs says. */
-static uint64_t step_trace(const uint8_t *trace, size_t length, uint8_t *answers, size_t room)
+/* So many bytes behind a station and a table, in the slices that are lent, are watched. */
+#define BEHIND 8
+
+/* A station and a table of who was heard, each with bytes behind it. */
+static uint8_t station[AMSULFEZD_STATION_LENGTH + BEHIND], table[AMSULFEZD_HEARD_TABLE_LENGTH + BEHIND];
+
+/* Takes the station one entry further, with the table or without. What is refused, and a command, leave the table. */
+static uint64_t step(const uint8_t *entry, size_t length, uint8_t *answer, size_t room, int with_table)
 {
-    uint8_t station[AMSULFEZD_STATION_LENGTH + 8], before[sizeof station];
+    static uint8_t before[sizeof table];
+    if (!with_table) {
+        return amsulfezd_step_station(station, sizeof station, entry, length, answer, room);
+    }
+    memcpy(before, table, sizeof table);
+    uint64_t stepped = amsulfezd_step_heard(station, sizeof station, entry, length, answer, room, table, sizeof table);
+    int polled = amsulfezd_number(stepped) == AMSULFEZD_OK && entry[0] > AMSULFEZD_COMMAND_PASSIVE &&
+                 amsulfezd_answer_refusal(amsulfezd_answer(answer)) == AMSULFEZD_OK;
+    size_t kept_from = polled ? AMSULFEZD_HEARD_TABLE_LENGTH : 0;
+    if (memcmp(table + kept_from, before + kept_from, sizeof table - kept_from) != 0) {
+        fail("what is refused, or a command, changes the table, or a byte behind it");
+    }
+    return stepped;
+}
+
+/* Steps a trace one entry at a time, as oracle/src/comparison/steps.rs says. */
+static uint64_t step_trace(const uint8_t *trace, size_t length, uint8_t *answers, size_t room, int with_table)
+{
+    uint8_t before[sizeof station];
     memset(station, 0x69, sizeof station);
     memcpy(before, station, sizeof station);
     uint64_t opened = amsulfezd_open_station(trace, length, station, sizeof station);
@@ -77,12 +101,12 @@ static uint64_t step_trace(const uint8_t *trace, size_t length, uint8_t *answers
     while (at < length) {
         uint8_t *answer = answers + AMSULFEZD_ANSWER_LENGTH * answered;
         memcpy(before, station, AMSULFEZD_STATION_LENGTH);
-        uint64_t stepped = amsulfezd_step_station(station, sizeof station, trace + at, length - at, answer,
-                                                  room - AMSULFEZD_ANSWER_LENGTH * answered);
+        uint64_t stepped =
+            step(trace + at, length - at, answer, room - AMSULFEZD_ANSWER_LENGTH * answered, with_table);
         unsigned number = amsulfezd_number(stepped);
         unsigned refused = number == AMSULFEZD_OK ? amsulfezd_answer_refusal(amsulfezd_answer(answer)) : number;
         if (memcmp(station, before, refused == AMSULFEZD_OK ? 0 : AMSULFEZD_STATION_LENGTH) != 0 ||
-            memcmp(station + AMSULFEZD_STATION_LENGTH, before + AMSULFEZD_STATION_LENGTH, 8) != 0) {
+            memcmp(station + AMSULFEZD_STATION_LENGTH, before + AMSULFEZD_STATION_LENGTH, BEHIND) != 0) {
             fail("what is refused changes the station, or a byte behind it");
         }
         if (number != AMSULFEZD_OK) {
@@ -92,6 +116,62 @@ static uint64_t step_trace(const uint8_t *trace, size_t length, uint8_t *answers
         answered++;
     }
     return 256 * answered;
+}
+
+/* What the calls on the station and the table refuse, in their order, and that they then write nothing. */
+static void refuses(void)
+{
+    uint8_t before[sizeof station], room[AMSULFEZD_HEARD_LENGTH], untouched[sizeof room], online[1] = {0};
+    static uint8_t known[sizeof table];
+    memset(room, 0x69, sizeof room);
+    memcpy(untouched, room, sizeof room);
+    memcpy(before, station, sizeof station);
+    memcpy(known, table, sizeof table);
+    const size_t short_station = AMSULFEZD_STATION_LENGTH - 1, short_table = AMSULFEZD_HEARD_TABLE_LENGTH - 1;
+    const uint64_t numbers[] = {
+        amsulfezd_station_counts(station, short_station, room, 0),
+        amsulfezd_station_counts(station, sizeof station, room, AMSULFEZD_COUNTS_LENGTH - 1),
+        amsulfezd_table_heard(table, sizeof table, AMSULFEZD_LAST_ADDRESS + 1, room, 0),
+        amsulfezd_table_heard(table, sizeof table, AMSULFEZD_LAST_ADDRESS, room, AMSULFEZD_HEARD_LENGTH - 1),
+        amsulfezd_step_heard(station, short_station, online, 0, room, 0, table, 0),
+        amsulfezd_step_heard(station, sizeof station, online, 0, room, 0, table, 0),
+        amsulfezd_step_heard(station, sizeof station, online, 1, room, AMSULFEZD_ANSWER_LENGTH, table, short_table),
+        amsulfezd_step_heard(station, sizeof station, online, 1, room, AMSULFEZD_ANSWER_LENGTH - 1, table, sizeof table),
+    };
+    static const uint64_t expected[] = {36, 18, 26, 18, 36, 17, 18, 18};
+    if (memcmp(numbers, expected, sizeof expected) != 0) {
+        fail("not what the calls should refuse");
+    }
+    if (memcmp(station, before, sizeof station) != 0 || memcmp(table, known, sizeof table) != 0 ||
+        memcmp(room, untouched, sizeof room) != 0) {
+        fail("what is refused writes");
+    }
+}
+
+/* Steps a trace with a table and says the counts and who was heard, as oracle/src/comparison/beside.rs says. */
+static uint64_t step_heard_trace(const uint8_t *trace, size_t length, uint8_t *left, size_t room)
+{
+    const size_t said = AMSULFEZD_COUNTS_LENGTH + AMSULFEZD_HEARD_TABLE_LENGTH;
+    if (room < said) {
+        fail("no room for what is said at the end");
+    }
+    memset(table, 0, AMSULFEZD_HEARD_TABLE_LENGTH);
+    memset(table + AMSULFEZD_HEARD_TABLE_LENGTH, 0x69, BEHIND);
+    uint64_t returned = step_trace(trace, length, left + said, room - said, 1);
+    if (station[0] == 0x69) {
+        return returned; /* no station was made of the header */
+    }
+    if (amsulfezd_station_counts(station, sizeof station, left, AMSULFEZD_COUNTS_LENGTH) != AMSULFEZD_OK) {
+        fail("no counts of a station");
+    }
+    for (uint8_t address = 0; address <= AMSULFEZD_LAST_ADDRESS; address++) {
+        uint8_t *entry = left + AMSULFEZD_COUNTS_LENGTH + AMSULFEZD_HEARD_LENGTH * address;
+        if (amsulfezd_table_heard(table, sizeof table, address, entry, AMSULFEZD_HEARD_LENGTH) != AMSULFEZD_OK) {
+            fail("a table does not say of an address");
+        }
+    }
+    refuses();
+    return returned;
 }
 
 /* Makes the call with this number, which the comparison gives it. */
@@ -107,7 +187,9 @@ static uint64_t make(uint8_t which, uint8_t address, const uint8_t *lent, size_t
     case 3:
         return amsulfezd_trace_counts(lent, length, buffer, room);
     case 4:
-        return step_trace(lent, length, buffer, room);
+        return step_trace(lent, length, buffer, room, 0);
+    case 5:
+        return step_heard_trace(lent, length, buffer, room);
     default:
         fail("there is no such call");
         return 0;

@@ -48,6 +48,7 @@ pub mod generator {
 
 /// The cases that generated traces have to reach, by name.
 pub mod coverage {
+    mod beside;
     pub mod counts;
     mod events;
     pub mod heard;
@@ -66,6 +67,7 @@ pub mod coverage {
 
 /// Holding other calls to the oracle's.
 pub mod comparison {
+    pub mod beside;
     pub mod calls;
     pub mod calls_program;
     pub mod compare;

@@ -321,6 +321,11 @@ fn wrong_calls_are_found() {
         let (said, held) = compare_traces(Calls { step_trace: *call, ..ORACLE }, 5, 300);
         assert!(!held && said.contains("a station that is stepped answers otherwise"), "{}: {}", i, said);
     }
+    // the same calls as one that is stepped with a table: they say nothing of who was heard
+    for (i, call) in wrong.iter().enumerate() {
+        let (said, held) = compare_traces(Calls { step_heard_trace: *call, ..ORACLE }, 5, 300);
+        assert!(!held && said.contains("a station that is stepped with a table says otherwise"), "{}: {}", i, said);
+    }
     // a program that says nothing
     let (status, said, _) = program(COMPARE_TRACES, &["5", "300", "--", "true"], &[]);
     assert_eq!(status, 1);

@@ -1,16 +1,20 @@
 // The library for hosts: every call that C and Rust programs make of it, each thin over the crate that does the work. Their
 // names carry the prefix amsulfezd_, as a C library's names do. hosts/c/amsulfezd.h declares them. It leans on trace,
-// trace_editions, trace_heard, trace_counts, bus, bus_trace, live, settings_header, codec_frames, capture_import and
-// capture_export.
+// trace_editions, trace_heard, trace_counts, bus, bus_trace, live, live_heard, live_counts, heard_shown, settings_header, codec_frames,
+// capture_import and capture_export.
 ghost use mathlib.Core.Path.{_≡_};
 ghost use lib.ListN.{length};
 ghost use Rattle.bus_run.specs.Run.{simulateNumber, simulateInto, traceNumber, traceInto};
 ghost use Rattle.capture_export.specs.Export.{exportOf, exportedOf, bufferOf as exportBuffer};
 ghost use Rattle.capture_import.specs.Import.{importOf, importedOf, bufferOf as importBuffer};
 ghost use Rattle.codec_frames.specs.Frames.{frameOf, readNumber, writeOf, writeNumber, writtenOver};
+ghost use Rattle.heard.specs.Heard.{lookupOf, summaryNumber, summaryInto};
 ghost use Rattle.live.specs.Live.{openNumber, openInto, stepOf, stepNumber, stepInto, stepAnswer};
+ghost use Rattle.live_counts.specs.LiveCounts.{readCountsNumber, readCountsInto};
+ghost use Rattle.live_heard.specs.LiveHeard.{stepBeside, stepTable};
 ghost use Rattle.settings.specs.Settings.{slotBitsOf, hsaOf, rotationOf, gapWaitOf, retryOf, minTsdrOf, watchdogOf};
 ghost use Rattle.settings_header.specs.SettingsHeader.{setNumber, setInto, newNumber, newInto, finishNumber};
+ghost use Rattle.station_bytes.specs.Bytes.{readOf};
 ghost use Rattle.trace.specs.Trace.{replayOf, numberOf, bufferOf};
 ghost use Rattle.trace_editions.specs.Editions.{moveNumber, moveInto};
 ghost use Rattle.trace_counts.specs.TraceCounts.{countsNumber, countsInto};
@@ -250,4 +254,44 @@ pub extern "C" fn amsulfezd_step_station(station: &mut [u8], entry: &[u8], answe
     ensures { λ _. ⌜ now (answer .exit) ≡ stepAnswer (stepOf (now (station .entry)) (now (entry .entry)) (length (now (answer .entry)))) (now (answer .entry)) ⌝ }
 {
     live::step_station(station, entry, answer)
+}
+
+// Writes what a station has counted, read from its bytes: how often it claimed the token, removed a neighbour and met its own address, as
+// `amsulfezd_trace_counts` writes it, 12 bytes into `counts`, and returns 0. Refused with 36 where `station` holds none, then 18 where
+// `counts` is too short: then nothing is written.
+#[no_mangle]
+pub extern "C" fn amsulfezd_station_counts(station: &[u8], counts: &mut [u8]) -> u64
+    ensures { λ r. ⌜ r ≡ readCountsNumber (readOf (now (station .entry))) (length (now (counts .entry))) ⌝ }
+    ensures { λ _. ⌜ now (counts .exit) ≡ readCountsInto (readOf (now (station .entry))) (now (counts .entry)) ⌝ }
+{
+    live_counts::station_counts(station, counts)
+}
+
+// Steps a station as `amsulfezd_step_station` does, with a table of who was heard lent beside it, which begins as zeros: 17 bytes for each
+// of the 126 addresses. It is fed with the telegrams that the entry consumed. Refused with 36, 17, and 18 where `answer` or `table` is too
+// short: then nothing is written.
+#[no_mangle]
+pub extern "C" fn amsulfezd_step_heard(
+    station: &mut [u8],
+    entry: &[u8],
+    answer: &mut [u8],
+    table: &mut [u8],
+) -> u64
+    ensures { λ r. ⌜ r ≡ stepNumber (stepBeside (now (station .entry)) (now (entry .entry)) (length (now (answer .entry))) (length (now (table .entry)))) ⌝ }
+    ensures { λ _. ⌜ now (station .exit) ≡ stepInto (stepBeside (now (station .entry)) (now (entry .entry)) (length (now (answer .entry))) (length (now (table .entry)))) (now (station .entry)) ⌝ }
+    ensures { λ _. ⌜ now (answer .exit) ≡ stepAnswer (stepBeside (now (station .entry)) (now (entry .entry)) (length (now (answer .entry))) (length (now (table .entry)))) (now (answer .entry)) ⌝ }
+    ensures { λ _. ⌜ now (table .exit) ≡ stepTable (stepBeside (now (station .entry)) (now (entry .entry)) (length (now (answer .entry))) (length (now (table .entry)))) (now (entry .entry)) (now (table .entry)) ⌝ }
+{
+    live_heard::step_heard(station, entry, answer, table)
+}
+
+// Writes what such a table says of an address, as `amsulfezd_trace_heard` writes it, 17 bytes into `entry`, all zero where it was never
+// heard or the table is too short for it, and returns 0. Refused with 26 for an address above 125, then 18 where `entry` is too short:
+// then nothing is written.
+#[no_mangle]
+pub extern "C" fn amsulfezd_table_heard(table: &[u8], address: u8, entry: &mut [u8]) -> u64
+    ensures { λ r. ⌜ r ≡ summaryNumber (lookupOf (now (table .entry)) address) (length (now (entry .entry))) ⌝ }
+    ensures { λ _. ⌜ now (entry .exit) ≡ summaryInto (lookupOf (now (table .entry)) address) (now (entry .entry)) ⌝ }
+{
+    heard_shown::summary(table, address, entry) as u64
 }

@@ -116,9 +116,12 @@ consumedIn s n (suc k) = consumedIn s n k ++ (record { clock = headOf s .clock; 
 unfoldable pub lookupOn : AddressEntry → Found
 lookupOn e = cond (eqb (e .times) 0) Never (Heard e)
 
--- what a table says of an address
+-- what a table says of an address: one whose entry has no room there was never heard
 unfoldable pub lookupOf : List ℕ → ℕ → Found
-lookupOf table address = cond (eqb (heardRefusal address) 0) (lookupOn (entryOf (drop (entryPlace address) table))) (Refused (heardRefusal address))
+lookupOf table address =
+    cond (eqb (heardRefusal address) 0)
+    (cond (ltb (length table) (entryPlace address + entryLength)) Never (lookupOn (entryOf (drop (entryPlace address) table))))
+    (Refused (heardRefusal address))
 
 -- the number of an answer: 0 where nothing was refused
 unfoldable pub lookupNumber : Found → ℕ

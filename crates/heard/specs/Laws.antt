@@ -100,7 +100,7 @@ found-all (h ∷ hs) =
     ∙ rw (one-more-up 0 (length hs) (lit≤ tt), zero-add (suc (length hs)), type-after Unseen (h .telegram), ne-eqb (upTo mostTimes (suc (length hs))) 0 (up-some (length hs)))
 
 -- a table of an entry for each address
-abbrev Long : List ℕ → Type 0
+abbrev pub Long : List ℕ → Type 0
 Long table = tableLength ≤ length table
 
 -- where a telegram comes from: a short confirmation from nowhere, so from an address that is skipped
@@ -147,6 +147,12 @@ hear-long table clock t long =
     let at = entryPlace (sourceOf t) in
     let room : at + entryLength ≤ length table = omega (arith, ltb-false lastAddress (sourceOf t) s, long) in
     rw (s, changed-long table at (entryAfter (entryIn (sourceOf t) table) clock (typeIn t)) room) long))
+
+-- nor do telegrams
+pub hear-all-long : (table : List ℕ) (hs : List Hearing) → Long table → Long (hearAll table hs)
+unfolding hearAll
+hear-all-long table [] long = long
+hear-all-long table (h ∷ hs) long = hear-all-long (hearOf table (h .clock) (h .telegram)) hs (hear-long table (h .clock) (h .telegram) long)
 
 -- A table of an entry for each address, and one of them.
 module _ (a : ℕ) (known : a ≤ lastAddress) where
@@ -218,7 +224,8 @@ lookup-afresh hs address clocked =
     (λ t.
     let none = zeros-unheard tableLength (entryPlace address) in
     let long : Long freshTable = rw length-replicate (le-refl tableLength) in
-    rw t
+    let room : entryPlace address + entryLength ≤ length (hearAll freshTable hs) = omega (arith, ltb-false lastAddress address t, hear-all-long freshTable hs long) in
+    rw (t, le-ltb (length (hearAll freshTable hs)) (entryPlace address + entryLength) room)
     (ap lookupOn (table-all address (ltb-false lastAddress address t) hs freshTable long (subst EntryFits (sym none) none-fits) clocked ∙ ap (λ (x : AddressEntry). entryAll x (ofAddress address hs)) none)
     ∙ found-all (ofAddress address hs)))
 

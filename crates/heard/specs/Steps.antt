@@ -5,7 +5,7 @@ use mathlib.Core.Path.{_≡_, refl, sym, ap, _∙_}
 use mathlib.Core.List.{List, [], _∷_, _++_, append-nil}
 use native.Mathlib.Omega.{arith}
 use native.Mathlib.Nat.{le-refl}
-use borrow.Author.Tests.{le-ltb}
+use borrow.Author.Tests.{lt-ltb, le-ltb}
 use borrow.Table.Steps.{cases}
 use borrow.Rule.Slice.PartMut.{putMid}
 use lib.ListN.{length, take, drop, length-drop, drop-of-length-le}
@@ -21,7 +21,7 @@ use Rattle.heard.specs.declared.LastType.{LastType}
 use Rattle.heard.specs.declared.LastType.the-variants.{Seen}
 use Rattle.heard.specs.declared.AddressEntry.{AddressEntry}
 use Rattle.heard.specs.declared.Found.the-variants.{Never}
-use Rattle.heard.specs.Heard.{lastAddress, heardRefusal, entryOf, entryInto, entryAfter, entryPlace, heardFrom, hearOf, Hearing, hearAll, lookupOn, lookupOf}
+use Rattle.heard.specs.Heard.{lastAddress, entryLength, heardRefusal, entryOf, entryInto, entryAfter, entryPlace, heardFrom, hearOf, Hearing, hearAll, lookupOn, lookupOf}
 
 -- what is loaded is below 2 to its bits, also where nothing is there to load
 pub load-small : (s : List ℕ) (at count : ℕ) → Bytes s → loadOf s at count < 2 ^ (8 * count)
@@ -83,22 +83,21 @@ heard-there table clock source seen was is z few e f g =
     rw (le-ltb lastAddress source few, g, f, e)
     (tail-changed (entryPlace source) table (λ s. entryInto s (entryAfter (entryOf s) clock seen)))
 
--- and it was never heard
-pub lookup-past : (table : List ℕ) (address : ℕ) → heardRefusal address ≡ 0 → length table < entryPlace address → Never ≡ lookupOf table address
-unfolding lookupOf lookupOn entryOf loadOf
-lookup-past table address few past =
-    let b : drop (entryPlace address) table ≡ [] = drop-of-length-le table {i = entryPlace address} (omega arith) in
-    rw (few, b)
+-- and where it ends inside it, too, it was never heard
+pub lookup-past : (table : List ℕ) (address : ℕ) → heardRefusal address ≡ 0 → length table < entryPlace address + entryLength → Never ≡ lookupOf table address
+unfolding lookupOf
+lookup-past table address few past = rw (few, lt-ltb (length table) (entryPlace address + entryLength) past)
 
 -- what the tail from its place on says
 pub lookup-there :
     (table : List ℕ) (address : ℕ) (was : AddressEntry)
     → heardRefusal address ≡ 0
+    → entryPlace address + entryLength ≤ length table
     → was ≡ entryOf (take (length table - entryPlace address) (drop (entryPlace address) table))
     → lookupOf table address ≡ lookupOn was
 unfolding lookupOf
-lookup-there table address was few e =
-    rw (few, e, take-all (length table - entryPlace address) (drop (entryPlace address) table) (rw length-drop (le-refl (length table - entryPlace address))))
+lookup-there table address was few room e =
+    rw (few, le-ltb (length table) (entryPlace address + entryLength) room, e, take-all (length table - entryPlace address) (drop (entryPlace address) table) (rw length-drop (le-refl (length table - entryPlace address))))
 
 -- a table fed with telegrams after telegrams
 pub hear-append : (table : List ℕ) (hs more : List Hearing) → hearAll table (hs ++ more) ≡ hearAll (hearAll table hs) more

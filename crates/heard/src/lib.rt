@@ -15,6 +15,9 @@ pub const LAST_ADDRESS: u8 = 125;
 // The bytes of an entry.
 pub const ENTRY_LENGTH: usize = 17;
 
+// The bytes of a table: an entry for each of the 126 addresses.
+pub const TABLE_LENGTH: usize = 2142;
+
 // The station type that an address gave in its last response; unseen where no response was heard.
 pub enum LastType {
     Unseen,

@@ -32,7 +32,7 @@ pub fn lookup(table: &[u8], address: u8) -> Found
         return Found::Refused(refusal);
     }
     let at = ENTRY_LENGTH * (address as usize);
-    if table.len() < at {
+    if table.len() < at + ENTRY_LENGTH {
         return Found::Never;
     }
     let entry = read_entry(&table[at..]);

@@ -3,10 +3,10 @@ use Prim.Native.Nat.{ℕ, _+_, _-_, _*_, _<_, _≤_}
 use mathlib.Core.Path.{_≡_, refl, sym, ap, _∙_}
 use mathlib.Core.List.{List}
 use native.Mathlib.Omega.{arith}
-use borrow.Author.Tests.{lt-ltb, le-ltb, eq-eqb, ne-eqb, ltb-false}
+use borrow.Author.Tests.{lt-ltb, le-ltb, eq-eqb, ne-eqb, ltb-false, eqb-false}
 use borrow.Table.Steps.{cases}
 use lib.ListN.{length, getD, take, drop}
-use lib.Dec.{ltb}
+use lib.Dec.{eqb, ltb}
 use Rattle.codec_fields.specs.Fields.{storedOf}
 use Rattle.codec_answers.specs.Answers.{answerWord}
 use Rattle.settings.specs.declared.Parameters.{Parameters}
@@ -22,8 +22,10 @@ use Rattle.trace.specs.Entries.{recordLength, entryOf}
 use Rattle.ring.specs.Ring.{Ring, ringOf}
 use Rattle.station_bytes.specs.declared.Reading.{Reading}
 use Rattle.station_bytes.specs.declared.Reading.the-variants.{Is, Nothing}
-use Rattle.station_bytes.specs.Bytes.{setIn, foundAt, ringIn, ringed, readOn, readOf, stationInto}
-use Rattle.live.specs.Live.{openStart, openNumberOn, openNumber, openIntoOn, openInto, Stepped, Refusal, Answers, stepFound, stepOn, stepOf, stepNumber, stepInto, stepAnswer}
+use Rattle.station_bytes.specs.Bytes.{setIn, foundAt, ringIn, ringed, Read, Taken, NoStation, readOn, readOf, stationInto}
+use Rattle.live.specs.declared.Consumed.{Consumed}
+use Rattle.live.specs.declared.Done.{Done}
+use Rattle.live.specs.Live.{openStart, openNumberOn, openNumber, openIntoOn, openInto, Stepped, Refusal, Answers, stepFound, stepOn, stepOf, stepNumber, stepInto, stepAnswer, consumedFor, doneOf}
 
 -- Opened.
 
@@ -51,32 +53,47 @@ module _ (header out : List ℕ) (h : Header) (l : headerLength header ≤ lengt
 
 -- Stepped.
 
--- what an entry came to, written
+-- what an entry came to, written, and what it consumed
 pub answered-into :
     (x y : Polled) (station after answer said : List ℕ) (word : ℕ)
     → x ≡ y
     → after ≡ stationInto station (x .station)
     → word ≡ answerWord (x .answer)
     → said ≡ storedOf answer 0 8 word
-    → (after ≡ stationInto station (y .station)) × (said ≡ storedOf answer 0 8 (answerWord (y .answer)))
-answered-into x y station after answer said word e a w b =
-    (a ∙ ap (λ (z : Polled). stationInto station (z .station)) e, b ∙ ap (storedOf answer 0 8) (w ∙ ap (λ (z : Polled). answerWord (z .answer)) e))
+    → (record { telegrams = x .answer .consumed; applications = x .station .applications } ≡ consumedFor y)
+    × ((after ≡ stationInto station (y .station)) × (said ≡ storedOf answer 0 8 (answerWord (y .answer))))
+unfolding consumedFor
+answered-into x y station after answer said word e a w b = (
+  ap consumedFor e,
+  (a ∙ ap (λ (z : Polled). stationInto station (z .station)) e, b ∙ ap (storedOf answer 0 8) (w ∙ ap (λ (z : Polled). answerWord (z .answer)) e)),
+)
+
+-- what a step says and leaves
+abbrev Leaves : Stepped → Done → List ℕ → List ℕ → List ℕ → List ℕ → Type 0
+Leaves x d station after answer said = (d ≡ doneOf x) × ((after ≡ stepInto x station) × (said ≡ stepAnswer x answer))
 
 -- refused
-pub three-refused : (x : Stepped) (n : ℕ) (station answer : List ℕ) → x ≡ Refusal n → (n ≡ stepNumber x) × ((station ≡ stepInto x station) × (answer ≡ stepAnswer x answer))
-unfolding stepNumber stepInto stepAnswer
-three-refused x n station answer e = rw e (refl, (refl, refl))
+pub three-refused : (x : Stepped) (n : ℕ) (d : Done) (station answer : List ℕ) → x ≡ Refusal n → d ≡ doneOf (Refusal n) → Leaves x d station station answer answer
+unfolding stepInto stepAnswer
+three-refused x n d station answer e is = rw e (is, (refl, refl))
 
 -- answered
 pub three-answered :
-    (x : Stepped) (polled : Polled) (size n : ℕ) (station after answer said : List ℕ)
+    (x : Stepped) (polled : Polled) (size n : ℕ) (c : Consumed) (station after answer said : List ℕ)
     → x ≡ Answers polled size
     → n ≡ size * 256
+    → c ≡ consumedFor polled
     → after ≡ stationInto station (polled .station)
     → said ≡ storedOf answer 0 8 (answerWord (polled .answer))
-    → (n ≡ stepNumber x) × ((after ≡ stepInto x station) × (said ≡ stepAnswer x answer))
-unfolding stepNumber stepInto stepAnswer
-three-answered x polled size n station after answer said e a b c = rw e (a, (b, c))
+    → Leaves x (record { number = n; size = size; consumed = c }) station after answer said
+unfolding stepInto stepAnswer doneOf
+three-answered x polled size n c station after answer said e many is a b = rw (e, many, is) (refl, (a, b))
+
+-- the number is the call's
+pub done-number : (x : Stepped) (d : Done) → d ≡ doneOf x → d .number ≡ stepNumber x
+unfolding doneOf stepNumber
+done-number (Refusal n) d e = ap (λ (z : Done). z .number) e
+done-number (Answers polled size) d e = ap (λ (z : Done). z .number) e
 
 module _ (s : Station) (entry : List ℕ) (room : ℕ) where
   -- the entry is empty
@@ -124,3 +141,40 @@ step-taken bytes entry room s links e r = rw e (ap (λ (x : Ring). stepFound (ri
 pub step-none : (bytes entry : List ℕ) (room : ℕ) → foundAt bytes ≡ Nothing → stepOf bytes entry room ≡ Refusal 36
 unfolding stepOf stepOn readOf readOn
 step-none bytes entry room e = rw e
+
+-- An entry's bytes.
+
+-- a step that refuses, and one by an entry that these bytes begin with
+abbrev pub Refuses : Stepped → Type 0
+Refuses (Refusal n) = Unit {0}
+Refuses (Answers polled size) = ⊥
+
+abbrev pub Begins : List ℕ → Stepped → Type 0
+Begins entry (Refusal n) = Unit {0}
+Begins entry (Answers polled size) = (1 ≤ size) × (size ≤ length entry)
+
+-- without room for an answer each step refuses
+pub no-room-refuses : (station entry : List ℕ) → Refuses (stepOf station entry 0)
+unfolding stepOf stepOn stepFound
+no-room-refuses station entry = go (readOf station)
+  where
+    go : (x : Read) → Refuses (stepOn x entry 0)
+    go (Taken s) =
+        cases (eqb (length entry) 0) (λ t. rw t tt)
+        (λ f. cases (ltb (length entry - 1) (recordLength (getD entry 0 0))) (λ t. rw (f, t) tt) (λ g. rw (f, g) tt))
+    go NoStation = tt
+
+-- what is answered is an entry that the bytes begin with
+pub step-begins : (station entry : List ℕ) (room : ℕ) → Begins entry (stepOf station entry room)
+unfolding stepOf stepOn stepFound
+step-begins station entry room = go (readOf station)
+  where
+    go : (x : Read) → Begins entry (stepOn x entry room)
+    go (Taken s) =
+        cases (eqb (length entry) 0) (λ t. rw t tt)
+        (λ f.
+        cases (ltb (length entry - 1) (recordLength (getD entry 0 0))) (λ t. rw (f, t) tt)
+        (λ g.
+        cases (ltb room 8) (λ t. rw (f, g, t) tt)
+        (λ h. rw (f, g, h) (omega arith, omega (arith, eqb-false (length entry) 0 f, ltb-false (length entry - 1) (recordLength (getD entry 0 0)) g)))))
+    go NoStation = tt

@@ -11,6 +11,8 @@ use Rattle.station_answer.specs.Answer.{Polled}
 use Rattle.trace_headers.specs.Headers.{headerLength, headerOf}
 use Rattle.trace.specs.Trace.{settingsOf, TraceStart, Accepted, Refused, startedWith}
 use Rattle.trace.specs.Entries.{recordLength, entryOf}
+use Rattle.live.specs.declared.Consumed.{Consumed}
+use Rattle.live.specs.declared.Done.{Done}
 use Rattle.station_bytes.specs.Bytes.{stationLength, Read, Taken, NoStation, readOf, stationInto}
 
 -- Opened.
@@ -72,3 +74,12 @@ stepInto (Answers polled size) out = stationInto out (polled .station)
 unfoldable pub stepAnswer : Stepped → List ℕ → List ℕ
 stepAnswer (Refusal n) out = out
 stepAnswer (Answers polled size) out = storedOf out 0 8 (answerWord (polled .answer))
+
+-- what an entry consumed: so many telegrams of its record, which speaks for so many applications
+unfoldable pub consumedFor : Polled → Consumed
+consumedFor polled = record { telegrams = polled .answer .consumed; applications = polled .station .applications }
+
+-- what a step came to beside its bytes: its number, the entry's bytes and what it consumed; nothing where it refuses
+unfoldable pub doneOf : Stepped → Done
+doneOf (Refusal n) = record { number = n; size = 0; consumed = record { telegrams = 0; applications = 0 } }
+doneOf (Answers polled size) = record { number = size * 256; size = size; consumed = consumedFor polled }

@@ -7,11 +7,25 @@ ghost use Rattle.trace.specs.Entries.{entryOf};
 ghost use Rattle.codec_answers.specs.Answers.{answerWord};
 ghost use Rattle.codec_fields.specs.Fields.{storedOf};
 ghost use Rattle.station_bytes.specs.Bytes.{stationInto};
-ghost use Rattle.live.specs.Live.{openNumber, openInto, stepFound, stepOf, stepNumber, stepInto, stepAnswer};
+ghost use Rattle.live.specs.Live.{openNumber, openInto, Refusal, consumedFor, stepFound, stepOf, stepNumber, stepInto, stepAnswer, doneOf};
 use codec_fields::store;
 use settings::Created;
 use station::Station;
 use station_bytes::Reading;
+
+// How many telegrams an entry consumed, and for how many applications its record speaks.
+pub struct Consumed {
+    pub telegrams: u8,
+    pub applications: u8,
+}
+
+// What a step came to beside its bytes: the number that the call returns, the entry's bytes, and what it consumed. Of a refused step
+// the last two are zero.
+pub struct Done {
+    pub number: u64,
+    pub size: usize,
+    pub consumed: Consumed,
+}
 
 // Opens a station: a fresh one with the settings of the header that these bytes begin with, in either edition. Returns the bytes
 // written × 256, or the number that refuses: the header's as in a trace, then 18 where there is no room.
@@ -39,7 +53,21 @@ pub fn open_station(header: &[u8], station: &mut [u8]) -> u64
     }
 }
 
-// Answers an entry, and writes its answer and the station after it.
+// A step that was refused with a number.
+fn refused(number: u64) -> Done
+    ensures { λ r. ⌜ r ≡ doneOf (Refusal number) ⌝ }
+{
+    Done {
+        number,
+        size: 0,
+        consumed: Consumed {
+            telegrams: 0,
+            applications: 0,
+        },
+    }
+}
+
+// Answers an entry, and writes its answer and the station after it. Says what it consumed.
 fn answer_into(
     found: Station,
     links: &mut [u8; 252],
@@ -47,7 +75,8 @@ fn answer_into(
     bytes: &[u8],
     station: &mut [u8],
     answer: &mut [u8],
-)
+) -> Consumed
+    ensures { λ r. ⌜ r ≡ consumedFor (entryOf (stationAt found (now (links .entry))) kind (now (bytes .entry))) ⌝ }
     ensures { λ _. ⌜ now (station .exit) ≡ stationInto (now (station .entry)) (entryOf (stationAt found (now (links .entry))) kind (now (bytes .entry)) .station) ⌝ }
     ensures { λ _. ⌜ now (answer .exit) ≡ storedOf (now (answer .entry)) 0 8 (answerWord (entryOf (stationAt found (now (links .entry))) kind (now (bytes .entry)) .answer)) ⌝ }
 {
@@ -56,6 +85,10 @@ fn answer_into(
     let said = polled.answer;
     store(answer, 0, 8, codec_answers::pack(said));
     station_bytes::write_station(after, links, station);
+    Consumed {
+        telegrams: said.consumed,
+        applications: after.applications,
+    }
 }
 
 // Steps a station that was read by the entry that these bytes begin with.
@@ -65,32 +98,37 @@ fn step_found(
     station: &mut [u8],
     entry: &[u8],
     answer: &mut [u8],
-) -> u64
-    ensures { λ r. ⌜ r ≡ stepNumber (stepFound (stationAt found (now (links .entry))) (now (entry .entry)) (length (now (answer .entry)))) ⌝ }
+) -> Done
+    ensures { λ r. ⌜ r ≡ doneOf (stepFound (stationAt found (now (links .entry))) (now (entry .entry)) (length (now (answer .entry)))) ⌝ }
     ensures { λ _. ⌜ now (station .exit) ≡ stepInto (stepFound (stationAt found (now (links .entry))) (now (entry .entry)) (length (now (answer .entry)))) (now (station .entry)) ⌝ }
     ensures { λ _. ⌜ now (answer .exit) ≡ stepAnswer (stepFound (stationAt found (now (links .entry))) (now (entry .entry)) (length (now (answer .entry)))) (now (answer .entry)) ⌝ }
 {
     if entry.len() == 0 {
-        return 17;
+        return refused(17);
     }
     let kind = entry[0];
     let length = trace::record_length(kind);
     if entry.len() - 1 < length {
-        return 17;
+        return refused(17);
     }
     if answer.len() < 8 {
-        return 18;
+        return refused(18);
     }
     let end = 1 + length;
-    answer_into(found, links, kind, &entry[1..end], station, answer);
-    (end as u64) * 256
+    let consumed = answer_into(found, links, kind, &entry[1..end], station, answer);
+    Done {
+        number: (end as u64) * 256,
+        size: end,
+        consumed,
+    }
 }
 
 // Steps the station that bytes are by an entry: a command or a poll record, as in a trace. Its answer stands in the first 8 bytes of
-// `answer`, the station after it where it was. Returns the entry's bytes × 256, or the number that refuses, and then nothing is
-// written: 36 where the bytes are no station, 17 where the entry is empty or cut, 18 where the answer has no room.
-pub fn step_station(station: &mut [u8], entry: &[u8], answer: &mut [u8]) -> u64
-    ensures { λ r. ⌜ r ≡ stepNumber (stepOf (now (station .entry)) (now (entry .entry)) (length (now (answer .entry)))) ⌝ }
+// `answer`, the station after it where it was. Says what it came to: the entry's bytes × 256 with what was consumed, or the number that
+// refuses, and then nothing is written: 36 where the bytes are no station, 17 where the entry is empty or cut, 18 where the answer has
+// no room.
+pub fn step(station: &mut [u8], entry: &[u8], answer: &mut [u8]) -> Done
+    ensures { λ r. ⌜ r ≡ doneOf (stepOf (now (station .entry)) (now (entry .entry)) (length (now (answer .entry)))) ⌝ }
     ensures { λ _. ⌜ now (station .exit) ≡ stepInto (stepOf (now (station .entry)) (now (entry .entry)) (length (now (answer .entry)))) (now (station .entry)) ⌝ }
     ensures { λ _. ⌜ now (answer .exit) ≡ stepAnswer (stepOf (now (station .entry)) (now (entry .entry)) (length (now (answer .entry)))) (now (answer .entry)) ⌝ }
 {
@@ -102,6 +140,16 @@ pub fn step_station(station: &mut [u8], entry: &[u8], answer: &mut [u8]) -> u64
             station_bytes::make_ring(head, &mut links, &station[80..96]);
             step_found(found, &mut links, station, entry, answer)
         }
-        Reading::Nothing => 36,
+        Reading::Nothing => refused(36),
     }
+}
+
+// The same for a caller that keeps nothing beside the station: returns the number alone.
+pub fn step_station(station: &mut [u8], entry: &[u8], answer: &mut [u8]) -> u64
+    ensures { λ r. ⌜ r ≡ stepNumber (stepOf (now (station .entry)) (now (entry .entry)) (length (now (answer .entry)))) ⌝ }
+    ensures { λ _. ⌜ now (station .exit) ≡ stepInto (stepOf (now (station .entry)) (now (entry .entry)) (length (now (answer .entry)))) (now (station .entry)) ⌝ }
+    ensures { λ _. ⌜ now (answer .exit) ≡ stepAnswer (stepOf (now (station .entry)) (now (entry .entry)) (length (now (answer .entry)))) (now (answer .entry)) ⌝ }
+{
+    let done = step(station, entry, answer);
+    done.number
 }

@@ -4,14 +4,14 @@ use Prim.Native.Nat.{ℕ, zero, suc, _+_, _-_, _*_, _/_, _%_, _^_, _<_, _≤_}
 use mathlib.Core.Path.{_≡_, refl, sym, ap, subst, _∙_}
 use mathlib.Core.Bool.{Bool, true, false}
 use mathlib.Core.List.{List, [], _∷_}
-use native.Mathlib.Nat.{div-one, div-eq-of-lt, pow-suc}
+use native.Mathlib.Nat.{div-one, div-eq-of-lt}
 use native.Mathlib.Omega.{arith}
 use borrow.Author.Tests.{lt-ltb, eqb-true, eqb-false, ltb-true, ltb-false}
 use borrow.Table.Steps.{cases}
 use lib.ListN.{length, getD, drop, set, length-set}
 use lib.Seq.{getD-set-same, getD-set-other, drop-set-lt}
 use lib.Dec.{eqb, ltb, lit<}
-use lib.Pow.{pow-mono, shr-shr, split, high, low}
+use lib.Pow.{shr-shr, split, high, low}
 use Rattle.codec_fields.specs.Fields.{fieldOf, bitAt, bitNumber, Bytes}
 use Rattle.codec_fields.specs.Laws.{bit-below, bit-read, bit-written}
 use Rattle.ring_addresses.specs.Set.{only}
@@ -23,21 +23,6 @@ use Rattle.ring_members.specs.Members.{byteAt, inSet, setAdded, bitsOf, 
 use Rattle.ring_members.specs.Laws.{members-make}
 
 -- The bits of a byte.
-
--- k bits are below 2 to the k
-pub bits-below : (f : ℕ → Bool) (a k : ℕ) → bitsOf f a k < 2 ^ k
-unfolding bitsOf
-bits-below f a zero = lit< tt
-bits-below f a (suc k) =
-    let b = bit-below (f (a + k)) in
-    let before = bits-below f a k in
-    subst (λ (n : ℕ). bitsOf f a k * 2 + bitNumber (f (a + k)) < n) (sym (pow-suc 2 k)) (omega (arith, b, before))
-
--- so fewer than 8 leave room for one more
-pub bits-room : (f : ℕ → Bool) (a k byte : ℕ) → k < 8 → byte ≡ bitsOf f a k → byte < 128
-bits-room f a k byte l e =
-    let most : 2 ^ k ≤ 2 ^ 7 = pow-mono {i = k} {j = 7} (omega (arith, l)) in
-    omega (arith, e, bits-below f a k, most)
 
 -- the first k of j + k bits
 bits-first : (f : ℕ → Bool) (a k j : ℕ) → bitsOf f a (j + k) / 2 ^ j ≡ bitsOf f a k

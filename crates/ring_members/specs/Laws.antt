@@ -131,7 +131,7 @@ bits-added r byte a (suc k) s =
     alike (then before (bit-added (bitsAdded r byte a k) byte (7 - k) (a + k) (before .sound))) (λ x low. in-byte-more byte a k x)
 
 -- a byte that is 0 has no bit
-no-bit : (at : ℕ) → bitAt 0 at ≡ false
+pub no-bit : (at : ℕ) → bitAt 0 at ≡ false
 unfolding fieldOf
 no-bit at = let z : 0 / 2 ^ at ≡ 0 = div-eq-of-lt (pow-pos at) in rw z refl
 
@@ -193,3 +193,36 @@ members-make own laps ready s low two mine =
         ∙ ap (λ (n : ℕ). record { links = linksOf (inSet s); own = n; laps = r .laps; ready = r .ready }) b
         ∙ ap (λ (n : ℕ). record { links = linksOf (inSet s); own = own; laps = n; ready = r .ready }) c
         ∙ ap (λ (z : Bool). record { links = linksOf (inSet s); own = own; laps = laps; ready = z }) d
+
+-- Laps change nothing of that.
+
+-- a ring with other laps
+abbrev withLaps : ℕ → Ring → Ring
+withLaps n r = record { links = r .links; own = r .own; laps = n; ready = r .ready }
+
+bit-laps : (n : ℕ) (r : Ring) (byte at a : ℕ) → bitAdded (withLaps n r) byte at a ≡ withLaps n (bitAdded r byte at a)
+unfolding bitAdded addOf
+bit-laps n r byte at a =
+    cases (bitAt byte at) (λ t. rw t (cases (ltb a 126) (λ u. rw u refl) (λ u. rw u refl))) (λ f. rw f refl)
+
+bits-laps : (n : ℕ) (r : Ring) (byte a k : ℕ) → bitsAdded (withLaps n r) byte a k ≡ withLaps n (bitsAdded r byte a k)
+unfolding bitsAdded
+bits-laps n r byte a zero = refl
+bits-laps n r byte a (suc k) =
+    ap (λ (x : Ring). bitAdded x byte (7 - k) (a + k)) (bits-laps n r byte a k) ∙ bit-laps n (bitsAdded r byte a k) byte (7 - k) (a + k)
+
+byte-laps : (n : ℕ) (r : Ring) (byte a : ℕ) → byteAdded (withLaps n r) byte a ≡ withLaps n (byteAdded r byte a)
+unfolding byteAdded
+byte-laps n r byte a = cases (eqb byte 0) (λ t. rw t refl) (λ f. rw f (bits-laps n r byte a 8))
+
+set-laps : (n : ℕ) (r : Ring) (s : List ℕ) (i : ℕ) → setAdded (withLaps n r) s i ≡ withLaps n (setAdded r s i)
+unfolding setAdded
+set-laps n r s zero = refl
+set-laps n r s (suc i) =
+    ap (λ (x : Ring). byteAdded x (byteAt s i) (8 * i)) (set-laps n r s i) ∙ byte-laps n (setAdded r s i) (byteAt s i) (8 * i)
+
+-- the theorem, whatever the laps are
+pub members-links : (own laps : ℕ) (ready : Bool) (s : List ℕ) → own < 126 → inSet s own ≡ true → setAdded (make own (only own) laps ready) s 16 ≡ make own (inSet s) laps ready
+unfolding make
+members-links own laps ready s low mine =
+    set-laps laps (make own (only own) 0 ready) s 16 ∙ ap (withLaps laps) (members-make own 0 ready s low (omega arith) mine)

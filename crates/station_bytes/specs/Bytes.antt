@@ -18,6 +18,7 @@ use Rattle.trace.specs.Trace.{settingsOf}
 use Rattle.station_words.specs.declared.Words.{Words}
 use Rattle.station_words.specs.Words.{wordsOf, stateIn, coreIn, countsIn, headIn, headerIn, sameWords}
 use Rattle.station_lines.specs.Lines.{soundLine}
+use Rattle.station_bytes.specs.declared.Five.{Five}
 use Rattle.station_bytes.specs.declared.Reading.{Reading}
 use Rattle.station_bytes.specs.declared.Reading.the-variants.{Is, Nothing}
 
@@ -26,6 +27,17 @@ abbrev pub stationLength : ℕ
 stationLength = 96
 
 -- Read.
+
+-- the five words from a place on
+unfoldable pub fiveIn : List ℕ → ℕ → Five
+fiveIn bytes at =
+    record {
+      a = loadOf bytes at 8;
+      b = loadOf bytes (at + 8) 8;
+      c = loadOf bytes (at + 16) 8;
+      d = loadOf bytes (at + 24) 8;
+      e = loadOf bytes (at + 32) 8;
+    }
 
 -- the ten words
 unfoldable pub wordsIn : List ℕ → Words

@@ -5,28 +5,77 @@ use mathlib.Core.Bool.{Bool, true, false, cond}
 use mathlib.Core.List.{List, [], _∷_, _++_, append-nil, append-assoc}
 use native.Mathlib.Omega.{arith}
 use native.Mathlib.Nat.{add-zero}
-use borrow.Author.Tests.{lt-ltb, le-ltb}
+use borrow.Author.Tests.{lt-ltb, le-ltb, ltb-true}
+use borrow.Table.Steps.{cases}
 use borrow.Rule.Slice.PartMut.{putMid}
-use lib.ListN.{length, take, drop, length-append, length-drop, length-take}
+use lib.ListN.{length, getD, take, drop, length-append, length-drop, length-take}
 use lib.Seq.{take-at, drop-at, drop-drop, length-take-le}
-use lib.Dec.{lit≤}
-use Rattle.codec_fields.specs.Fields.{bytesOf, storedOf}
+use lib.Dec.{ltb, lit≤}
+use Rattle.codec_fields.specs.Fields.{be, beFrom, bytesOf, loadOf, storedOf}
 use Rattle.codec_fields.specs.Laws.{low-length}
-use Rattle.codec_fields.specs.Stores.{store-next}
+use Rattle.codec_fields.specs.Stores.{load-room, store-next}
+use Rattle.codec_fields.specs.Widths.{be-suc}
 use Rattle.ring_links.specs.Links.{listed}
 use Rattle.ring_links.specs.Tables.{length-tab}
 use Rattle.ring_addresses.specs.Set.{only}
+use Rattle.ring_addresses.specs.SetLaws.{true≢false}
 use Rattle.ring.specs.declared.Head.{Head}
-use Rattle.ring.specs.Ring.{Ring, ringOf, has, make, freshOf}
-use Rattle.ring_members.specs.Members.{setWritten, setOver, setBytes}
+use Rattle.ring.specs.Ring.{Ring, linksOf, ringOf, has, make, freshOf}
+use Rattle.ring_members.specs.Members.{inSet, setWritten, setOver, setBytes}
+use Rattle.ring_members.specs.Laws.{members-links}
 use Rattle.ring_members.specs.Back.{set-is}
 use Rattle.station.specs.declared.Station.{Station as StationHead}
 use Rattle.station.specs.Whole.{Station, stationAt}
 use Rattle.station_words.specs.declared.Words.{Words}
 use Rattle.station_words.specs.Words.{wordsOf}
-use Rattle.station_bytes.specs.Bytes.{storesFrom, wordsStored, wordList, allBytes, stationBytes, stationInto}
+use Rattle.station_bytes.specs.Bytes.{ringIn, storesFrom, wordsStored, wordList, allBytes, stationBytes, stationInto}
 
 -- The words.
+
+-- four bytes make a number
+pub be-four :
+    (s : List ℕ) (at : ℕ)
+    → at + 4 ≤ length s
+    → be (take 4 (drop at s)) ≡ getD s at 0 * 16777216 + getD s (at + 1) 0 * 65536 + getD s (at + 2) 0 * 256 + getD s (at + 3) 0
+unfolding beFrom
+be-four s at h =
+    let none : be (take 0 (drop at s)) ≡ 0 = refl in
+    let here : getD s (at + 0) 0 ≡ getD s at 0 = ap (λ (n : ℕ). getD s n 0) (add-zero at) in
+    let one = be-suc s at 0 (omega (arith, h)) in
+    let two = be-suc s at 1 (omega (arith, h)) in
+    let three = be-suc s at 2 (omega (arith, h)) in
+    let four = be-suc s at 3 (omega (arith, h)) in
+    omega (arith, none, here, one, two, three, four)
+
+-- bytes with their weights make it
+pub four-is :
+    (s : List ℕ) (at a b c d : ℕ)
+    → at + 4 ≤ length s
+    → (a ≡ getD s at 0) × (a < 256)
+    → (b ≡ getD s (at + 1) 0) × (b < 256)
+    → (c ≡ getD s (at + 2) 0) × (c < 256)
+    → (d ≡ getD s (at + 3) 0) × (d < 256)
+    → (a * 16777216 + b * 65536 + c * 256 + d ≡ be (take 4 (drop at s))) × (a * 16777216 + b * 65536 + c * 256 + d < 4294967296)
+four-is s at a b c d h ea eb ec ed =
+    let all = be-four s at h in
+    (omega (arith, all, ea .0, eb .0, ec .0, ed .0), omega (arith, ea .1, eb .1, ec .1, ed .1))
+
+-- eight do, in halves
+pub be-eight : (s : List ℕ) (at : ℕ) → at + 8 ≤ length s → be (take 8 (drop at s)) ≡ be (take 4 (drop at s)) * 4294967296 + be (take 4 (drop (at + 4) s))
+be-eight s at h =
+    let half = be-four s (at + 4) (omega (arith, h)) in
+    let e1 : getD s (at + 4 + 1) 0 ≡ getD s (at + 5) 0 = ap (λ (n : ℕ). getD s n 0) (omega arith) in
+    let e2 : getD s (at + 4 + 2) 0 ≡ getD s (at + 6) 0 = ap (λ (n : ℕ). getD s n 0) (omega arith) in
+    let e3 : getD s (at + 4 + 3) 0 ≡ getD s (at + 7) 0 = ap (λ (n : ℕ). getD s n 0) (omega arith) in
+    let five = be-suc s at 4 (omega (arith, h)) in
+    let six = be-suc s at 5 (omega (arith, h)) in
+    let seven = be-suc s at 6 (omega (arith, h)) in
+    let eight = be-suc s at 7 (omega (arith, h)) in
+    omega (arith, half, e1, e2, e3, five, six, seven, eight)
+
+-- so a word is what its halves make
+pub word-is : (s : List ℕ) (at high low : ℕ) → at + 8 ≤ length s → high ≡ be (take 4 (drop at s)) → low ≡ be (take 4 (drop (at + 4) s)) → high * 4294967296 + low ≡ loadOf s at 8
+word-is s at high low h eh el = rw (eh, el) (sym (load-room s at 8 (lit≤ tt) h ∙ be-eight s at h))
 
 -- eight bytes a word
 pub all-length : (ws : List ℕ) → length (allBytes ws) ≡ 8 * length ws
@@ -124,3 +173,17 @@ station-too-long s out h = rw (lt-ltb (length out) 96 h) refl
 pub fresh-tables : (h r : Head) (links : List ℕ) → ringOf r links ≡ freshOf (h .own) → ringOf h links ≡ make (h .own) (only (h .own)) (h .laps) (h .ready)
 unfolding freshOf make
 fresh-tables h r links e = ap (λ (x : Ring). record { links = x .links; own = h .own; laps = h .laps; ready = h .ready }) e
+
+-- the tables of a set that own is in
+pub ring-linked :
+    (h : Head) (links set : List ℕ)
+    → cond (ltb (h .own) 126) (inSet set (h .own)) false ≡ true
+    → links ≡ linksOf (inSet set)
+    → ringOf h links ≡ ringIn h set
+unfolding ringIn make
+ring-linked h links set mine is =
+    cases (ltb (h .own) 126)
+    (λ t.
+    ap (λ (l : List ℕ). record { links = l; own = h .own; laps = h .laps; ready = h .ready }) is
+    ∙ sym (members-links (h .own) (h .laps) (h .ready) set (ltb-true (h .own) 126 t) (rw t at mine)))
+    (λ f. absurd (true≢false (sym (rw f at mine))))

@@ -2,11 +2,16 @@
 // wrote them. It leans on station_words and ring_members for what the bytes hold, on station_lines for what no station has, on trace for
 // the settings.
 ghost use mathlib.Core.Path.{_≡_};
+ghost use mathlib.Core.Bool.{false, cond};
 ghost use mathlib.Core.List.{[], _∷_};
+ghost use Prim.Native.Nat.{_+_, _<_, _≤_};
+ghost use lib.ListN.{length, take, drop};
+ghost use lib.Dec.{ltb};
+ghost use Rattle.codec_fields.specs.Fields.{be, loadOf};
 ghost use Rattle.station.specs.Whole.{stationAt};
 ghost use Rattle.ring.specs.Ring.{ringOf};
-ghost use Rattle.station_bytes.specs.Bytes.{storesFrom, wordsIn, headStation, wordsFit, setFits, ringIn, checkedIn, foundWith, foundIn, foundAt, wordsStored, stationInto};
-use codec_fields::load;
+ghost use Rattle.ring_members.specs.Members.{inSet};
+ghost use Rattle.station_bytes.specs.Bytes.{storesFrom, fiveIn, wordsIn, headStation, wordsFit, setFits, ringIn, checkedIn, foundWith, foundIn, foundAt, wordsStored, stationInto};
 use codec_fields::store;
 use ring::Head;
 use ring_members::in_set;
@@ -21,21 +26,73 @@ pub enum Reading {
     Nothing,
 }
 
+// A byte as a wide number.
+fn wide(b: u8) -> u64
+    ensures { λ r. ⌜ (r ≡ b) × (r < 256) ⌝ }
+{
+    b as u64
+}
+
+// The number that four bytes from `at` on are, the first the highest.
+fn four(bytes: &[u8], at: usize) -> u64
+    requires { ⌜ at + 4 ≤ length (now bytes) ⌝ }
+    ensures { λ r. ⌜ (r ≡ be (take 4 (drop at (now (bytes .entry))))) × (r < 4294967296) ⌝ }
+{
+    wide(bytes[at]) * 16777216
+        + wide(bytes[at + 1]) * 65536
+        + wide(bytes[at + 2]) * 256
+        + wide(bytes[at + 3])
+}
+
+// The word of the eight bytes from `at` on. In halves, each a sum: so the compiler makes one load of it.
+fn word_at(bytes: &[u8], at: usize) -> u64
+    requires { ⌜ at + 8 ≤ length (now bytes) ⌝ }
+    ensures { λ r. ⌜ r ≡ loadOf (now (bytes .entry)) at 8 ⌝ }
+{
+    four(bytes, at) * 4294967296 + four(bytes, at + 4)
+}
+
+// Five words one after the other.
+struct Five {
+    a: u64,
+    b: u64,
+    c: u64,
+    d: u64,
+    e: u64,
+}
+
+// The five words from `at` on.
+fn read_five(bytes: &[u8], at: usize) -> Five
+    requires { ⌜ at + 40 ≤ length (now bytes) ⌝ }
+    ensures { λ r. ⌜ r ≡ fiveIn (now (bytes .entry)) at ⌝ }
+{
+    Five {
+        a: word_at(bytes, at),
+        b: word_at(bytes, at + 8),
+        c: word_at(bytes, at + 16),
+        d: word_at(bytes, at + 24),
+        e: word_at(bytes, at + 32),
+    }
+}
+
 // The ten words.
 fn read_words(bytes: &[u8]) -> Words
+    requires { ⌜ 80 ≤ length (now bytes) ⌝ }
     ensures { λ r. ⌜ r ≡ wordsIn (now (bytes .entry)) ⌝ }
 {
+    let one = read_five(bytes, 0);
+    let two = read_five(bytes, 40);
     Words {
-        first: load(bytes, 0, 8),
-        settings: load(bytes, 8, 8),
-        limits: load(bytes, 16, 8),
-        state: load(bytes, 24, 8),
-        token_time: load(bytes, 32, 8),
-        last_token_time: load(bytes, 40, 8),
-        end_token_hold_time: load(bytes, 48, 8),
-        last_bus_activity: load(bytes, 56, 8),
-        counts: load(bytes, 64, 8),
-        numbers: load(bytes, 72, 8),
+        first: one.a,
+        settings: one.b,
+        limits: one.c,
+        state: one.d,
+        token_time: one.e,
+        last_token_time: two.a,
+        end_token_hold_time: two.b,
+        last_bus_activity: two.c,
+        counts: two.d,
+        numbers: two.e,
     }
 }
 
@@ -125,50 +182,68 @@ pub fn read_station(bytes: &[u8]) -> Reading
     found_in(read_words(bytes), &bytes[80..96])
 }
 
-// Makes the tables of a ring: own alone, and then the set of its members.
-pub fn make_ring(head: Head, links: &mut [u8; 252], set: &[u8])
+// Makes the tables of a ring one by one: own alone, and then the set of its members.
+fn add_all(head: Head, links: &mut [u8; 252], set: &[u8])
     ensures { λ _. ⌜ ringOf head (now (links .exit)) ≡ ringIn head (now (set .entry)) ⌝ }
 {
     ring::fresh(links, head.own);
     ring_members::add_members(head, links, set);
 }
 
-// Writes the first five words.
-fn write_first(out: &mut [u8], a: u64, b: u64, c: u64, d: u64, e: u64)
-    ensures { λ _. ⌜ now (out .exit) ≡ storesFrom 0 (a ∷ b ∷ c ∷ d ∷ e ∷ []) (now (out .entry)) ⌝ }
+// Whether own is an address, and in a set.
+fn own_in(set: &[u8], own: u8) -> bool
+    ensures { λ r. ⌜ r ≡ cond (ltb own 126) (inSet (now (set .entry)) own) false ⌝ }
 {
-    store(out, 0, 8, a);
-    store(out, 8, 8, b);
-    store(out, 16, 8, c);
-    store(out, 24, 8, d);
-    store(out, 32, 8, e);
+    if own < 126 {
+        return in_set(set, own);
+    }
+    false
 }
 
-// Writes the last five.
-fn write_last(out: &mut [u8], a: u64, b: u64, c: u64, d: u64, e: u64)
-    ensures { λ _. ⌜ now (out .exit) ≡ storesFrom 40 (a ∷ b ∷ c ∷ d ∷ e ∷ []) (now (out .entry)) ⌝ }
+// Makes the tables of a ring: own alone, and then the set of its members. A set that own is in, as it is in what a station writes, is
+// linked in one pass.
+pub fn make_ring(head: Head, links: &mut [u8; 252], set: &[u8])
+    ensures { λ _. ⌜ ringOf head (now (links .exit)) ≡ ringIn head (now (set .entry)) ⌝ }
 {
-    store(out, 40, 8, a);
-    store(out, 48, 8, b);
-    store(out, 56, 8, c);
-    store(out, 64, 8, d);
-    store(out, 72, 8, e);
+    if own_in(set, head.own) {
+        ring_members::link_members(links, set);
+        return;
+    }
+    add_all(head, links, set);
+}
+
+// Writes five words one after the other from `at` on.
+fn write_five(out: &mut [u8], at: usize, a: u64, b: u64, c: u64, d: u64, e: u64)
+    requires { ⌜ at ≤ 40 ⌝ }
+    ensures { λ _. ⌜ now (out .exit) ≡ storesFrom at (a ∷ b ∷ c ∷ d ∷ e ∷ []) (now (out .entry)) ⌝ }
+{
+    store(out, at, 8, a);
+    let second = at + 8;
+    store(out, second, 8, b);
+    let third = second + 8;
+    store(out, third, 8, c);
+    let fourth = third + 8;
+    store(out, fourth, 8, d);
+    let fifth = fourth + 8;
+    store(out, fifth, 8, e);
 }
 
 // Writes the ten words.
 fn write_words(out: &mut [u8], words: Words)
     ensures { λ _. ⌜ now (out .exit) ≡ wordsStored (now (out .entry)) words ⌝ }
 {
-    write_first(
+    write_five(
         out,
+        0,
         words.first,
         words.settings,
         words.limits,
         words.state,
         words.token_time,
     );
-    write_last(
+    write_five(
         out,
+        40,
         words.last_token_time,
         words.end_token_hold_time,
         words.last_bus_activity,

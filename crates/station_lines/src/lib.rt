@@ -2,7 +2,7 @@
 // that these lines are those of a sound station. It leans on station and settings for what is asked, and on station_words for whether
 // the last bus activity is known.
 ghost use mathlib.Core.Path.{_≡_};
-ghost use Rattle.station_lines.specs.Lines.{lowLine, oneLine, heldLine, listensLine, idlesLine, usesLine, awaitsLine, passesLine, asksLine, restsLine, stateLine, gapLine, withinLine, activityLine, noToken, countsFrom, gapTime, holdLine, coreLine, offlineLine, soundLine};
+ghost use Rattle.station_lines.specs.Lines.{lowLine, apartLine, otherLine, oneLine, heldLine, listensLine, idlesLine, unaskedLine, usesLine, claimsLine, awaitsLine, passesLine, polledLine, asksLine, notedLine, restsLine, stateLine, inGapLine, gapLine, withinLine, activityLine, noToken, countsFrom, gapTime, holdLine, coreLine, offlineLine, restingLine, freshLine, startsLine, soundLine};
 use bit_times::Bits;
 use bit_times::Micros;
 use ring::GapState;
@@ -29,6 +29,26 @@ fn low_line(address: OptionAddress) -> bool
     }
 }
 
+// An address below 128 that is not our own.
+fn apart_line(address: u8, own: u8) -> bool
+    ensures { λ r. ⌜ r ≡ apartLine address own ⌝ }
+{
+    if address == own {
+        return false;
+    }
+    address < 128
+}
+
+// No address, or such a one.
+fn other_line(address: OptionAddress, own: u8) -> bool
+    ensures { λ r. ⌜ r ≡ otherLine address own ⌝ }
+{
+    match address {
+        OptionAddress::None => true,
+        OptionAddress::Some(a) => apart_line(a, own),
+    }
+}
+
 // No application, or one of so many.
 fn one_line(application: OptionApplication, applications: u8) -> bool
     ensures { λ r. ⌜ r ≡ oneLine application applications ⌝ }
@@ -51,30 +71,46 @@ fn held_line(token: UseTokenData, applications: u8) -> bool
     false
 }
 
-// ListenToken: a low address, and at most one collision.
-fn listens_line(request: OptionAddress, collisions: u8) -> bool
-    ensures { λ r. ⌜ r ≡ listensLine request collisions ⌝ }
+// ListenToken: another station's address, and at most one collision.
+fn listens_line(request: OptionAddress, collisions: u8, own: u8) -> bool
+    ensures { λ r. ⌜ r ≡ listensLine request collisions own ⌝ }
 {
-    if low_line(request) {
+    if other_line(request, own) {
         return collisions <= 1;
     }
     false
 }
 
-// ActiveIdle: two of them, and the last bus activity is known.
-fn idles_line(request: OptionAddress, previous: OptionAddress, collisions: u8, known: bool) -> bool
-    ensures { λ r. ⌜ r ≡ idlesLine request previous collisions known ⌝ }
+// ActiveIdle: the remembered station is another one, who asked may be any, and the last bus activity is known.
+fn idles_line(
+    request: OptionAddress,
+    previous: OptionAddress,
+    collisions: u8,
+    own: u8,
+    known: bool,
+) -> bool
+    ensures { λ r. ⌜ r ≡ idlesLine request previous collisions own known ⌝ }
 {
     if known {
-        if low_line(previous) {
-            return listens_line(request, collisions);
+        if low_line(request) {
+            return listens_line(previous, collisions, own);
         }
         return false;
     }
     false
 }
 
-// UseToken: the token in hand is the last token, once its first cycle is done.
+// With a token no application was asked yet.
+fn unasked_line(first: OptionApplication) -> bool
+    ensures { λ r. ⌜ r ≡ unaskedLine first ⌝ }
+{
+    match first {
+        OptionApplication::None => true,
+        OptionApplication::Some(_) => false,
+    }
+}
+
+// UseToken: the token in hand is the last token, once its first cycle is done; before that it is a new one.
 fn uses_line(cycled: bool, token: UseTokenData, applications: u8, known: bool, last: Micros) -> bool
     ensures { λ r. ⌜ r ≡ usesLine cycled token applications known last ⌝ }
 {
@@ -84,7 +120,8 @@ fn uses_line(cycled: bool, token: UseTokenData, applications: u8, known: bool, l
                 let time = token.token_time;
                 return time.0 == last.0;
             }
-            return true;
+            let first = token.first_app;
+            return unasked_line(first);
         }
         return false;
     }
@@ -107,6 +144,16 @@ fn awaits_line(
     false
 }
 
+// ClaimToken: the first token is sent.
+fn claims_line(first: bool, known: bool) -> bool
+    ensures { λ r. ⌜ r ≡ claimsLine first known ⌝ }
+{
+    if first {
+        return false;
+    }
+    known
+}
+
 // PassToken: at its first attempt.
 fn passes_line(attempt: PassTokenAttempt, known: bool) -> bool
     ensures { λ r. ⌜ r ≡ passesLine attempt known ⌝ }
@@ -118,57 +165,100 @@ fn passes_line(attempt: PassTokenAttempt, known: bool) -> bool
     }
 }
 
-// AwaitStatusResponse.
-fn asks_line(address: u8, known: bool) -> bool
-    ensures { λ r. ⌜ r ≡ asksLine address known ⌝ }
+// Whether this is the address that the gap state polls.
+fn polled_line(gap: GapState, address: u8) -> bool
+    ensures { λ r. ⌜ r ≡ polledLine gap address ⌝ }
+{
+    match gap {
+        GapState::Waiting { .. } => false,
+        GapState::DoPoll { current_address } => current_address == address,
+    }
+}
+
+// AwaitStatusResponse: the status of the address that the gap state polls.
+fn asks_line(address: u8, gap: GapState, known: bool) -> bool
+    ensures { λ r. ⌜ r ≡ asksLine address gap known ⌝ }
 {
     if known {
-        return address < 128;
+        return polled_line(gap, address);
     }
     false
 }
 
-// PassiveIdle: the last bus activity is known once a request is noted.
-fn rests_line(request: OptionAddress, known: bool) -> bool
-    ensures { λ r. ⌜ r ≡ restsLine request known ⌝ }
+// Another station's request that is noted: the last bus activity is known.
+fn noted_line(source: u8, own: u8, known: bool) -> bool
+    ensures { λ r. ⌜ r ≡ notedLine source own known ⌝ }
+{
+    if known {
+        return apart_line(source, own);
+    }
+    false
+}
+
+// PassiveIdle, with a request or with none.
+fn rests_line(request: OptionAddress, own: u8, known: bool) -> bool
+    ensures { λ r. ⌜ r ≡ restsLine request own known ⌝ }
 {
     match request {
         OptionAddress::None => true,
-        OptionAddress::Some(a) => asks_line(a, known),
+        OptionAddress::Some(source) => noted_line(source, own, known),
     }
 }
 
-// What a state holds, by whether the last bus activity is known and by the last token time.
-fn state_line(state: State, applications: u8, known: bool, last: Micros) -> bool
-    ensures { λ r. ⌜ r ≡ stateLine state applications known last ⌝ }
+// What a state holds, by our own address, by the gap state, by whether the last bus activity is known and by the last token time.
+fn state_line(
+    state: State,
+    own: u8,
+    applications: u8,
+    gap: GapState,
+    known: bool,
+    last: Micros,
+) -> bool
+    ensures { λ r. ⌜ r ≡ stateLine state own applications gap known last ⌝ }
 {
     match state {
         State::Offline => true,
         State::ListenToken {
             status_request,
             collision_count,
-        } => listens_line(status_request, collision_count),
+        } => listens_line(status_request, collision_count, own),
         State::ActiveIdle {
             status_request,
             new_previous_station,
             collision_count,
-        } => idles_line(status_request, new_previous_station, collision_count, known),
+        } => idles_line(
+            status_request,
+            new_previous_station,
+            collision_count,
+            own,
+            known,
+        ),
         State::UseToken {
             first_cycle_done,
             data,
         } => uses_line(first_cycle_done, data, applications, known, last),
-        State::ClaimToken { .. } => known,
+        State::ClaimToken { first } => claims_line(first, known),
         State::AwaitDataResponse { address, data } => {
             awaits_line(address, data, applications, known, last)
         }
         State::PassToken { attempt, .. } => passes_line(attempt, known),
         State::CheckTokenPass { .. } => known,
-        State::AwaitStatusResponse { address } => asks_line(address, known),
-        State::PassiveIdle { status_request } => rests_line(status_request, known),
+        State::AwaitStatusResponse { address } => asks_line(address, gap, known),
+        State::PassiveIdle { status_request } => rests_line(status_request, own, known),
     }
 }
 
-// The gap's count is at most one above the settings' gap wait, the address it polls below 126.
+// An address that is asked in the gap.
+fn in_gap_line(p: Parameters, address: u8) -> bool
+    ensures { λ r. ⌜ r ≡ inGapLine p address ⌝ }
+{
+    if address == p.address {
+        return false;
+    }
+    address < p.highest_station_address
+}
+
+// The gap's count is at most one above the settings' gap wait, the address it polls is one that is asked.
 fn gap_line(p: Parameters, gap: GapState) -> bool
     ensures { λ r. ⌜ r ≡ gapLine p gap ⌝ }
 {
@@ -176,7 +266,7 @@ fn gap_line(p: Parameters, gap: GapState) -> bool
         GapState::Waiting { rotation_count } => {
             rotation_count <= p.gap_wait_rotations as u16 + 1
         }
-        GapState::DoPoll { current_address } => current_address < 126,
+        GapState::DoPoll { current_address } => in_gap_line(p, current_address),
     }
 }
 
@@ -262,10 +352,13 @@ fn core_line(p: Parameters, applications: u8, core: Core) -> bool
     let last = core.last_token_time;
     let end = core.end_token_hold_time;
     if core.next_application < applications {
-        if gap_line(p, gap) {
-            if activity_line(p, activity) {
-                if last.0 < 281474976710656 {
-                    return hold_line(p, last, end);
+        if core.pending_bytes < 2048 {
+            if gap_line(p, gap) {
+                if activity_line(p, activity) {
+                    if last.0 < 281474976710656 {
+                        return hold_line(p, last, end);
+                    }
+                    return false;
                 }
                 return false;
             }
@@ -287,17 +380,61 @@ fn offline_line(connectivity: ConnectivityState, state: State) -> bool
     }
 }
 
+// The gap state of a fresh station.
+fn resting_line(gap: GapState) -> bool
+    ensures { λ r. ⌜ r ≡ restingLine gap ⌝ }
+{
+    match gap {
+        GapState::Waiting { rotation_count } => rotation_count == 0,
+        GapState::DoPoll { .. } => false,
+    }
+}
+
+// A core as a fresh station's, but for the last bus activity and the connectivity state.
+fn fresh_line(core: Core) -> bool
+    ensures { λ r. ⌜ r ≡ freshLine core ⌝ }
+{
+    let gap = core.gap_state;
+    let last = core.last_token_time;
+    let end = core.end_token_hold_time;
+    if core.pending_bytes == 0 {
+        if core.next_application == 0 {
+            if resting_line(gap) {
+                return no_token(last, end);
+            }
+            return false;
+        }
+        return false;
+    }
+    false
+}
+
+// In Offline the core is such a one.
+fn starts_line(state: State, core: Core) -> bool
+    ensures { λ r. ⌜ r ≡ startsLine state core ⌝ }
+{
+    if state_number(state) == 0 {
+        return fresh_line(core);
+    }
+    true
+}
+
 // Whether a station can have this state, this core and these laps.
 pub fn sound_line(p: Parameters, applications: u8, state: State, core: Core, laps: u16) -> bool
     ensures { λ r. ⌜ r ≡ soundLine p applications state core laps ⌝ }
 {
     let connectivity = core.connectivity_state;
+    let gap = core.gap_state;
     let activity = core.last_bus_activity;
     let last = core.last_token_time;
+    let known = activity_known(activity);
     if laps <= 2 {
         if offline_line(connectivity, state) {
-            if state_line(state, applications, activity_known(activity), last) {
-                return core_line(p, applications, core);
+            if starts_line(state, core) {
+                if state_line(state, p.address, applications, gap, known, last) {
+                    return core_line(p, applications, core);
+                }
+                return false;
             }
             return false;
         }

@@ -1,13 +1,11 @@
 -- One silent poll of a station that waits for the lost token: Offline and online, ListenToken, ActiveIdle.
-use Prim.Native.Nat.{ℕ, _+_, _*_, _≤_}
+use Prim.Native.Nat.{ℕ}
 use mathlib.Core.Bool.{Bool, true, false}
 use mathlib.Core.Path.{_≡_, refl, sym, ap, _∙_}
 use mathlib.Core.List.{List}
 use native.Mathlib.Omega.{arith}
-use native.Mathlib.Nat.{mul-le-mul}
 use borrow.Table.Steps.{cases}
 use Rattle.bit_times.specs.declared.Micros.{Micros}
-use Rattle.bit_times.specs.Laws.{time-grows}
 use Rattle.settings.specs.declared.Parameters.{Parameters}
 use Rattle.settings.specs.Settings.{slotTimeOf, tokenLostOf}
 use Rattle.ring.specs.Ring.{Ring}
@@ -24,6 +22,7 @@ use Rattle.station.specs.Whole.{RingStep}
 use Rattle.station.specs.Steps.{pauseOf, tokenLostWaitOf, busyOf, doneOf, transmitOf, heardOf}
 use Rattle.station_listen.specs.Listen.{handleLostToken, respondOf, listenAnswered, listenResponse, heardAll, receivedAll, consumedAll, listenTokenOn, listenTokenOf, activeResponse, activeIdleOn, activeIdleOf, metIn, meetingsOf}
 use Rattle.station_poll.specs.Poll.{connectedOf, dispatchOf}
+use Rattle.theorem_sound.specs.Follows.{slot-lost}
 use Rattle.theorem_silence.specs.Silence.{slotAfter}
 use Rattle.theorem_silence.specs.Times.{Slotted, after-shorter, after-over, counted-free, waited-paused}
 use Rattle.theorem_silence.specs.Phases.{claiming}
@@ -47,14 +46,6 @@ pub data ListenTurn (p : Parameters) (now : Micros) (request : OptionAddress) (o
   waits : counts ≡ false → x .step .sent ≡ sent.Nothing → Listens request os p (x .step .state) (x .step .core) (x .ring) → ListenTurn p now request os counts x
 
 -- The lost-token timeout.
-
--- a slot is not longer
-pub slot-lost : (p : Parameters) → slotTimeOf p .0 ≤ tokenLostOf p .0
-unfolding slotTimeOf tokenLostOf
-slot-lost p =
-    let slot = p .«slot_bits» in
-    let times : slot * 1 ≤ slot * (6 + 2 * p .address) = mul-le-mul (omega arith) (omega arith) in
-    time-grows slot _ (p .baudrate) (omega arith)
 
 -- to come after it is what Silence says of the slot time, of another time
 pub lost-is : (a : Activity) (now timeout : ℕ) → lostAfter a now timeout ≡ slotAfter a now timeout

@@ -31,7 +31,8 @@ use Rattle.station_poll.specs.Poll.{connectedOf, dispatchOf, pollOnline, accept
 use Rattle.theorem_silence.specs.Silence.{Online}
 use Rattle.theorem_silence.specs.Times.{slotted}
 use Rattle.theorem_silence.specs.Theorem.{inner-online}
-use Rattle.theorem_any_start.specs.Listening.{Hears, listening, idle, slot-lost}
+use Rattle.theorem_sound.specs.Follows.{slot-lost}
+use Rattle.theorem_any_start.specs.Listening.{Hears, listening, idle}
 
 -- a time that is not zero has not passed since now
 not-over : (c : Core) (now time : Micros) → c .«last_bus_activity» ≡ activity.At now → 1 ≤ time .0 → waitedOf c now time .over ≡ false

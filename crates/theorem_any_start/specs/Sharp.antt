@@ -29,8 +29,9 @@ use Rattle.theorem_silence.specs.Phases.{Phase, asking, todo, longest, longest-
 use Rattle.theorem_silence.specs.OnePoll.{At}
 use Rattle.theorem_silence.specs.Theorem.{run-from}
 use Rattle.theorem_silence.specs.Sharp.{evenly, evenly-length, evenly-quiet, evenly-after, room-less, AllAfter, bytesTime, too-few-from}
+use Rattle.theorem_sound.specs.Follows.{slot-lost}
 use Rattle.theorem_any_start.specs.AnyStart.{AnyStart, lostCounted, lostCountedIn}
-use Rattle.theorem_any_start.specs.Listening.{slot-lost, lost-is}
+use Rattle.theorem_any_start.specs.Listening.{lost-is}
 use Rattle.theorem_any_start.specs.Theorem.{lost-fewer}
 
 -- m silent polls, each of them counted

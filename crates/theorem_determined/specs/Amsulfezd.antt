@@ -14,6 +14,9 @@ use Rattle.amsulfezd.proofs.amsulfezd_import_capture.Reads as import-capture-re
 use Rattle.amsulfezd.proofs.amsulfezd_export_capture.Reads as export-capture-reads
 use Rattle.amsulfezd.proofs.amsulfezd_open_station.Reads as open-station-reads
 use Rattle.amsulfezd.proofs.amsulfezd_step_station.Reads as step-station-reads
+use Rattle.amsulfezd.proofs.amsulfezd_station_counts.Reads as station-counts-reads
+use Rattle.amsulfezd.proofs.amsulfezd_step_heard.Reads as step-heard-reads
+use Rattle.amsulfezd.proofs.amsulfezd_table_heard.Reads as table-heard-reads
 use Rattle.amsulfezd.proofs.amsulfezd_new_settings.Reads as new-settings-reads
 use Rattle.amsulfezd.proofs.amsulfezd_set_slot_bits.Reads as set-slot-bits-reads
 use Rattle.amsulfezd.proofs.amsulfezd_set_highest_station_address.Reads as set-highest-station-address-reads
@@ -174,3 +177,25 @@ pub amsulfezd-step-station :
     → step-station-reads.Post κs a r₂ s₂
     → (r₁ ≡ r₂) × (now (s₁ .0) ≡ now (s₂ .0)) × (now (s₁ .1 .1 .0) ≡ now (s₂ .1 .1 .0))
 amsulfezd-step-station κs a r₁ r₂ s₁ s₂ p q = (p .0 ∙ sym (q .0), p .1 .0 ∙ sym (q .1 .0), p .1 .1 ∙ sym (q .1 .1))
+
+-- beside it: its counts, its step with a table, and what a table says of an address
+pub amsulfezd-station-counts :
+    (κs : _) (a : _) (r₁ r₂ : _) (s₁ s₂ : _)
+    → station-counts-reads.Post κs a r₁ s₁
+    → station-counts-reads.Post κs a r₂ s₂
+    → (r₁ ≡ r₂) × (now (s₁ .1 .0) ≡ now (s₂ .1 .0))
+amsulfezd-station-counts κs a r₁ r₂ s₁ s₂ p q = (p .0 ∙ sym (q .0), p .1 ∙ sym (q .1))
+
+pub amsulfezd-step-heard :
+    (κs : _) (a : _) (r₁ r₂ : _) (s₁ s₂ : _)
+    → step-heard-reads.Post κs a r₁ s₁
+    → step-heard-reads.Post κs a r₂ s₂
+    → (r₁ ≡ r₂) × (now (s₁ .0) ≡ now (s₂ .0)) × (now (s₁ .1 .1 .0) ≡ now (s₂ .1 .1 .0)) × (now (s₁ .1 .1 .1 .0) ≡ now (s₂ .1 .1 .1 .0))
+amsulfezd-step-heard κs a r₁ r₂ s₁ s₂ p q = (p .0 ∙ sym (q .0), p .1 .0 ∙ sym (q .1 .0), p .1 .1 .0 ∙ sym (q .1 .1 .0), p .1 .1 .1 ∙ sym (q .1 .1 .1))
+
+pub amsulfezd-table-heard :
+    (κs : _) (a : _) (r₁ r₂ : _) (s₁ s₂ : _)
+    → table-heard-reads.Post κs a r₁ s₁
+    → table-heard-reads.Post κs a r₂ s₂
+    → (r₁ ≡ r₂) × (now (s₁ .1 .1 .0) ≡ now (s₂ .1 .1 .0))
+amsulfezd-table-heard κs a r₁ r₂ s₁ s₂ p q = (p .0 ∙ sym (q .0), p .1 ∙ sym (q .1))

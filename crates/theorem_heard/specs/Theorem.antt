@@ -62,49 +62,62 @@ known-number hs address known = rw (le-ltb lastAddress address known) (go (ofAdd
     go [] = refl
     go (h ∷ hs) = refl
 
-module _ (trace : List ℕ) (address : ℕ) (before : List ℕ) (fresh : Station) (e : startOf trace ≡ Accepted fresh) (known : address ≤ lastAddress) (room : entryLength ≤ length before) where
+-- The run over a whole trace that starts a station, taken apart into entries.
+module _ (trace : List ℕ) (fresh : Station) where
   abbrev behind : List ℕ
   behind = drop (headerLength trace) trace
 
-  parts : Taken fresh behind (roomFor trace) (runOf fresh behind (roomFor trace))
+  pub parts : Taken fresh behind (roomFor trace) (runOf fresh behind (roomFor trace))
   parts = taken fresh behind (roomFor trace)
 
-  -- the call's number is the run's
-  returns : heardNumber trace address (length before) ≡ length (runOf fresh behind (roomFor trace) .answers) * 256 + runOf fresh behind (roomFor trace) .ending
-  unfolding heardNumber heardRefusal wholeNumber wholeNumberOn wholeReplay ranOf numberOf
-  returns = rw (le-ltb lastAddress address known, e, le-ltb (length before) entryLength room, replay-started trace (roomFor trace) fresh e)
+  -- the trace's bytes are the header's, those of the entries and the rest
+  pub parts-bytes : trace ≡ take (headerLength trace) trace ++ (laid (parts .entries) ++ parts .rest)
+  parts-bytes = sym (take-append-drop (headerLength trace) trace) ∙ ap (λ (l : List ℕ). take (headerLength trace) trace ++ l) (parts .bytes)
+
+  -- the rest is shorter than the room that is left for answers, so the run ends where no byte is left, or inside an entry
+  rest-short : 8 * length (parts .rest) ≤ roomFor trace - 8 * length (parts .entries)
+  rest-short =
+      omega (arith, ap length (parts .bytes), length-append (laid (parts .entries)) (parts .rest), laid-long (parts .entries), length-drop (headerLength trace) trace)
+
+  pub parts-stop :
+      ((parts .rest ≡ []) × (runOf fresh behind (roomFor trace) .ending ≡ 0)) ⊎ (Cut (parts .rest) × (runOf fresh behind (roomFor trace) .ending ≡ 17))
+  parts-stop = enough _ _ _ rest-short (parts .stops)
 
   -- what is heard in the trace is what its entries consumed
-  heard-is : heardIn trace ≡ consumedBy (headerOf trace .applications) (parts .entries) (along fresh (parts .entries) .answers)
+  pub heard-is : startOf trace ≡ Accepted fresh → heardIn trace ≡ consumedBy (headerOf trace .applications) (parts .entries) (along fresh (parts .entries) .answers)
   unfolding heardIn wholeReplay ranOf
-  heard-is =
+  heard-is e =
       let n = headerOf trace .applications in
       ap (λ (l : List Answer). consumedOver n behind l) (ap (λ (r : _). r .answers) (replay-started trace (roomFor trace) fresh e) ∙ parts .given)
       ∙ ap (λ (l : List ℕ). consumedOver n l (along fresh (parts .entries) .answers)) (parts .bytes)
       ∙ laid-consumed n (parts .entries) (parts .rest) (along fresh (parts .entries) .answers) (parts .whole) (along-length fresh (parts .entries))
+
+module _ (trace : List ℕ) (address : ℕ) (before : List ℕ) (fresh : Station) (e : startOf trace ≡ Accepted fresh) (known : address ≤ lastAddress) (room : entryLength ≤ length before) where
+  -- the call's number is the run's
+  returns :
+      heardNumber trace address (length before)
+      ≡ length (runOf fresh (behind trace fresh) (roomFor trace) .answers) * 256 + runOf fresh (behind trace fresh) (roomFor trace) .ending
+  unfolding heardNumber heardRefusal wholeNumber wholeNumberOn wholeReplay ranOf numberOf
+  returns = rw (le-ltb lastAddress address known, e, le-ltb (length before) entryLength room, replay-started trace (roomFor trace) fresh e)
 
   -- what is left
   leaves : heardInto trace address before ≡ entryBytes (shownOf (foundAfter trace address)) ++ drop entryLength before
   unfolding heardInto heardIntoOn foundAfter
   leaves = rw e (summary-shown (afreshOf (heardIn trace) address) before (known-number (heardIn trace) address known) room)
 
-  -- the rest is shorter than the room that is left for answers
-  rest-short : 8 * length (parts .rest) ≤ roomFor trace - 8 * length (parts .entries)
-  rest-short =
-      omega (arith, ap length (parts .bytes), length-append (laid (parts .entries)) (parts .rest), laid-long (parts .entries), length-drop (headerLength trace) trace)
-
   summarized : Summarized fresh trace address before (heardNumber trace address (length before)) (heardInto trace address before)
   unfolding foundAfter
   summarized =
+      let run = parts trace fresh in
       record {
-        entries = parts .entries;
-        rest = parts .rest;
-        whole = parts .whole;
-        bytes = sym (take-append-drop (headerLength trace) trace) ∙ ap (λ (l : List ℕ). take (headerLength trace) trace ++ l) (parts .bytes);
-        ending = runOf fresh behind (roomFor trace) .ending;
-        stops = enough _ _ _ rest-short (parts .stops);
-        number = returns ∙ rw (parts .given, along-length fresh (parts .entries));
-        shown = leaves ∙ ap (λ (hs : List Hearing). entryBytes (shownOf (afreshOf hs address)) ++ drop entryLength before) heard-is;
+        entries = run .entries;
+        rest = run .rest;
+        whole = run .whole;
+        bytes = parts-bytes trace fresh;
+        ending = runOf fresh (behind trace fresh) (roomFor trace) .ending;
+        stops = parts-stop trace fresh;
+        number = returns ∙ rw (run .given, along-length fresh (run .entries));
+        shown = leaves ∙ ap (λ (hs : List Hearing). entryBytes (shownOf (afreshOf hs address)) ++ drop entryLength before) (heard-is trace fresh e);
       }
 
 -- every trace that starts a station: its whole entries are answered, and the entry of the address is the one worked out afresh from

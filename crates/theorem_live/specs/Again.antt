@@ -1,5 +1,5 @@
 -- Bytes that are accepted are a station that is kept, so it goes on as if it had never been bytes; and what a refusal leaves.
-use Prim.Native.Nat.{ℕ, _<_, _^_}
+use Prim.Native.Nat.{ℕ}
 use mathlib.Core.Bool.{Bool, cond}
 use mathlib.Core.Path.{_≡_, refl, sym, ap, subst, _∙_}
 use mathlib.Core.List.{List, _++_}
@@ -11,7 +11,7 @@ use Rattle.station.specs.Whole.{Station}
 use Rattle.trace.specs.Trace.{settingsOf}
 use Rattle.trace.specs.Entries.{entryOf}
 use Rattle.station_words.specs.declared.Words.{Words}
-use Rattle.station_words.specs.Words.{coreIn, countsIn, headerIn}
+use Rattle.station_words.specs.Words.{countsIn, headerIn}
 use Rattle.station_words.specs.Laws.{CountsFit, PlainFits}
 use Rattle.station_bytes.specs.Bytes.{wordsIn, setIn, headStation, Taken, readOf, stationBytes, stationInto}
 use Rattle.live.specs.Live.{Stepped, Refusal, Answers, stepOf, stepInto, stepAnswer}
@@ -43,10 +43,6 @@ counts-in : (w : Words) → CountsFit (countsIn w)
 unfolding countsIn
 counts-in w = record { claims-fit = field-below (w .counts) 32 32; removals-fit = field-below (w .counts) 0 32; meetings-fit = field-below (w .numbers) 32 32 }
 
-pending-in : (w : Words) → coreIn w .«pending_bytes» < 2 ^ 16
-unfolding coreIn
-pending-in w = field-below (w .numbers) 16 16
-
 -- What was found is kept.
 found-kept : (w : Words) (set : List ℕ) (s : Station) → Found w set s → Kept s
 unfolding headStation
@@ -57,7 +53,6 @@ found-kept w set s k =
       sound = subst SoundStation (sym (k .is)) (found-sound w set s k);
       given = ap settingsOf (header-with (headerIn w) (k .p) a) ∙ k .settings;
       settings-fit = subst PlainFits (sym (a .built .same-numbers)) (plain-in w);
-      pending-fits = pending-in w;
       counts-fit = counts-in w;
     })
 

@@ -1,7 +1,7 @@
 -- The round trip: every sound station is read back from its bytes.
 use Prim.Native.Nat.{ℕ, _+_, _≤_, _<_, _^_}
 use mathlib.Core.Bool.{Bool, true, false, cond}
-use mathlib.Core.Path.{_≡_, refl, sym, ap, _∙_}
+use mathlib.Core.Path.{_≡_, refl, sym, ap, subst, _∙_}
 use mathlib.Core.List.{List, _++_, append-assoc}
 use native.Mathlib.Omega.{arith}
 use borrow.Author.Tests.{le-ltb}
@@ -50,8 +50,9 @@ use Rattle.station_bytes.specs.declared.Reading.{Reading}
 use Rattle.station_bytes.specs.declared.Reading.the-variants.{Is, Nothing}
 use Rattle.station_bytes.specs.Bytes.{wordsIn, setIn, headStation, wordsFit, setFits, checkedIn, foundWith, foundOn, foundIn, foundAt, ringIn, Taken, ringed, readOn, readOf, wordList, allBytes, stationWords, stationBytes}
 use Rattle.station_bytes.specs.Laws.{all-length, set-length}
-use Rattle.theorem_sound.specs.Moves.{Low, OneOf, GapAddressed, GapCounted}
-use Rattle.theorem_sound.specs.Lines.{Addressed, CollidedOnce, HeldIn, SoundCore}
+use Rattle.theorem_sound.specs.Moves.{Low, Other, OneOf, GapAddressed, GapCounted}
+use Rattle.theorem_sound.specs.Kept.{other-low}
+use Rattle.theorem_sound.specs.Lines.{Addressed, AskedInGap, CollidedOnce, HeldIn, SoundCore}
 use Rattle.theorem_sound.specs.Sizes.{Below, activity-below, hold-below}
 use Rattle.theorem_sound.specs.Follows.{SlotCoversPause, slot-covers-pause}
 use Rattle.theorem_sound.specs.Sound.{SoundStation}
@@ -65,7 +66,6 @@ pub record Kept (s : Station) : Type 0 where
   pub sound : SoundStation s
   pub given : settingsOf (headerWith (s .p) (s .applications)) ≡ created.Accepted (s .p)
   pub settings-fit : PlainFits (plainOf (s .p))
-  pub pending-fits : s .core .«pending_bytes» < 2 ^ 16
   pub counts-fit : CountsFit (s .counts)
 
 -- What it keeps fits its fields.
@@ -74,21 +74,24 @@ low-fits : (q : OptionAddress) → Low q → AddressFits q
 low-fits optionAddress.None l = tt
 low-fits (optionAddress.Some a) l = omega (arith, l)
 
+other-fits : (q : OptionAddress) (own : ℕ) → Other own q → AddressFits q
+other-fits q own o = low-fits q (other-low own q o)
+
 one-fits : (q : OptionApplication) (n : ℕ) → n ≤ 8 → OneOf n q → ApplicationFits q
 one-fits optionApplication.None n e l = tt
 one-fits (optionApplication.Some a) n e l = omega (arith, e, l)
 
-state-fits : (x : State) (n : ℕ) → n ≤ 8 → Addressed x → CollidedOnce x → HeldIn n x → StateFits x
-state-fits Offline n e a c h = tt
-state-fits (ListenToken q k) n e a c h = (low-fits q a, omega (arith, c))
-state-fits (ActiveIdle q m k) n e a c h = (low-fits q (a .0), (low-fits m (a .1), omega (arith, c)))
-state-fits (UseToken i d) n e a c h = one-fits (d .«first_app») n e (h .first-one)
-state-fits (ClaimToken f) n e a c h = tt
-state-fits (AwaitDataResponse b d) n e a c h = (omega (arith, a), one-fits (d .«first_app») n e (h .first-one))
-state-fits (PassToken g t) n e a c h = tt
-state-fits (CheckTokenPass t) n e a c h = tt
-state-fits (AwaitStatusResponse b) n e a c h = omega (arith, a)
-state-fits (PassiveIdle q) n e a c h = low-fits q a
+state-fits : (p : Parameters) (x : State) (g : GapState) (n : ℕ) → n ≤ 8 → Addressed (p .address) x → GapAddressed p g → AskedInGap x g → CollidedOnce x → HeldIn n x → StateFits x
+state-fits p Offline g n e a l i c h = tt
+state-fits p (ListenToken q k) g n e a l i c h = (other-fits q (p .address) a, omega (arith, c))
+state-fits p (ActiveIdle q m k) g n e a l i c h = (low-fits q (a .0), (other-fits m (p .address) (a .1), omega (arith, c)))
+state-fits p (UseToken t d) g n e a l i c h = one-fits (d .«first_app») n e (h .first-one)
+state-fits p (ClaimToken f) g n e a l i c h = tt
+state-fits p (AwaitDataResponse b d) g n e a l i c h = (omega (arith, a), one-fits (d .«first_app») n e (h .first-one))
+state-fits p (PassToken f t) g n e a l i c h = tt
+state-fits p (CheckTokenPass t) g n e a l i c h = tt
+state-fits p (AwaitStatusResponse b) g n e a l i c h = let q : GapAddressed p (DoPoll b) = subst (GapAddressed p) i l in omega (arith, q .low)
+state-fits p (PassiveIdle q) g n e a l i c h = other-fits q (p .address) a
 
 time-fits : (x : State) (n : ℕ) → HeldIn n x → stateNumbers x .«token_time» < 2 ^ 64
 unfolding stateNumbers plainNumbers heldNumbers
@@ -107,9 +110,9 @@ activity-fits : (a : Activity) → Below (2 ^ 49) a → activityTime a < 2 ^ 64
 activity-fits activity.Unknown b = lit< tt
 activity-fits (activity.At last) b = omega (arith, b)
 
-gap-fits : (p : Parameters) (g : GapState) → p .«gap_wait_rotations» ≤ 100 → GapAddressed g → GapCounted p g → gapNumber g < 2 ^ 8
+gap-fits : (p : Parameters) (g : GapState) → p .«gap_wait_rotations» ≤ 100 → GapAddressed p g → GapCounted p g → gapNumber g < 2 ^ 8
 gap-fits p (Waiting count) l a c = omega (arith, l, c)
-gap-fits p (DoPoll b) l a c = omega (arith, a)
+gap-fits p (DoPoll b) l a c = omega (arith, a .low)
 
 gap-wait-top : (p : Parameters) → firstRefusal (plainOf p) ≡ 0 → p .«gap_wait_rotations» ≤ 100
 unfolding plainOf gapWaitRefusal
@@ -136,11 +139,11 @@ module _ (s : Station) (k : Kept s) where
   fits =
       let w = k .sound .core-sound in
       record {
-        state-fits = state-fits (s .state) (s .applications) (k .sound .eight) (w .addresses) (w .collided-once) (w .token-held);
+        state-fits = state-fits (s .p) (s .state) (s .core .«gap_state») (s .applications) (k .sound .eight) (w .addresses) (w .gap-address) (w .asked-in-gap) (w .collided-once) (w .token-held);
         time-fits = time-fits (s .state) (s .applications) (w .token-held);
         core-fits = record {
           next-fits = omega (arith, w .next-one, k .sound .eight);
-          pending-fits = k .pending-fits;
+          pending-fits = omega (arith, w .pending-few);
           gap-fits = gap-fits (s .p) (s .core .«gap_state») (gap-wait-top (s .p) passed) (w .gap-address) (w .gap-count);
           last-fits = omega (arith, w .token-time);
           end-fits = omega (arith, hold-below (s .p) (s .applications) (s .state) (s .core) (rotation-top (s .p) passed) w);

@@ -18,7 +18,7 @@ use Rattle.settings_build.specs.Build.{firstRefusal, plainOf}
 use Rattle.settings_build.specs.Built.{built-passes}
 use Rattle.settings_build.specs.Passes.{address-low}
 use Rattle.station.specs.Whole.{Station}
-use Rattle.station.specs.Parts.{freshCore, freshStation}
+use Rattle.station.specs.Parts.{freshStation}
 use Rattle.trace_headers.specs.declared.Header.{Header}
 use Rattle.trace_headers.specs.declared.Edition.{Edition}
 use Rattle.trace_headers.specs.declared.Edition.the-variants.{First, Second}
@@ -99,7 +99,7 @@ header-with h p a =
 -- A station that a header opens.
 
 fresh-kept : (header : List ℕ) (p : Parameters) → settingsOf (headerOf header) ≡ created.Accepted p → Kept (freshStation p (headerOf header .applications))
-unfolding freshStation freshCore
+unfolding freshStation
 fresh-kept header p r =
     let h = headerOf header in
     let a = header-accepts h p r in
@@ -107,7 +107,6 @@ fresh-kept header p r =
       sound = new-sound p (h .applications) (address-low p (built-passes (h .settings) p (a .built))) (a .served);
       given = ap settingsOf (header-with h p a) ∙ r;
       settings-fit = subst PlainFits (sym (a .built .same-numbers)) (header-fits header);
-      pending-fits = lit< tt;
       counts-fit = record { claims-fit = lit< tt; removals-fit = lit< tt; meetings-fit = lit< tt };
     }
 

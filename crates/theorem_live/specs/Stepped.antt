@@ -34,7 +34,6 @@ use Rattle.station_bytes.specs.Bytes.{Read, Taken, readOf, wordList, allBytes, 
 use Rattle.station_bytes.specs.Laws.{all-length, set-length}
 use Rattle.live.specs.Live.{Stepped, Answers, stepFound, stepOn, stepOf, stepNumber, stepInto, stepAnswer}
 use Rattle.live.specs.Laws.{found-answered}
-use Rattle.theorem_sound.specs.Kept.{moves-pending}
 use Rattle.theorem_sound.specs.Keeps.{either}
 use Rattle.theorem_sound.specs.Sound.{SoundStation, Call, poll, online, offline, passive, call-made, call-sound, after}
 use Rattle.theorem_every_trace.specs.Statement.{Entry, Whole, along}
@@ -80,15 +79,18 @@ into-any out t l =
 said-whole : (word : ℕ) → storedOf (replicate 8 0) 0 8 word ≡ bytesOf word
 said-whole word = stored-room (replicate 8 0) 0 8 word (lit≤ tt) (lit≤ tt) ∙ append-nil (bytesOf word)
 
+-- a station that is kept is what its bytes are
+pub kept-back : (s : Station) → Kept s → readOf (stationBytes s) ≡ Taken s
+kept-back s k = ap readOf (sym (append-nil (stationBytes s))) ∙ station-back s k []
+
 -- a step of a station that is kept, by a whole entry
-step-is : (s : Station) (e : Entry) → Kept s → length (e .bytes) ≡ recordLength (e .kind) → stepOf (stationBytes s) (entryBytes e) 8 ≡ Answers (entryOf s (e .kind) (e .bytes)) (1 + recordLength (e .kind))
+pub step-is : (s : Station) (e : Entry) → Kept s → length (e .bytes) ≡ recordLength (e .kind) → stepOf (stationBytes s) (entryBytes e) 8 ≡ Answers (entryOf s (e .kind) (e .bytes)) (1 + recordLength (e .kind))
 unfolding stepOf stepOn
 step-is s e k w =
     let n = recordLength (e .kind) in
-    let back : readOf (stationBytes s) ≡ Taken s = ap readOf (sym (append-nil (stationBytes s))) ∙ station-back s k [] in
     let size : 1 + n - 1 ≡ n = omega arith in
     let all : take n (e .bytes) ≡ e .bytes = take-all n (e .bytes) (omega (arith, w)) in
-    ap (λ (r : Read). stepOn r (entryBytes e) 8) back
+    ap (λ (r : Read). stepOn r (entryBytes e) 8) (kept-back s k)
     ∙ found-answered s (entryBytes e) 8 (λ z. omega (arith, z)) n refl (omega (arith, w)) (lit≤ tt)
     ∙ ap (λ (m : ℕ). Answers (entryOf s (e .kind) (take m (e .bytes))) (1 + n)) size
     ∙ ap (λ (l : List ℕ). Answers (entryOf s (e .kind) l) (1 + n)) all
@@ -121,11 +123,10 @@ call-kept s c k =
           ∙ k .given
           ∙ ap created.Accepted (sym (m .settings-stay));
       settings-fit = subst (λ (q : Parameters). PlainFits (plainOf q)) (sym (m .settings-stay)) (k .settings-fit);
-      pending-fits = moves-pending (m .moves) (k .pending-fits);
       counts-fit = call-counts s c (k .counts-fit);
     }
 
-entry-kept : (s : Station) (e : Entry) → Kept s → Kept (then s e)
+pub entry-kept : (s : Station) (e : Entry) → Kept s → Kept (then s e)
 unfolding entryOf after
 entry-kept s e k =
     let P : Polled → Type 0 = λ x. Kept (x .station) in

@@ -65,7 +65,7 @@ use Rattle.station_answer.specs.Answer.{stepAnswer, polledOf, refusedPoll}
 use Rattle.station_command.specs.Command.{connectOf, onlineOf, offlineOf, passiveOf}
 use Rattle.theorem_sound.specs.Moves.{Low, Clock, GapAddressed}
 use Rattle.theorem_sound.specs.Lines.{Addressed, SoundCore}
-use Rattle.theorem_sound.specs.Kept.{hold-next, moves-keep}
+use Rattle.theorem_sound.specs.Kept.{other-low, hold-next, moves-keep}
 use Rattle.theorem_sound.specs.Keeps.{RingGood, either, again-good, remove-good}
 use Rattle.theorem_sound.specs.Hold.{AskedGood, asked-good}
 use Rattle.theorem_sound.specs.Pass.{advanced-good}
@@ -218,10 +218,10 @@ module _ (p : Parameters) (n : ℕ) (bytes : List ℕ) (count : ℕ) (now : Micr
   unfolding passSend
   pass-send-fits c r a g = pass-sent-fits _ c a _ _ (destination-low r (p .address) (g .sound) (g .own))
 
-  pass-poll-fits : (s : GapState) (c : Core) (r : Ring) (a : PassTokenAttempt) → GapAddressed s → RingGood p r → Fit (passPollOn s p c r now a)
+  pass-poll-fits : (s : GapState) (c : Core) (r : Ring) (a : PassTokenAttempt) → GapAddressed p s → RingGood p r → Fit (passPollOn s p c r now a)
   unfolding passPollOn
   pass-poll-fits (Waiting count) c r a l g = pass-send-fits c r a g
-  pass-poll-fits (DoPoll current) c r a l g = record { step-fits = transmit-fits p _ _ now _ (omega arith) }
+  pass-poll-fits (DoPoll current) c r a l g = record { step-fits = transmit-fits p _ _ now _ (omega (arith, l .low)) }
 
   pass-fits : (c : Core) (r : Ring) (gap : Bool) (a : PassTokenAttempt) → RingGood p r → Fit (passTokenOf p c r now gap a)
   unfolding passTokenOf passPoll withGap
@@ -267,10 +267,10 @@ module _ (p : Parameters) (n : ℕ) (bytes : List ℕ) (count : ℕ) (now : Micr
       (either Fit (ltb 0 count) _ _ (all-fits _) (record { step-fits = done-fits _ _ _ }))
 
   -- poll_inner
-  dispatch-fits : (x : State) (c : Core) (r : Ring) → Addressed x → c .«next_application» < n → RingGood p r → Fit (dispatchOf p x c r now bytes n count)
+  dispatch-fits : (x : State) (c : Core) (r : Ring) → Addressed (p .address) x → c .«next_application» < n → RingGood p r → Fit (dispatchOf p x c r now bytes n count)
   unfolding dispatchOf
   dispatch-fits Offline c r l b g = record { step-fits = done-fits _ _ _ }
-  dispatch-fits (ListenToken q m) c r l b g = listen-fits c r q m l
+  dispatch-fits (ListenToken q m) c r l b g = listen-fits c r q m (other-low (p .address) q l)
   dispatch-fits (ActiveIdle q m i) c r l b g = active-fits c r q m i (l .0)
   dispatch-fits (UseToken i d) c r l b g = record { step-fits = use-token-fits c d i b }
   dispatch-fits (ClaimToken f) c r l b g = claim-fits c r f
@@ -278,14 +278,14 @@ module _ (p : Parameters) (n : ℕ) (bytes : List ℕ) (count : ℕ) (now : Micr
   dispatch-fits (PassToken x a) c r l b g = pass-fits c r x a g
   dispatch-fits (CheckTokenPass a) c r l b g = check-fits c r a g
   dispatch-fits (AwaitStatusResponse a) c r l b g = await-status-fits c r a g
-  dispatch-fits (PassiveIdle q) c r l b g = passive-fits-on q c r l
+  dispatch-fits (PassiveIdle q) c r l b g = passive-fits-on q c r (other-low (p .address) q l)
 
   poll-online-fits : (x : State) (c : Core) (r : Ring) (t : Bool) (pending : ℕ) → SoundCore p n x (busActivityOf c now pending) → RingGood p r → Fit (pollOnline p x c r now t pending bytes n count)
   unfolding pollOnline
   poll-online-fits x c r t pending w g =
       either Fit (ongoingOf (c .«last_bus_activity») now t) _ _ (record { step-fits = done-fits _ _ _ }) (dispatch-fits x _ r (w .addresses) (w .next-one) g)
 
-  poll-inner-fits : (x : State) (c : Core) (r : Ring) (t : Bool) (pending : ℕ) → pending < 2 ^ 16 → Clock now → SoundCore p n x c → RingGood p r → Fit (pollInner p x c r now t pending bytes n count)
+  poll-inner-fits : (x : State) (c : Core) (r : Ring) (t : Bool) (pending : ℕ) → pending < 2 ^ 11 → Clock now → SoundCore p n x c → RingGood p r → Fit (pollInner p x c r now t pending bytes n count)
   unfolding pollInner
   poll-inner-fits x c r t pending few l w g = go (isOffline (c .«connectivity_state»)) refl
     where

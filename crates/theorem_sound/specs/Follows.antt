@@ -1,23 +1,24 @@
 -- Where a poll can leave a station, state by state, as a table; and the attempt at which a token pass stands between two polls. The
 -- theorems are in Sound.antt. Both are said of settings whose slot is not shorter than the pause, as that of accepted settings is.
-use Prim.Native.Nat.{ℕ, _+_, _≤_}
+use Prim.Native.Nat.{ℕ, _+_, _*_, _≤_}
 use mathlib.Core.Bool.{Bool, true, false, cond}
 use mathlib.Core.Path.{_≡_, refl}
 use mathlib.Core.List.{List, [], _∷_}
 use native.Mathlib.Omega.{arith}
+use native.Mathlib.Nat.{mul-le-mul}
 use borrow.Author.Tests.{leb-true, leb-false}
 use lib.Dec.{eqb}
 use lib.ListN.{getD}
 use Rattle.bit_times.specs.declared.Micros.{Micros}
 use Rattle.bit_times.specs.Times.{pauseBits, timeOf}
 use Rattle.settings.specs.declared.Parameters.{Parameters}
-use Rattle.settings.specs.Settings.{slotTimeOf}
+use Rattle.settings.specs.Settings.{slotTimeOf, tokenLostOf}
 use Rattle.station.specs.declared.PassTokenAttempt.the-variants.{First}
 use Rattle.station.specs.declared.State.{State}
 use Rattle.station.specs.declared.State.the-variants.{Offline, ListenToken, ActiveIdle, UseToken, ClaimToken, AwaitDataResponse, PassToken, CheckTokenPass, AwaitStatusResponse, PassiveIdle}
 use Rattle.station.specs.declared.Core.{Core}
-use Rattle.station.specs.Parts.{stateNumber}
-use Rattle.station.specs.Steps.{knownAt, elapsedOf, waitedOf, pauseOf, slotExpiredOf}
+use Rattle.station.specs.Parts.{withActivity, stateNumber}
+use Rattle.station.specs.Steps.{knownAt, elapsedOf, waitedOf, pauseOf, slotExpiredOf, tokenLostWaitOf}
 use Rattle.theorem_sound.specs.Moves.{lists, listenTokenFrom, activeIdleFrom, useTokenFrom, claimTokenFrom, awaitDataResponseFrom, passTokenFrom, checkTokenPassFrom, awaitStatusResponseFrom, passiveIdleFrom}
 use Rattle.bit_times.specs.Laws.{time-grows}
 
@@ -40,13 +41,14 @@ reached (CheckTokenPass attempt) = 1 ∷ 2 ∷ 3 ∷ 7 ∷ []
 reached (AwaitStatusResponse address) = 2 ∷ 3 ∷ 6 ∷ 7 ∷ 8 ∷ []
 reached (PassiveIdle request) = 0 ∷ 1 ∷ 4 ∷ 9 ∷ []
 
--- A token pass stands at its first attempt: the second and the third are sent in the poll that finds them due.
+-- A token pass stands at its first attempt: the second and the third are sent in the poll that finds them due. And of a claim the
+-- first token is sent: in the poll that finds the token lost.
 abbrev pub FirstAttempt : State → Type 0
 FirstAttempt Offline = Unit {0}
 FirstAttempt (ListenToken request collisions) = Unit {0}
 FirstAttempt (ActiveIdle request newPreviousStation collisions) = Unit {0}
 FirstAttempt (UseToken cycled held) = Unit {0}
-FirstAttempt (ClaimToken first) = Unit {0}
+FirstAttempt (ClaimToken first) = first ≡ false
 FirstAttempt (AwaitDataResponse address held) = Unit {0}
 FirstAttempt (PassToken gap attempt) = attempt ≡ First
 FirstAttempt (CheckTokenPass attempt) = Unit {0}
@@ -73,6 +75,21 @@ unfolding slotExpiredOf pauseOf waitedOf elapsedOf
 covered p c now s e f =
     let last = knownAt (c .«last_bus_activity») now .0 in
     omega (arith, leb-true (last + slotTimeOf p .0) (now .0) e, leb-false (last + timeOf (record { 0 = pauseBits }) (p .baudrate) .0) (now .0) f)
+
+-- the lost-token timeout is not shorter than a slot
+pub slot-lost : (p : Parameters) → slotTimeOf p .0 ≤ tokenLostOf p .0
+unfolding slotTimeOf tokenLostOf
+slot-lost p =
+    let slot = p .«slot_bits» in
+    let times : slot * 1 ≤ slot * (6 + 2 * p .address) = mul-le-mul (omega arith) (omega arith) in
+    time-grows slot _ (p .baudrate) (omega arith)
+
+-- where the token is lost the pause is over
+pub lost-covered : (p : Parameters) (c : Core) (now : Micros) → SlotCoversPause p → tokenLostWaitOf p c now .over ≡ true → pauseOf p (tokenLostWaitOf p c now .core) now .over ≡ false → ⊥
+unfolding tokenLostWaitOf pauseOf waitedOf elapsedOf withActivity knownAt
+lost-covered p c now s e f =
+    let last = knownAt (c .«last_bus_activity») now .0 in
+    omega (arith, slot-lost p, leb-true (last + tokenLostOf p .0) (now .0) e, leb-false (last + timeOf (record { 0 = pauseBits }) (p .baudrate) .0) (now .0) f)
 
 -- The table and the assertions: each state that the table has is joined to the one before by at most two transitions, each from a state
 -- that its `debug_assert_state!` names, or is Offline by set_offline. By the numbers of the states: the ones a transition may start from.

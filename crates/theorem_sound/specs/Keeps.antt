@@ -3,7 +3,7 @@
 use Prim.Native.Nat.{ℕ, _+_, _*_, _<_, _≤_}
 use mathlib.Core.Bool.{Bool, true, false, cond}
 use mathlib.Core.List.{List}
-use mathlib.Core.Path.{_≡_, refl, _∙_}
+use mathlib.Core.Path.{_≡_, refl, sym, _∙_}
 use native.Mathlib.Omega.{arith}
 use lib.ListN.{length}
 use lib.Dec.{ltb}
@@ -59,13 +59,15 @@ pub decision-low : (bytes : List ℕ) (n a : ℕ) (high : Bool) → DecisionLow 
 unfolding decisionAt
 decision-low bytes n a high = either DecisionLow (ltb a n) _ _ (word-low _) tt
 
--- the gap walk polls stations only
-pub gap-low : (r : Ring) (a hsa : ℕ) → SoundRing r → GapAddressed (gapOf r a hsa)
-gap-low r a hsa s = go (gapOf r a hsa) refl
+-- the gap walk polls addresses of the gap only
+pub gap-asked : (p : Parameters) (r : Ring) (a : ℕ) → RingGood p r → GapAddressed p (gapOf r a (p .«highest_station_address»))
+gap-asked p r a g = go (gapOf r a (p .«highest_station_address»)) refl
   where
-    go : (x : GapState) → gapOf r a hsa ≡ x → GapAddressed x
+    go : (x : GapState) → gapOf r a (p .«highest_station_address») ≡ x → GapAddressed p x
     go (Waiting count) e = tt
-    go (DoPoll x) e = gap-polls r a hsa x s e .low
+    go (DoPoll x) e =
+        let q = gap-polls r a (p .«highest_station_address») x (g .sound) e in
+        record { low = q .low; not-own = λ i. q .not-own (i ∙ sym (g .own)); below = q .below }
 
 -- a station's ring, by the calls of ring
 pub fresh-good : (p : Parameters) → p .address < 126 → RingGood p (freshOf (p .address))

@@ -27,8 +27,8 @@ use Rattle.station.specs.declared.Core.{Core}
 use Rattle.station.specs.Parts.{withActivity, withPending, withGap, withTokenTimes, withNextApplication, withConnectivity, freshCore, isOffline, stateNumber}
 use Rattle.station.specs.Steps.{knownAt, markedAt, sentAt}
 use Rattle.station_hold.specs.Hold.{holdLess, endOf, holdEndOf}
-use Rattle.theorem_sound.specs.Moves.{lists, activeIdleFrom, useTokenFrom, claimTokenFrom, awaitDataResponseFrom, passTokenFrom, checkTokenPassFrom, awaitStatusResponseFrom, In, Known, KnownWith, Low, Clock, HeldFits, GapAddressed, GapCounted, Move, waits, marks, sends, pends, holds, turns, gaps, listens, passives, idles, cycles, claims, passive-idle, listen-token, active-idle, use-token, claim-token, await-data-response, pass-token, check-token-pass, await-status-response, goes-offline, connects, Moves, keeps}
-use Rattle.theorem_sound.specs.Lines.{Addressed, CollidedOnce, KnownIn, HeldIn, LastToken, ActivityFits, HoldMade, SoundCore}
+use Rattle.theorem_sound.specs.Moves.{lists, activeIdleFrom, useTokenFrom, claimTokenFrom, awaitDataResponseFrom, passTokenFrom, checkTokenPassFrom, awaitStatusResponseFrom, In, Known, KnownWith, Low, Other, Clock, HeldFits, GapAddressed, GapCounted, Move, waits, marks, sends, pends, holds, turns, gaps, listens, passives, idles, cycles, claims, passive-idle, listen-token, active-idle, use-token, use-token-again, claim-token, await-data-response, pass-token, check-token-pass, await-status-response, goes-offline, connects, Moves, keeps}
+use Rattle.theorem_sound.specs.Lines.{Addressed, AskedInGap, CollidedOnce, FreshBut, FreshIn, KnownIn, HeldIn, UnaskedIn, LastToken, ActivityFits, HoldMade, SoundCore}
 
 -- no truth is false
 pub not-true : {A : Type 0} → false ≡ true → A
@@ -120,18 +120,63 @@ hold-set p c t l b =
     cases (eqb (c .«last_token_time» .0) (t .0)) (λ z. rw z b)
     (λ z. rw z (inr (record { from = c .«last_token_time»; clock = l; another = eqb-false _ _ z; gap = c .«gap_state»; end-is = refl })))
 
+-- another station has a low address
+pub other-low : (own : ℕ) (q : OptionAddress) → Other own q → Low q
+other-low own optionAddress.None o = tt
+other-low own (optionAddress.Some a) o = o .0
+
+-- what leaves the rest of the core leaves it as a fresh station's, in Offline
+fresh-stays : (x : State) (c d : Core) → (FreshBut c → FreshBut d) → FreshIn x c → FreshIn x d
+fresh-stays Offline c d f b = f b
+fresh-stays (ListenToken q k) c d f b = tt
+fresh-stays (ActiveIdle q m k) c d f b = tt
+fresh-stays (UseToken k e) c d f b = tt
+fresh-stays (ClaimToken k) c d f b = tt
+fresh-stays (AwaitDataResponse a e) c d f b = tt
+fresh-stays (PassToken g k) c d f b = tt
+fresh-stays (CheckTokenPass k) c d f b = tt
+fresh-stays (AwaitStatusResponse a) c d f b = tt
+fresh-stays (PassiveIdle q) c d f b = tt
+
+fresh-activity : (x : State) (c : Core) (a : Activity) → FreshIn x c → FreshIn x (withActivity c a)
+unfolding withActivity
+fresh-activity x c a =
+    fresh-stays x c (withActivity c a) (λ f. record { no-token = f .no-token; no-gap = f .no-gap; no-pending = f .no-pending; first-next = f .first-next })
+
+fresh-connects : (x : State) (c : Core) (v : ConnectivityState) → FreshIn x c → FreshIn x (withConnectivity c v)
+unfolding withConnectivity
+fresh-connects x c v =
+    fresh-stays x c (withConnectivity c v) (λ f. record { no-token = f .no-token; no-gap = f .no-gap; no-pending = f .no-pending; first-next = f .first-next })
+
+fresh-pends : (x : State) (c : Core) (pending : ℕ) → (x ≡ Offline → pending ≡ 0) → FreshIn x c → FreshIn x (withPending c pending)
+unfolding withPending
+fresh-pends Offline c pending none b = record { no-token = b .no-token; no-gap = b .no-gap; no-pending = none refl; first-next = b .first-next }
+fresh-pends (ListenToken q k) c pending none b = tt
+fresh-pends (ActiveIdle q m k) c pending none b = tt
+fresh-pends (UseToken k e) c pending none b = tt
+fresh-pends (ClaimToken k) c pending none b = tt
+fresh-pends (AwaitDataResponse a e) c pending none b = tt
+fresh-pends (PassToken g k) c pending none b = tt
+fresh-pends (CheckTokenPass k) c pending none b = tt
+fresh-pends (AwaitStatusResponse a) c pending none b = tt
+fresh-pends (PassiveIdle q) c pending none b = tt
+
+pub fresh-core : FreshBut freshCore
+unfolding freshCore
+fresh-core = record { no-token = record { no-last = refl; no-end = refl }; no-gap = refl; no-pending = refl; first-next = refl }
+
 -- What a line that speaks of the state alone has to say of each state that a move leads to.
-pub record OfStates (n : ℕ) (P : State → Type 0) : Type 0 where
+pub record OfStates (p : Parameters) (n : ℕ) (P : State → Type 0) : Type 0 where
   pub of-offline : P Offline
-  pub of-listen-token : (q : OptionAddress) (k : ℕ) → Low q → k ≤ 1 → P (ListenToken q k)
-  pub of-active-idle : (q m : OptionAddress) (k : ℕ) → Low q → Low m → k ≤ 1 → P (ActiveIdle q m k)
+  pub of-listen-token : (q : OptionAddress) (k : ℕ) → Other (p .address) q → k ≤ 1 → P (ListenToken q k)
+  pub of-active-idle : (q m : OptionAddress) (k : ℕ) → Low q → Other (p .address) m → k ≤ 1 → P (ActiveIdle q m k)
   pub of-use-token : (cycled : Bool) (held : UseTokenData) → HeldFits n held → P (UseToken cycled held)
   pub of-claim-token : (first : Bool) → P (ClaimToken first)
   pub of-await-data : (a : ℕ) (held : UseTokenData) → a < 128 → HeldFits n held → P (AwaitDataResponse a held)
   pub of-pass-token : (gap : Bool) (attempt : PassTokenAttempt) → P (PassToken gap attempt)
   pub of-check-token : (attempt : PassTokenAttempt) → P (CheckTokenPass attempt)
-  pub of-await-status : (a : ℕ) → a < 128 → P (AwaitStatusResponse a)
-  pub of-passive-idle : (q : OptionAddress) → Low q → P (PassiveIdle q)
+  pub of-await-status : (a : ℕ) → P (AwaitStatusResponse a)
+  pub of-passive-idle : (q : OptionAddress) → Other (p .address) q → P (PassiveIdle q)
 
 -- the end of hold leaves the activity and the rest
 hold-same : {A : Type 0} (p : Parameters) (c : Core) (t : Micros) (f : Core → A) → f (withTokenTimes c t (endOf (c .«last_token_time») (rotationTimeOf p) (holdLess p (c .«gap_state»)))) ≡ f c → f (holdEndOf p c t) ≡ f c
@@ -165,14 +210,14 @@ hold-last p c t = cases (eqb (c .«last_token_time» .0) (t .0)) (λ z. rw z (sy
 
 module _ {p : Parameters} {n : ℕ} {now : Micros} where
   -- a line that speaks of the state alone is kept
-  state-kept : {x y : State} {c d : Core} (P : State → Type 0) → OfStates n P → Move p n now x c y d → P x → P y
+  state-kept : {x y : State} {c d : Core} (P : State → Type 0) → OfStates p n P → Move p n now x c y d → P x → P y
   state-kept P o' waits b = b
   state-kept P o' marks b = b
   state-kept P o' (sends bytes l) b = b
-  state-kept P o' (pends pending few) b = b
+  state-kept P o' (pends pending few none) b = b
   state-kept P o' (holds held cycled f) b = b
-  state-kept P o' (turns a l) b = b
-  state-kept P o' (gaps g l h) b = b
+  state-kept P o' (turns held cycled a l) b = b
+  state-kept P o' (gaps gap attempt g l h) b = b
   state-kept P o' (listens q q' k k' l o) b = o' .of-listen-token q' k' l o
   state-kept P o' (passives q q' l w) b = o' .of-passive-idle q' l
   state-kept P o' (idles q q' m m' k k' l h o) b = o' .of-active-idle q' m' k' l h o
@@ -181,18 +226,19 @@ module _ {p : Parameters} {n : ℕ} {now : Micros} where
   state-kept P o' (listen-token i o) b = o' .of-listen-token _ 0 tt (lit≤ tt)
   state-kept P o' (passive-idle i o) b = o' .of-passive-idle _ tt
   state-kept P o' (active-idle i o) b = o' .of-active-idle _ _ 0 tt tt (lit≤ tt)
-  state-kept P o' (use-token held i f) b = o' .of-use-token false held f
+  state-kept P o' (use-token held i f z) b = o' .of-use-token false held f
+  state-kept P o' (use-token-again a held f t) b = o' .of-use-token true held f
   state-kept P o' (claim-token i o) b = o' .of-claim-token true
   state-kept P o' (await-data-response a held i l f t) b = o' .of-await-data a held l f
   state-kept P o' (pass-token gap attempt i) b = o' .of-pass-token gap attempt
   state-kept P o' (check-token-pass attempt i) b = o' .of-check-token attempt
-  state-kept P o' (await-status-response a i l) b = o' .of-await-status a l
+  state-kept P o' (await-status-response a i l) b = o' .of-await-status a
   state-kept P o' goes-offline b = o' .of-offline
   state-kept P o' (connects v l) b = b
 
-  addresses-kept : {x y : State} {c d : Core} → Move p n now x c y d → Addressed x → Addressed y
+  addresses-kept : {x y : State} {c d : Core} → Move p n now x c y d → Addressed (p .address) x → Addressed (p .address) y
   addresses-kept =
-      state-kept Addressed
+      state-kept (Addressed (p .address))
       (record {
         of-offline = tt;
         of-listen-token = λ q k l o. l;
@@ -202,7 +248,7 @@ module _ {p : Parameters} {n : ℕ} {now : Micros} where
         of-await-data = λ a held l f. l;
         of-pass-token = λ gap attempt. tt;
         of-check-token = λ attempt. tt;
-        of-await-status = λ a l. l;
+        of-await-status = λ a. tt;
         of-passive-idle = λ q l. l;
       })
 
@@ -218,7 +264,7 @@ module _ {p : Parameters} {n : ℕ} {now : Micros} where
         of-await-data = λ a held l f. tt;
         of-pass-token = λ gap attempt. tt;
         of-check-token = λ attempt. tt;
-        of-await-status = λ a l. tt;
+        of-await-status = λ a. tt;
         of-passive-idle = λ q l. tt;
       })
 
@@ -234,9 +280,36 @@ module _ {p : Parameters} {n : ℕ} {now : Micros} where
         of-await-data = λ a held l f. f;
         of-pass-token = λ gap attempt. tt;
         of-check-token = λ attempt. tt;
-        of-await-status = λ a l. tt;
+        of-await-status = λ a. tt;
         of-passive-idle = λ q l. tt;
       })
+
+  -- a new token
+  unasked-kept : {x y : State} {c d : Core} → Move p n now x c y d → UnaskedIn x → UnaskedIn y
+  unasked-kept waits b = b
+  unasked-kept marks b = b
+  unasked-kept (sends bytes l) b = b
+  unasked-kept (pends pending few none) b = b
+  unasked-kept (holds held cycled f) b = b
+  unasked-kept (turns held cycled a l) b = b
+  unasked-kept (gaps gap attempt g l h) b = tt
+  unasked-kept (listens q q' k k' l o) b = tt
+  unasked-kept (passives q q' l w) b = tt
+  unasked-kept (idles q q' m m' k k' l h o) b = tt
+  unasked-kept (cycles held kept cycled f t) b = tt
+  unasked-kept claims b = tt
+  unasked-kept (listen-token i o) b = tt
+  unasked-kept (passive-idle i o) b = tt
+  unasked-kept (active-idle i o) b = tt
+  unasked-kept (use-token held i f z) b = z
+  unasked-kept (use-token-again a held f t) b = tt
+  unasked-kept (claim-token i o) b = tt
+  unasked-kept (await-data-response a held i l f t) b = tt
+  unasked-kept (pass-token gap attempt i) b = tt
+  unasked-kept (check-token-pass attempt i) b = tt
+  unasked-kept (await-status-response a i l) b = tt
+  unasked-kept goes-offline b = tt
+  unasked-kept (connects v l) b = b
 
   -- the next application
   next-kept : {x y : State} {c d : Core} → Move p n now x c y d → c .«next_application» < n → d .«next_application» < n
@@ -244,10 +317,10 @@ module _ {p : Parameters} {n : ℕ} {now : Micros} where
   next-kept waits b = b
   next-kept marks b = b
   next-kept (sends bytes l) b = b
-  next-kept (pends pending few) b = b
+  next-kept (pends pending few none) b = b
   next-kept (holds held cycled f) b = rw hold-next b
-  next-kept (turns a l) b = l
-  next-kept (gaps g l h) b = b
+  next-kept (turns held cycled a l) b = l
+  next-kept (gaps gap attempt g l h) b = b
   next-kept (listens q q' k k' l o) b = b
   next-kept (passives q q' l w) b = b
   next-kept (idles q q' m m' k k' l h o) b = b
@@ -256,7 +329,8 @@ module _ {p : Parameters} {n : ℕ} {now : Micros} where
   next-kept (listen-token i o) b = b
   next-kept (passive-idle i o) b = b
   next-kept (active-idle i o) b = b
-  next-kept (use-token held i f) b = b
+  next-kept (use-token held i f z) b = b
+  next-kept (use-token-again a held f t) b = b
   next-kept (claim-token i o) b = b
   next-kept (await-data-response a held i l f t) b = b
   next-kept (pass-token gap attempt i) b = b
@@ -265,16 +339,16 @@ module _ {p : Parameters} {n : ℕ} {now : Micros} where
   next-kept goes-offline b = omega (arith, b)
   next-kept (connects v l) b = b
 
-  -- the pending bytes: no line of a sound core, but 16 bits hold them
-  pending-kept : {x y : State} {c d : Core} → Move p n now x c y d → c .«pending_bytes» < 2 ^ 16 → d .«pending_bytes» < 2 ^ 16
+  -- the pending bytes
+  pending-kept : {x y : State} {c d : Core} → Move p n now x c y d → c .«pending_bytes» < 2 ^ 11 → d .«pending_bytes» < 2 ^ 11
   unfolding withActivity withPending withGap withTokenTimes withNextApplication withConnectivity freshCore
   pending-kept waits b = b
   pending-kept marks b = b
   pending-kept (sends bytes l) b = b
-  pending-kept (pends pending few) b = few
+  pending-kept (pends pending few none) b = few
   pending-kept (holds held cycled f) b = rw hold-pending b
-  pending-kept (turns a l) b = b
-  pending-kept (gaps g l h) b = b
+  pending-kept (turns held cycled a l) b = b
+  pending-kept (gaps gap attempt g l h) b = b
   pending-kept (listens q q' k k' l o) b = b
   pending-kept (passives q q' l w) b = b
   pending-kept (idles q q' m m' k k' l h o) b = b
@@ -283,7 +357,8 @@ module _ {p : Parameters} {n : ℕ} {now : Micros} where
   pending-kept (listen-token i o) b = b
   pending-kept (passive-idle i o) b = b
   pending-kept (active-idle i o) b = b
-  pending-kept (use-token held i f) b = b
+  pending-kept (use-token held i f z) b = b
+  pending-kept (use-token-again a held f t) b = b
   pending-kept (claim-token i o) b = b
   pending-kept (await-data-response a held i l f t) b = b
   pending-kept (pass-token gap attempt i) b = b
@@ -293,15 +368,15 @@ module _ {p : Parameters} {n : ℕ} {now : Micros} where
   pending-kept (connects v l) b = b
 
   -- the gap state
-  gap-kept : {x y : State} {c d : Core} → Move p n now x c y d → GapAddressed (c .«gap_state») → GapAddressed (d .«gap_state»)
+  gap-kept : {x y : State} {c d : Core} → Move p n now x c y d → GapAddressed p (c .«gap_state») → GapAddressed p (d .«gap_state»)
   unfolding withActivity withPending withGap withTokenTimes withNextApplication withConnectivity freshCore
   gap-kept waits b = b
   gap-kept marks b = b
   gap-kept (sends bytes l) b = b
-  gap-kept (pends pending few) b = b
+  gap-kept (pends pending few none) b = b
   gap-kept (holds held cycled f) b = rw hold-gap b
-  gap-kept (turns a l) b = b
-  gap-kept (gaps g l h) b = l
+  gap-kept (turns held cycled a l) b = b
+  gap-kept (gaps gap attempt g l h) b = l
   gap-kept (listens q q' k k' l o) b = b
   gap-kept (passives q q' l w) b = b
   gap-kept (idles q q' m m' k k' l h o) b = b
@@ -310,7 +385,8 @@ module _ {p : Parameters} {n : ℕ} {now : Micros} where
   gap-kept (listen-token i o) b = b
   gap-kept (passive-idle i o) b = b
   gap-kept (active-idle i o) b = b
-  gap-kept (use-token held i f) b = b
+  gap-kept (use-token held i f z) b = b
+  gap-kept (use-token-again a held f t) b = b
   gap-kept (claim-token i o) b = b
   gap-kept (await-data-response a held i l f t) b = b
   gap-kept (pass-token gap attempt i) b = b
@@ -325,10 +401,10 @@ module _ {p : Parameters} {n : ℕ} {now : Micros} where
   count-kept waits b = b
   count-kept marks b = b
   count-kept (sends bytes l) b = b
-  count-kept (pends pending few) b = b
+  count-kept (pends pending few none) b = b
   count-kept (holds held cycled f) b = rw hold-gap b
-  count-kept (turns a l) b = b
-  count-kept (gaps g l h) b = h
+  count-kept (turns held cycled a l) b = b
+  count-kept (gaps gap attempt g l h) b = h
   count-kept (listens q q' k k' l o) b = b
   count-kept (passives q q' l w) b = b
   count-kept (idles q q' m m' k k' l h o) b = b
@@ -337,7 +413,8 @@ module _ {p : Parameters} {n : ℕ} {now : Micros} where
   count-kept (listen-token i o) b = b
   count-kept (passive-idle i o) b = b
   count-kept (active-idle i o) b = b
-  count-kept (use-token held i f) b = b
+  count-kept (use-token held i f z) b = b
+  count-kept (use-token-again a held f t) b = b
   count-kept (claim-token i o) b = b
   count-kept (await-data-response a held i l f t) b = b
   count-kept (pass-token gap attempt i) b = b
@@ -346,16 +423,44 @@ module _ {p : Parameters} {n : ℕ} {now : Micros} where
   count-kept goes-offline b = omega arith
   count-kept (connects v l) b = b
 
+  -- whose status is awaited
+  asked-kept : {x y : State} {c d : Core} → Move p n now x c y d → AskedInGap x (c .«gap_state») → AskedInGap y (d .«gap_state»)
+  unfolding withActivity withPending withGap withTokenTimes withNextApplication withConnectivity freshCore
+  asked-kept waits b = b
+  asked-kept marks b = b
+  asked-kept (sends bytes l) b = b
+  asked-kept (pends pending few none) b = b
+  asked-kept (holds held cycled f) b = tt
+  asked-kept (turns held cycled a l) b = b
+  asked-kept (gaps gap attempt g l h) b = tt
+  asked-kept (listens q q' k k' l o) b = tt
+  asked-kept (passives q q' l w) b = tt
+  asked-kept (idles q q' m m' k k' l h o) b = tt
+  asked-kept (cycles held kept cycled f t) b = tt
+  asked-kept claims b = tt
+  asked-kept (listen-token i o) b = tt
+  asked-kept (passive-idle i o) b = tt
+  asked-kept (active-idle i o) b = tt
+  asked-kept (use-token held i f z) b = tt
+  asked-kept (use-token-again a held f t) b = tt
+  asked-kept (claim-token i o) b = tt
+  asked-kept (await-data-response a held i l f t) b = tt
+  asked-kept (pass-token gap attempt i) b = tt
+  asked-kept (check-token-pass attempt i) b = tt
+  asked-kept (await-status-response a i e) b = e
+  asked-kept goes-offline b = tt
+  asked-kept (connects v l) b = b
+
   -- put offline means Offline
   offline-kept : {x y : State} {c d : Core} → Move p n now x c y d → (c .«connectivity_state» ≡ connectivity.Offline → x ≡ Offline) → d .«connectivity_state» ≡ connectivity.Offline → y ≡ Offline
   unfolding withActivity withPending withGap withTokenTimes withNextApplication withConnectivity freshCore
   offline-kept waits b = b
   offline-kept marks b = b
   offline-kept (sends bytes l) b = b
-  offline-kept (pends pending few) b = b
+  offline-kept (pends pending few none) b = b
   offline-kept (holds held cycled f) b = rw hold-online b
-  offline-kept (turns a l) b = b
-  offline-kept (gaps g l h) b = b
+  offline-kept (turns held cycled a l) b = b
+  offline-kept (gaps gap attempt g l h) b = b
   offline-kept (listens q q' k k' l o) b = online-at _ _ _ (λ z. no-zero z) b
   offline-kept (passives q q' l w) b = online-at _ _ _ (λ z. no-zero z) b
   offline-kept (idles q q' m m' k k' l h o) b = online-at _ _ _ (λ z. no-zero z) b
@@ -364,7 +469,8 @@ module _ {p : Parameters} {n : ℕ} {now : Micros} where
   offline-kept (passive-idle i o) b = λ f. absurd (not-passive _ o f)
   offline-kept (listen-token i o) b = λ f. absurd (o f)
   offline-kept {x} (active-idle i o) b = online-from activeIdleFrom x _ _ refl i b
-  offline-kept {x} (use-token held i f) b = online-from useTokenFrom x _ _ refl i b
+  offline-kept {x} (use-token held i f z) b = online-from useTokenFrom x _ _ refl i b
+  offline-kept (use-token-again a held f t) b = online-at _ _ _ (λ z. no-zero z) b
   offline-kept {x} (claim-token i o) b = online-from claimTokenFrom x _ _ refl i b
   offline-kept {x} (await-data-response a held i l f t) b = online-from awaitDataResponseFrom x _ _ refl i b
   offline-kept {x} (pass-token gap attempt i) b = online-from passTokenFrom x _ _ refl i b
@@ -373,16 +479,43 @@ module _ {p : Parameters} {n : ℕ} {now : Micros} where
   offline-kept goes-offline b = λ f. refl
   offline-kept (connects v l) b = λ f. absurd (l f)
 
+  -- in Offline the core is fresh
+  fresh-kept : {x y : State} {c d : Core} → Move p n now x c y d → FreshIn x c → FreshIn y d
+  fresh-kept {x} {c = c} waits b = fresh-activity x c _ b
+  fresh-kept {x} {c = c} marks b = fresh-activity x c _ b
+  fresh-kept {x} {c = c} (sends bytes l) b = fresh-activity x c _ b
+  fresh-kept {x} {c = c} (pends pending few none) b = fresh-pends x c pending none b
+  fresh-kept (holds held cycled f) b = tt
+  fresh-kept (turns held cycled a l) b = tt
+  fresh-kept (gaps gap attempt g l h) b = tt
+  fresh-kept (listens q q' k k' l o) b = tt
+  fresh-kept (passives q q' l w) b = tt
+  fresh-kept (idles q q' m m' k k' l h o) b = tt
+  fresh-kept (cycles held kept cycled f t) b = tt
+  fresh-kept claims b = tt
+  fresh-kept (listen-token i o) b = tt
+  fresh-kept (passive-idle i o) b = tt
+  fresh-kept (active-idle i o) b = tt
+  fresh-kept (use-token held i f z) b = tt
+  fresh-kept (use-token-again a held f t) b = tt
+  fresh-kept (claim-token i o) b = tt
+  fresh-kept (await-data-response a held i l f t) b = tt
+  fresh-kept (pass-token gap attempt i) b = tt
+  fresh-kept (check-token-pass attempt i) b = tt
+  fresh-kept (await-status-response a i l) b = tt
+  fresh-kept goes-offline b = fresh-core
+  fresh-kept {x} {c = c} (connects v l) b = fresh-connects x c v b
+
   -- the activity is known
   known-kept : {x y : State} {c d : Core} → Move p n now x c y d → KnownIn x (c .«last_bus_activity») → KnownIn y (d .«last_bus_activity»)
   unfolding withActivity withPending withGap withTokenTimes withNextApplication withConnectivity freshCore sentAt
   known-kept {x} waits b = known-in x _ tt
   known-kept {x} marks b = known-in x _ (marked-known _ now)
   known-kept {x} (sends bytes l) b = known-in x _ tt
-  known-kept (pends pending few) b = b
+  known-kept (pends pending few none) b = b
   known-kept (holds held cycled f) b = rw hold-activity b
-  known-kept (turns a l) b = b
-  known-kept (gaps g l h) b = b
+  known-kept (turns held cycled a l) b = b
+  known-kept (gaps gap attempt g l h) b = b
   known-kept (listens q q' k k' l o) b = tt
   known-kept (passives q q' l w) b = w
   known-kept (idles q q' m m' k k' l h o) b = b
@@ -391,7 +524,8 @@ module _ {p : Parameters} {n : ℕ} {now : Micros} where
   known-kept (listen-token i o) b = tt
   known-kept (passive-idle i o) b = tt
   known-kept (active-idle i o) b = o
-  known-kept {x} (use-token held i f) b = known-from useTokenFrom x _ refl refl refl i b
+  known-kept {x} (use-token held i f z) b = known-from useTokenFrom x _ refl refl refl i b
+  known-kept (use-token-again a held f t) b = b
   known-kept (claim-token i o) b = o
   known-kept {x} (await-data-response a held i l f t) b = known-from awaitDataResponseFrom x _ refl refl refl i b
   known-kept {x} (pass-token gap attempt i) b = known-from passTokenFrom x _ refl refl refl i b
@@ -406,10 +540,10 @@ module _ {p : Parameters} {n : ℕ} {now : Micros} where
   activity-fits-kept waits l₀ b = known-fits (p .baudrate) _ now l₀ b
   activity-fits-kept marks l₀ b = marked-fits (p .baudrate) _ now l₀ b
   activity-fits-kept (sends bytes l) l₀ b = sent-fits p now bytes l l₀
-  activity-fits-kept (pends pending few) l₀ b = b
+  activity-fits-kept (pends pending few none) l₀ b = b
   activity-fits-kept (holds held cycled f) l₀ b = rw hold-activity b
-  activity-fits-kept (turns a l) l₀ b = b
-  activity-fits-kept (gaps g l h) l₀ b = b
+  activity-fits-kept (turns held cycled a l) l₀ b = b
+  activity-fits-kept (gaps gap attempt g l h) l₀ b = b
   activity-fits-kept (listens q q' k k' l o) l₀ b = b
   activity-fits-kept (passives q q' l w) l₀ b = b
   activity-fits-kept (idles q q' m m' k k' l h o) l₀ b = b
@@ -418,7 +552,8 @@ module _ {p : Parameters} {n : ℕ} {now : Micros} where
   activity-fits-kept (listen-token i o) l₀ b = b
   activity-fits-kept (passive-idle i o) l₀ b = b
   activity-fits-kept (active-idle i o) l₀ b = b
-  activity-fits-kept (use-token held i f) l₀ b = b
+  activity-fits-kept (use-token held i f z) l₀ b = b
+  activity-fits-kept (use-token-again a held f t) l₀ b = b
   activity-fits-kept (claim-token i o) l₀ b = b
   activity-fits-kept (await-data-response a held i l f t) l₀ b = b
   activity-fits-kept (pass-token gap attempt i) l₀ b = b
@@ -433,10 +568,10 @@ module _ {p : Parameters} {n : ℕ} {now : Micros} where
   last-kept waits b = b
   last-kept marks b = b
   last-kept (sends bytes l) b = b
-  last-kept (pends pending few) b = b
+  last-kept (pends pending few none) b = b
   last-kept {c} (holds held cycled f) b = last-at _ held cycled (hold-last p c (held .«token_time»))
-  last-kept (turns a l) b = b
-  last-kept (gaps g l h) b = b
+  last-kept (turns held cycled a l) b = b
+  last-kept (gaps gap attempt g l h) b = b
   last-kept (listens q q' k k' l o) b = tt
   last-kept (passives q q' l w) b = tt
   last-kept (idles q q' m m' k k' l h o) b = tt
@@ -445,7 +580,8 @@ module _ {p : Parameters} {n : ℕ} {now : Micros} where
   last-kept (listen-token i o) b = tt
   last-kept (passive-idle i o) b = tt
   last-kept (active-idle i o) b = tt
-  last-kept (use-token held i f) b = tt
+  last-kept (use-token held i f z) b = tt
+  last-kept (use-token-again a held f t) b = t
   last-kept (claim-token i o) b = tt
   last-kept (await-data-response a held i l f t) b = t
   last-kept (pass-token gap attempt i) b = tt
@@ -460,10 +596,10 @@ module _ {p : Parameters} {n : ℕ} {now : Micros} where
   time-kept waits b = b
   time-kept marks b = b
   time-kept (sends bytes l) b = b
-  time-kept (pends pending few) b = b
+  time-kept (pends pending few none) b = b
   time-kept {c} (holds held cycled f) b = rw (← hold-last p c (held .«token_time»)) (f .token-time)
-  time-kept (turns a l) b = b
-  time-kept (gaps g l h) b = b
+  time-kept (turns held cycled a l) b = b
+  time-kept (gaps gap attempt g l h) b = b
   time-kept (listens q q' k k' l o) b = b
   time-kept (passives q q' l w) b = b
   time-kept (idles q q' m m' k k' l h o) b = b
@@ -472,7 +608,8 @@ module _ {p : Parameters} {n : ℕ} {now : Micros} where
   time-kept (listen-token i o) b = b
   time-kept (passive-idle i o) b = b
   time-kept (active-idle i o) b = b
-  time-kept (use-token held i f) b = b
+  time-kept (use-token held i f z) b = b
+  time-kept (use-token-again a held f t) b = b
   time-kept (claim-token i o) b = b
   time-kept (await-data-response a held i l f t) b = b
   time-kept (pass-token gap attempt i) b = b
@@ -487,10 +624,10 @@ module _ {p : Parameters} {n : ℕ} {now : Micros} where
   hold-kept waits t b = b
   hold-kept marks t b = b
   hold-kept (sends bytes l) t b = b
-  hold-kept (pends pending few) t b = b
+  hold-kept (pends pending few none) t b = b
   hold-kept {c} (holds held cycled f) t b = hold-set p c (held .«token_time») t b
-  hold-kept (turns a l) t b = b
-  hold-kept (gaps g l h) t b = b
+  hold-kept (turns held cycled a l) t b = b
+  hold-kept (gaps gap attempt g l h) t b = b
   hold-kept (listens q q' k k' l o) t b = b
   hold-kept (passives q q' l w) t b = b
   hold-kept (idles q q' m m' k k' l h o) t b = b
@@ -499,7 +636,8 @@ module _ {p : Parameters} {n : ℕ} {now : Micros} where
   hold-kept (listen-token i o) t b = b
   hold-kept (passive-idle i o) t b = b
   hold-kept (active-idle i o) t b = b
-  hold-kept (use-token held i f) t b = b
+  hold-kept (use-token held i f z) t b = b
+  hold-kept (use-token-again a held f t') t b = b
   hold-kept (claim-token i o) t b = b
   hold-kept (await-data-response a held i l f t') t b = b
   hold-kept (pass-token gap attempt i) t b = b
@@ -513,14 +651,18 @@ module _ {p : Parameters} {n : ℕ} {now : Micros} where
   core-kept l x y c d m w =
       record {
         next-one = next-kept m (w .next-one);
+        pending-few = pending-kept m (w .pending-few);
         addresses = addresses-kept m (w .addresses);
         gap-address = gap-kept m (w .gap-address);
         gap-count = count-kept m (w .gap-count);
+        asked-in-gap = asked-kept m (w .asked-in-gap);
         offline = offline-kept m (w .offline);
+        fresh-offline = fresh-kept m (w .fresh-offline);
         collided-once = collided-kept m (w .collided-once);
         activity-known = known-kept m (w .activity-known);
         activity-fits = activity-fits-kept m l (w .activity-fits);
         token-held = held-kept m (w .token-held);
+        token-unasked = unasked-kept m (w .token-unasked);
         last-token = last-kept m (w .last-token);
         token-time = time-kept m (w .token-time);
         hold-made = hold-kept m (w .token-time) (w .hold-made);
@@ -528,6 +670,3 @@ module _ {p : Parameters} {n : ℕ} {now : Micros} where
 
   pub moves-keep : {x y : State} {c d : Core} → Clock now → Moves p n now x c y d → SoundCore p n x c → SoundCore p n y d
   moves-keep l ms w = keeps (SoundCore p n) (core-kept l) ms w
-
-  pub moves-pending : {x y : State} {c d : Core} → Moves p n now x c y d → c .«pending_bytes» < 2 ^ 16 → d .«pending_bytes» < 2 ^ 16
-  moves-pending ms b = keeps (λ (x : State) (c : Core). c .«pending_bytes» < 2 ^ 16) (λ x y c d m. pending-kept m) ms b

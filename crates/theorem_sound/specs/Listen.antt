@@ -4,6 +4,7 @@ use mathlib.Core.Bool.{Bool, true, false}
 use mathlib.Core.Path.{_≡_, refl, sym, ap}
 use mathlib.Core.List.{List}
 use native.Mathlib.Omega.{arith}
+use borrow.Author.Tests.{eqb-false}
 use lib.Dec.{eqb, lit≤}
 use Rattle.bit_times.specs.declared.Micros.{Micros}
 use Rattle.settings.specs.declared.Parameters.{Parameters}
@@ -28,11 +29,11 @@ use Rattle.station_hear_active.specs.HearActive.{remembers, activeCollided, acc
 use Rattle.station_listen.specs.Listen.{handleLostToken, respondOf, listenAnswered, listenResponse, heardTelegram, heardAll, receivedAll, consumedAll, listenTokenOn, listenTokenOf, activeResponse, activeIdleOn, activeIdleOf}
 use Rattle.station_passive.specs.Passive.{passiveIdleOf}
 use Rattle.station_hear_listen.specs.HearListen.{collided, sentByUs, notedOf, witnessedOf, listenHeard, passiveHeard, listenTelegram}
-use Rattle.theorem_sound.specs.Moves.{claimTokenFrom, In, Known, Low, Clock}
+use Rattle.theorem_sound.specs.Moves.{claimTokenFrom, In, Known, Other, Clock}
 use Rattle.theorem_sound.specs.Lines.{SoundCore}
 use Rattle.theorem_sound.specs.Kept.{not-true, known-with}
-use Rattle.theorem_sound.specs.Keeps.{RingGood, either, telegram-low, again-good, claim-good, witness-good}
-use Rattle.theorem_sound.specs.Walk.{Came, Made, RingMade, HeardMade, addressed-at, collided-at, connected-here, new-token, paused, lost-asked, pause-known, lost-known, rx-known, rx, listen-fields, passive-fields, idle-fields, claim-again, to-listen, to-idle, to-use, to-claim, to-fresh, done-made, transmit-made, heard-made, collision-made, event-made}
+use Rattle.theorem_sound.specs.Keeps.{RingGood, either, decided, telegram-low, again-good, claim-good, witness-good}
+use Rattle.theorem_sound.specs.Walk.{Came, Made, RingMade, HeardMade, addressed-at, collided-at, connected-here, new-token, new-unasked, paused, lost-asked, pause-known, lost-known, rx-known, rx, listen-fields, passive-fields, idle-fields, claim-again, to-listen, to-idle, to-use, to-claim, to-fresh, done-made, transmit-made, heard-made, collision-made, event-made}
 
 -- no state but Offline has the number 0
 no-zero : {k : ℕ} → suc k ≡ 0 → ⊥
@@ -69,13 +70,14 @@ Passive x = (q : OptionAddress) × (x ≡ PassiveIdle q)
 hears-passive : HearsOn Passive
 hears-passive = record { from-listen = λ q k y. absurd (let z : 1 ≡ 9 = ap stateNumber (y .1) in omega arith); from-passive = λ q y q'. (q', refl) }
 
--- who is noted has an address below 128
-noted-low : (own : ℕ) (q : OptionAddress) (t : Telegram) (last : Bool) → TelegramFits t → Low q → Low (notedOf own q t last)
-unfolding notedOf
-noted-low own q (telegram.Token destination source) last f l = l
-noted-low own q telegram.ShortConfirmation last f l = l
-noted-low own q (telegram.Request destination source asks) last f l = either Low (lastRequestToUs destination own asks last) _ _ (f .1) l
-noted-low own q (telegram.Response destination source state status) last f l = l
+-- who is noted is another station, with an address below 128
+noted-other : (own : ℕ) (q : OptionAddress) (t : Telegram) (last : Bool) → TelegramFits t → sentByUs own t ≡ false → Other own q → Other own (notedOf own q t last)
+unfolding notedOf sentByUs
+noted-other own q (telegram.Token destination source) last f z l = l
+noted-other own q telegram.ShortConfirmation last f z l = l
+noted-other own q (telegram.Request destination source asks) last f z l =
+    either (Other own) (lastRequestToUs destination own asks last) _ _ (f .1, eqb-false source own z) l
+noted-other own q (telegram.Response destination source state status) last f z l = l
 
 -- a telegram leaves a good ring good
 overheard-good : (p : Parameters) (r : Ring) (t : Telegram) → RingGood p r → RingGood p (witnessedOf r t)
@@ -93,24 +95,24 @@ ListenedEnds E (optionAddress.Some source) k =
 
 module _ {p : Parameters} {n : ℕ} {now : Micros} {x₀ : State} {c₀ : Core} {E : State → Type 0} where
   -- do_claim_token
-  claim-next-made : {c : Core} (first : Bool) → ((f : Bool) → E (ClaimToken f)) → (first ≡ false → (held : UseTokenData) → E (UseToken false held)) → Came p n now x₀ c₀ (ClaimToken first) c → Made p n now x₀ c₀ E (transmitOf p (claimNext now first) c now (sent.Token (p .address)))
+  claim-next-made : {c : Core} (first : Bool) → E (ClaimToken false) → (first ≡ false → (held : UseTokenData) → E (UseToken false held)) → Came p n now x₀ c₀ (ClaimToken first) c → Made p n now x₀ c₀ E (transmitOf p (claimNext now first) c now (sent.Token (p .address)))
   unfolding claimNext
-  claim-next-made true e u k = transmit-made _ (lit≤ tt) (claim-again k) (e false)
-  claim-next-made false e u k = transmit-made _ (lit≤ tt) (to-use _ refl (new-token n now (k .clock)) k) (u refl _)
+  claim-next-made true e u k = transmit-made _ (lit≤ tt) (claim-again k) e
+  claim-next-made false e u k = transmit-made _ (lit≤ tt) (to-use _ refl (new-token n now (k .clock)) (new-unasked now) k) (u refl _)
 
-  pub claim-token-made : {first : Bool} {c : Core} (r : Ring) → ((f : Bool) → E (ClaimToken f)) → (first ≡ false → (held : UseTokenData) → E (UseToken false held)) → Came p n now x₀ c₀ (ClaimToken first) c → RingGood p r → RingMade p n now x₀ c₀ E (claimTokenOf p c r now first)
+  pub claim-token-made : {first : Bool} {c : Core} (r : Ring) → E (ClaimToken false) → (pauseOf p c now .over ≡ false → E (ClaimToken first)) → (first ≡ false → (held : UseTokenData) → E (UseToken false held)) → Came p n now x₀ c₀ (ClaimToken first) c → RingGood p r → RingMade p n now x₀ c₀ E (claimTokenOf p c r now first)
   unfolding claimTokenOf
-  claim-token-made {first} {c} r e u k g =
-      either (RingMade p n now x₀ c₀ E) (pauseOf p c now .over) _ _
-      (record { made-step = claim-next-made first e u (paused k); made-ring = claim-good p r g })
-      (record { made-step = done-made _ (paused k) (e first); made-ring = g })
+  claim-token-made {first} {c} r e w u k g =
+      decided (RingMade p n now x₀ c₀ E) (pauseOf p c now .over) _ _
+      (λ o. record { made-step = claim-next-made first e u (paused k); made-ring = claim-good p r g })
+      (λ o. record { made-step = done-made _ (paused k) (w o); made-ring = g })
 
   -- handle_lost_token: a claim, or what the rest of the poll comes to
-  lost-made : {x : State} {c : Core} (r : Ring) (rest : Core → RingStep) → ((f : Bool) → E (ClaimToken f)) → In claimTokenFrom x → ((d : Core) → Came p n now x₀ c₀ x d → RingMade p n now x₀ c₀ E (rest d)) → Came p n now x₀ c₀ x c → RingGood p r → RingMade p n now x₀ c₀ E (handleLostToken p c r now rest)
+  lost-made : {x : State} {c : Core} (r : Ring) (rest : Core → RingStep) → E (ClaimToken false) → (tokenLostWaitOf p c now .over ≡ true → pauseOf p (tokenLostWaitOf p c now .core) now .over ≡ false → E (ClaimToken true)) → In claimTokenFrom x → ((d : Core) → Came p n now x₀ c₀ x d → RingMade p n now x₀ c₀ E (rest d)) → Came p n now x₀ c₀ x c → RingGood p r → RingMade p n now x₀ c₀ E (handleLostToken p c r now rest)
   unfolding handleLostToken
-  lost-made {c = c} r rest e i go k g =
-      either (RingMade p n now x₀ c₀ E) (tokenLostWaitOf p c now .over) _ _
-      (event-made _ _ (claim-token-made r e (λ z. not-true (sym z)) (to-claim i (lost-known p c now) (lost-asked k)) g)) (go _ (lost-asked k))
+  lost-made {c = c} r rest e w i go k g =
+      decided (RingMade p n now x₀ c₀ E) (tokenLostWaitOf p c now .over) _ _
+      (λ o. event-made _ _ (claim-token-made r e (w o) (λ z. not-true (sym z)) (to-claim i (lost-known p c now) (lost-asked k)) g)) (λ o. go _ (lost-asked k))
 
   -- a status request answered: the state that waits, and the one from then on
   respond-made : {x y : State} {c : Core} (r : Ring) (source : ℕ) (type : ResponseState) → E x → E y → ((d : Core) → Known (d .«last_bus_activity») → Came p n now x₀ c₀ x d → Came p n now x₀ c₀ y d) → Came p n now x₀ c₀ x c → RingGood p r → RingMade p n now x₀ c₀ E (respondOf p x y c r now source type)
@@ -136,15 +138,15 @@ module _ {p : Parameters} {n : ℕ} {now : Micros} {x₀ : State} {c₀ : Core} 
   listen-heard-made : {q : OptionAddress} {k : ℕ} {c : Core} (r : Ring) (t : Telegram) (last : Bool) → TelegramFits t → ListenEnds E → Came p n now x₀ c₀ (ListenToken q k) c → RingGood p r → HeardMade p n now x₀ c₀ E (listenHeard p c r q k t last)
   unfolding listenHeard
   listen-heard-made {q = q} {k = k} r t last f e m g =
-      either (HeardMade p n now x₀ c₀ E) (sentByUs (p .address) t) _ _ (collided-made r e m g)
-      (heard-made _ _ (listen-fields _ k (noted-low (p .address) q t last f (addressed-at m)) (collided-at m) m) (e .ends-listen _ _) (overheard-good p r t g))
+      decided (HeardMade p n now x₀ c₀ E) (sentByUs (p .address) t) _ _ (λ z. collided-made r e m g)
+      (λ z. heard-made _ _ (listen-fields _ k (noted-other (p .address) q t last f z (addressed-at m)) (collided-at m) m) (e .ends-listen _ _) (overheard-good p r t g))
 
   -- PassiveIdle
   passive-heard-made : {q : OptionAddress} {c : Core} (r : Ring) (t : Telegram) (last : Bool) → TelegramFits t → Known (c .«last_bus_activity») → ((q' : OptionAddress) → E (PassiveIdle q')) → Came p n now x₀ c₀ (PassiveIdle q) c → RingGood p r → HeardMade p n now x₀ c₀ E (passiveHeard p c r q t last)
   unfolding passiveHeard
   passive-heard-made {q = q} {c = c} r t last f w e m g =
-      either (HeardMade p n now x₀ c₀ E) (sentByUs (p .address) t) _ _ (heard-made r _ m (e _) g)
-      (heard-made _ _ (passive-fields _ (noted-low (p .address) q t last f (addressed-at m)) (known-with (notedOf (p .address) q t last) (c .«last_bus_activity») w) m) (e _) (overheard-good p r t g))
+      decided (HeardMade p n now x₀ c₀ E) (sentByUs (p .address) t) _ _ (λ z. heard-made r _ m (e _) g)
+      (λ z. heard-made _ _ (passive-fields _ (noted-other (p .address) q t last f z (addressed-at m)) (known-with (notedOf (p .address) q t last) (c .«last_bus_activity») w) m) (e _) (overheard-good p r t g))
 
   listen-on-made : (x : State) {c : Core} (r : Ring) (t : Telegram) (last : Bool) → TelegramFits t → Known (c .«last_bus_activity») → HearsOn E → Came p n now x₀ c₀ x c → E x → RingGood p r → HeardMade p n now x₀ c₀ E (listenTelegram p x c r t last)
   unfolding listenTelegram
@@ -168,14 +170,14 @@ module _ {p : Parameters} {n : ℕ} {now : Micros} {x₀ : State} {c₀ : Core} 
 
   accepted-made : {q s : OptionAddress} {k : ℕ} {c : Core} (r : Ring) → ActiveEnds E → Came p n now x₀ c₀ (ActiveIdle q s k) c → RingGood p r → HeardMade p n now x₀ c₀ E (acceptedOf c r now)
   unfolding acceptedOf
-  accepted-made r e m g = heard-made r _ (to-use _ refl (new-token n now (m .clock)) m) (e .ends-accepted _) g
+  accepted-made r e m g = heard-made r _ (to-use _ refl (new-token n now (m .clock)) (new-unasked now) m) (e .ends-accepted _) g
 
-  to-us-made : {q s : OptionAddress} {k : ℕ} {c : Core} (r : Ring) (destination source : ℕ) → source < 128 → ActiveEnds E → Came p n now x₀ c₀ (ActiveIdle q s k) c → RingGood p r → HeardMade p n now x₀ c₀ E (tokenToUs c r now q s destination source)
+  to-us-made : {q s : OptionAddress} {k : ℕ} {c : Core} (r : Ring) (destination source : ℕ) → source < 128 → (source ≡ p .address → ⊥) → ActiveEnds E → Came p n now x₀ c₀ (ActiveIdle q s k) c → RingGood p r → HeardMade p n now x₀ c₀ E (tokenToUs c r now q s destination source)
   unfolding tokenToUs
-  to-us-made {q} {s} r destination source l e m g =
+  to-us-made {q} {s} r destination source l o e m g =
       either (HeardMade p n now x₀ c₀ E) (eqb source (prevOf r)) _ _ (accepted-made r e m g)
       (either (HeardMade p n now x₀ c₀ E) (remembers s source) _ _ (accepted-made _ e m (witness-good p r source destination g))
-      (heard-made r _ (idle-fields q (optionAddress.Some source) 0 (addressed-at m .0) l (lit≤ tt) m) (e .ends-idle _ _ _) g))
+      (heard-made r _ (idle-fields q (optionAddress.Some source) 0 (addressed-at m .0) (l, o) (lit≤ tt) m) (e .ends-idle _ _ _) g))
 
   witnessed-made : {q s : OptionAddress} {k : ℕ} {c : Core} (r : Ring) (destination source : ℕ) → ActiveEnds E → Came p n now x₀ c₀ (ActiveIdle q s k) c → RingGood p r → HeardMade p n now x₀ c₀ E (tokenWitnessed c r q s destination source)
   unfolding tokenWitnessed
@@ -185,9 +187,9 @@ module _ {p : Parameters} {n : ℕ} {now : Micros} {x₀ : State} {c₀ : Core} 
   token-made : {q s : OptionAddress} {k : ℕ} {c : Core} (r : Ring) (destination source : ℕ) (last : Bool) → source < 128 → ActiveEnds E → Came p n now x₀ c₀ (ActiveIdle q s k) c → RingGood p r → HeardMade p n now x₀ c₀ E (tokenHeard p c r now q s k destination source last)
   unfolding tokenHeard
   token-made r destination source last l e m g =
-      either (HeardMade p n now x₀ c₀ E) (eqb source (p .address)) _ _ (active-collided-made r e m g)
-      (either (HeardMade p n now x₀ c₀ E) (eqb destination (p .address)) _ _
-      (either (HeardMade p n now x₀ c₀ E) last _ _ (to-us-made r destination source l e m g) (witnessed-made r destination source e m g))
+      decided (HeardMade p n now x₀ c₀ E) (eqb source (p .address)) _ _ (λ z. active-collided-made r e m g)
+      (λ z. either (HeardMade p n now x₀ c₀ E) (eqb destination (p .address)) _ _
+      (either (HeardMade p n now x₀ c₀ E) last _ _ (to-us-made r destination source l (eqb-false source (p .address) z) e m g) (witnessed-made r destination source e m g))
       (witnessed-made r destination source e m g))
 
   requested-made : {q s : OptionAddress} {k : ℕ} {c : Core} (r : Ring) (source : ℕ) (noted : Bool) → source < 128 → ActiveEnds E → Came p n now x₀ c₀ (ActiveIdle q s k) c → RingGood p r → HeardMade p n now x₀ c₀ E (activeRequested c r q s k source noted)
@@ -244,9 +246,9 @@ module _ {p : Parameters} {n : ℕ} {now : Micros} {x₀ : State} {c₀ : Core} 
   listen-token-on-made optionAddress.None r bytes count e m g = received-made r true bytes count (hears-on e) m (e .ends-listen _ _) g
   listen-token-on-made (optionAddress.Some source) r bytes count e m g = response-made r source e m g
 
-  pub listen-token-made : {q : OptionAddress} {k : ℕ} {c : Core} (r : Ring) (bytes : List ℕ) (count : ℕ) → ((f : Bool) → E (ClaimToken f)) → ListenedEnds E q k → Came p n now x₀ c₀ (ListenToken q k) c → RingGood p r → RingMade p n now x₀ c₀ E (listenTokenOf p c r now q k bytes n count)
+  pub listen-token-made : {q : OptionAddress} {k : ℕ} {c : Core} (r : Ring) (bytes : List ℕ) (count : ℕ) → E (ClaimToken false) → (tokenLostWaitOf p c now .over ≡ true → pauseOf p (tokenLostWaitOf p c now .core) now .over ≡ false → E (ClaimToken true)) → ListenedEnds E q k → Came p n now x₀ c₀ (ListenToken q k) c → RingGood p r → RingMade p n now x₀ c₀ E (listenTokenOf p c r now q k bytes n count)
   unfolding listenTokenOf
-  listen-token-made {q} r bytes count f e m g = lost-made r _ f refl (λ d k. listen-token-on-made q r bytes count e k g) m g
+  listen-token-made {q} r bytes count f w e m g = lost-made r _ f w refl (λ d k. listen-token-on-made q r bytes count e k g) m g
 
   -- do_active_idle
   active-response-made : {s : OptionAddress} {k : ℕ} {c : Core} (r : Ring) (source : ℕ) → ActiveEnds E → Came p n now x₀ c₀ (ActiveIdle (optionAddress.Some source) s k) c → RingGood p r → RingMade p n now x₀ c₀ E (activeResponse p c r now source s k)
@@ -259,9 +261,9 @@ module _ {p : Parameters} {n : ℕ} {now : Micros} {x₀ : State} {c₀ : Core} 
   active-idle-on-made optionAddress.None r bytes count e m g = received-made r false bytes count e m (e .ends-idle _ _ _) g
   active-idle-on-made (optionAddress.Some source) r bytes count e m g = active-response-made r source e m g
 
-  pub active-idle-made : {q s : OptionAddress} {k : ℕ} {c : Core} (r : Ring) (bytes : List ℕ) (count : ℕ) → ((f : Bool) → E (ClaimToken f)) → ActiveEnds E → Came p n now x₀ c₀ (ActiveIdle q s k) c → RingGood p r → RingMade p n now x₀ c₀ E (activeIdleOf p c r now q s k bytes n count)
+  pub active-idle-made : {q s : OptionAddress} {k : ℕ} {c : Core} (r : Ring) (bytes : List ℕ) (count : ℕ) → E (ClaimToken false) → (tokenLostWaitOf p c now .over ≡ true → pauseOf p (tokenLostWaitOf p c now .core) now .over ≡ false → E (ClaimToken true)) → ActiveEnds E → Came p n now x₀ c₀ (ActiveIdle q s k) c → RingGood p r → RingMade p n now x₀ c₀ E (activeIdleOf p c r now q s k bytes n count)
   unfolding activeIdleOf
-  active-idle-made {q} r bytes count f e m g = lost-made r _ f refl (λ d k. active-idle-on-made q r bytes count e k g) m g
+  active-idle-made {q} r bytes count f w e m g = lost-made r _ f w refl (λ d k. active-idle-on-made q r bytes count e k g) m g
 
 -- PassiveIdle: it is left in no poll
 module _ {p : Parameters} {n : ℕ} {now : Micros} {x₀ : State} {c₀ : Core} where

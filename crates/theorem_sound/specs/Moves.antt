@@ -8,6 +8,7 @@
 use Prim.Native.Nat.{ℕ, _+_, _^_, _≤_, _<_}
 use mathlib.Core.Bool.{Bool, true, false, cond}
 use mathlib.Core.Path.{_≡_}
+use mathlib.Core.Logic.{_⊎_}
 use mathlib.Core.List.{List, [], _∷_}
 use lib.Dec.{eqb}
 use Rattle.bit_times.specs.Times.{clockEnd}
@@ -87,6 +88,11 @@ abbrev pub Low : OptionAddress → Type 0
 Low optionAddress.None = Unit {0}
 Low (optionAddress.Some a) = a < 128
 
+-- no address, or another station's: below 128, and not our own
+abbrev pub Other : ℕ → OptionAddress → Type 0
+Other own optionAddress.None = Unit {0}
+Other own (optionAddress.Some a) = (a < 128) × (a ≡ own → ⊥)
+
 -- no application, or one of n
 abbrev pub OneOf : ℕ → OptionApplication → Type 0
 OneOf n optionApplication.None = Unit {0}
@@ -96,15 +102,26 @@ OneOf n (optionApplication.Some a) = a < n
 abbrev pub Clock : Micros → Type 0
 Clock t = t .0 < clockEnd
 
+-- with a new token no application was asked yet: it has no first one
+abbrev pub Unasked : UseTokenData → Type 0
+Unasked held = held .«first_app» ≡ optionApplication.None
+
 -- a token's data: its time is a clock's, its first application one of n
 pub record HeldFits (n : ℕ) (held : UseTokenData) : Type 0 where
   pub token-time : Clock (held .«token_time»)
   pub first-one : OneOf n (held .«first_app»)
 
--- The address that the gap state polls is that of a station, below 126.
-abbrev pub GapAddressed : GapState → Type 0
-GapAddressed (Waiting count) = Unit {0}
-GapAddressed (DoPoll a) = a < 126
+-- an address that is asked in the gap: that of a station, below 126, which is not our own, and below the settings' highest station
+-- address, or 0
+pub record GapAsked (p : Parameters) (a : ℕ) : Type 0 where
+  pub low : a < 126
+  pub not-own : a ≡ p .address → ⊥
+  pub below : (a < p .«highest_station_address») ⊎ (a ≡ 0)
+
+-- The address that the gap state polls is one that is asked in the gap.
+abbrev pub GapAddressed : Parameters → GapState → Type 0
+GapAddressed p (Waiting count) = Unit {0}
+GapAddressed p (DoPoll a) = GapAsked p a
 
 -- The count of a gap state that waits is at most one above the settings' gap wait.
 abbrev pub GapCounted : Parameters → GapState → Type 0
@@ -120,20 +137,20 @@ pub data Move (p : Parameters) (n : ℕ) (now : Micros) : State → Core → Sta
   marks : {x : State} {c : Core} → Move p n now x c x (withActivity c (markedAt (c .«last_bus_activity») now))
   -- mark_tx: a telegram of at most 255 bytes
   sends : {x : State} {c : Core} (bytes : ℕ) → bytes ≤ 255 → Move p n now x c x (withActivity c (sentAt p now bytes))
-  -- check_for_bus_activity, mark_rx: the pending bytes, a number of 16 bits
-  pends : {x : State} {c : Core} (pending : ℕ) → pending < 2 ^ 16 → Move p n now x c x (withPending c pending)
+  -- check_for_bus_activity, mark_rx: the pending bytes, a record's field of 11 bits; in Offline none
+  pends : {x : State} {c : Core} (pending : ℕ) → pending < 2 ^ 11 → (x ≡ Offline → pending ≡ 0) → Move p n now x c x (withPending c pending)
   -- do_use_token: the end of hold and the last token time, by the token in hand
   holds : {c : Core} (held : UseTokenData) (cycled : Bool) → HeldFits n held → Move p n now (UseToken cycled held) c (UseToken cycled held) (holdEndOf p c (held .«token_time»))
   -- schedule_next_application
-  turns : {x : State} {c : Core} (a : ℕ) → a < n → Move p n now x c x (withNextApplication c a)
+  turns : {c : Core} (held : UseTokenData) (cycled : Bool) (a : ℕ) → a < n → Move p n now (UseToken cycled held) c (UseToken cycled held) (withNextApplication c a)
   -- do_pass_token: the gap's turn
-  gaps : {x : State} {c : Core} (g : GapState) → GapAddressed g → GapCounted p g → Move p n now x c x (withGap c g)
+  gaps : {c : Core} (gap : Bool) (attempt : PassTokenAttempt) (g : GapState) → GapAddressed p g → GapCounted p g → Move p n now (PassToken gap attempt) c (PassToken gap attempt) (withGap c g)
   -- get_listen_token_status_request, get_listen_token_collision_count: a field of ListenToken
-  listens : {c : Core} (q q' : OptionAddress) (k k' : ℕ) → Low q' → k' ≤ 1 → Move p n now (ListenToken q k) c (ListenToken q' k') c
+  listens : {c : Core} (q q' : OptionAddress) (k k' : ℕ) → Other (p .address) q' → k' ≤ 1 → Move p n now (ListenToken q k) c (ListenToken q' k') c
   -- the field of PassiveIdle: the activity is known where a request is noted
-  passives : {c : Core} (q q' : OptionAddress) → Low q' → KnownWith q' (c .«last_bus_activity») → Move p n now (PassiveIdle q) c (PassiveIdle q') c
+  passives : {c : Core} (q q' : OptionAddress) → Other (p .address) q' → KnownWith q' (c .«last_bus_activity») → Move p n now (PassiveIdle q) c (PassiveIdle q') c
   -- get_active_idle_status_request, get_active_idle_new_previous_station, get_active_idle_collision_count: a field of ActiveIdle
-  idles : {c : Core} (q q' m m' : OptionAddress) (k k' : ℕ) → Low q' → Low m' → k' ≤ 1 → Move p n now (ActiveIdle q m k) c (ActiveIdle q' m' k') c
+  idles : {c : Core} (q q' m m' : OptionAddress) (k k' : ℕ) → Low q' → Other (p .address) m' → k' ≤ 1 → Move p n now (ActiveIdle q m k) c (ActiveIdle q' m' k') c
   -- get_use_token_data, get_use_token_first_cycle_done: the first cycle is done, by the token whose time is the last token time
   cycles : {c : Core} (held kept : UseTokenData) (cycled : Bool) → HeldFits n kept → kept .«token_time» .0 ≡ c .«last_token_time» .0 → Move p n now (UseToken cycled held) c (UseToken true kept) c
   -- get_claim_token_first: the second token is to be sent
@@ -144,8 +161,10 @@ pub data Move (p : Parameters) (n : ℕ) (now : Micros) : State → Core → Sta
   listen-token : {x : State} {c : Core} → In listenTokenFrom x → (c .«connectivity_state» ≡ connectivity.Offline → ⊥) → Move p n now x c toListenToken c
   -- transition_active_idle: from ListenToken too, where the activity is known by then
   active-idle : {x : State} {c : Core} → In activeIdleFrom x → Known (c .«last_bus_activity») → Move p n now x c toActiveIdle c
-  -- transition_use_token
-  use-token : {x : State} {c : Core} (held : UseTokenData) → In useTokenFrom x → HeldFits n held → Move p n now x c (UseToken false held) c
+  -- transition_use_token, with a new token
+  use-token : {x : State} {c : Core} (held : UseTokenData) → In useTokenFrom x → HeldFits n held → Unasked held → Move p n now x c (UseToken false held) c
+  -- transition_use_token, with the token that was kept, and first_cycle_done: after a reply or a timeout
+  use-token-again : {c : Core} (a : ℕ) (held : UseTokenData) → HeldFits n held → held .«token_time» .0 ≡ c .«last_token_time» .0 → Move p n now (AwaitDataResponse a held) c (UseToken true held) c
   -- transition_claim_token: from ListenToken too, where the activity is known by then
   claim-token : {x : State} {c : Core} → In claimTokenFrom x → Known (c .«last_bus_activity») → Move p n now x c (ClaimToken true) c
   -- transition_await_data_response: with the token whose time is the last token time
@@ -154,8 +173,8 @@ pub data Move (p : Parameters) (n : ℕ) (now : Micros) : State → Core → Sta
   pass-token : {x : State} {c : Core} (gap : Bool) (attempt : PassTokenAttempt) → In passTokenFrom x → Move p n now x c (PassToken gap attempt) c
   -- transition_check_token_pass
   check-token-pass : {x : State} {c : Core} (attempt : PassTokenAttempt) → In checkTokenPassFrom x → Move p n now x c (CheckTokenPass attempt) c
-  -- transition_await_status_response
-  await-status-response : {x : State} {c : Core} (a : ℕ) → In awaitStatusResponseFrom x → a < 128 → Move p n now x c (AwaitStatusResponse a) c
+  -- transition_await_status_response: of the address that the gap state polls
+  await-status-response : {x : State} {c : Core} (a : ℕ) → In awaitStatusResponseFrom x → c .«gap_state» ≡ DoPoll a → Move p n now x c (AwaitStatusResponse a) c
   -- set_offline: by command, or by a second collision
   goes-offline : {x : State} {c : Core} → Move p n now x c Offline freshCore
   -- set_online, set_passive

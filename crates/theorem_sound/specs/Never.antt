@@ -29,8 +29,6 @@ use Rattle.station.specs.declared.OptionAddress.{OptionAddress}
 use Rattle.station.specs.declared.OptionAddress.the-variants as optionAddress
 use Rattle.station.specs.declared.OptionApplication.{OptionApplication}
 use Rattle.station.specs.declared.OptionApplication.the-variants as optionApplication
-use Rattle.station.specs.declared.ConnectivityState.{ConnectivityState}
-use Rattle.station.specs.declared.ConnectivityState.the-variants as connectivity
 use Rattle.station.specs.declared.State.{State}
 use Rattle.station.specs.declared.State.the-variants.{Offline, ListenToken, ActiveIdle, UseToken, ClaimToken, AwaitDataResponse, PassToken, CheckTokenPass, AwaitStatusResponse, PassiveIdle}
 use Rattle.station.specs.declared.Core.{Core}
@@ -42,51 +40,15 @@ use Rattle.station_hold.specs.Hold.{declinesOn, declinesAt, firstOr, turnOf, as
 use Rattle.station_hear_active.specs.HearActive.{activeCollided, tokenWitnessed, tokenHeard, activeRequested, activeHeard, handleTelegram}
 use Rattle.station_hear_listen.specs.HearListen.{collided, sentByUs, notedOf, witnessedOf, overheardOf, listenHeard, passiveHeard, listenTelegram}
 use Rattle.station_listen.specs.Listen.{heardTelegram, heardAll}
-use Rattle.station_poll.specs.Poll.{connectedOf, passivatedOf, enteredOf}
+use Rattle.station_poll.specs.Poll.{enteredOf}
 use Rattle.theorem_sound.specs.Moves.{KnownWith, OneOf, Clock}
 use Rattle.theorem_sound.specs.Lines.{KnownIn, SoundCore}
-use Rattle.theorem_sound.specs.Sound.{dispatched}
+use Rattle.theorem_sound.specs.Sound.{dispatch-never-offline, dispatched}
 use Rattle.theorem_sound.specs.Kept.{not-true}
 use Rattle.theorem_sound.specs.Keeps.{either}
 use Rattle.theorem_sound.specs.Hold.{turn-good, asked-good, first-or-good}
 
--- no state but Offline has the number 0
-no-state : (k : ℕ) → suc k ≡ 0 → ⊥
-no-state k e = omega arith
-
--- 1. Offline inside the dispatch (`unreachable!()` in poll_inner): the state that the dispatch of a station that is not offline is given
--- is not Offline, since enteredOf comes first.
-connected-never-offline : (x : State) → connectedOf x ≡ Offline → ⊥
-unfolding connectedOf
-connected-never-offline Offline e = no-state 0 (ap stateNumber e)
-connected-never-offline (ListenToken q k) e = no-state 0 (ap stateNumber e)
-connected-never-offline (ActiveIdle q m k) e = no-state 1 (ap stateNumber e)
-connected-never-offline (UseToken k d) e = no-state 2 (ap stateNumber e)
-connected-never-offline (ClaimToken b) e = no-state 3 (ap stateNumber e)
-connected-never-offline (AwaitDataResponse a d) e = no-state 4 (ap stateNumber e)
-connected-never-offline (PassToken g k) e = no-state 5 (ap stateNumber e)
-connected-never-offline (CheckTokenPass k) e = no-state 6 (ap stateNumber e)
-connected-never-offline (AwaitStatusResponse a) e = no-state 7 (ap stateNumber e)
-connected-never-offline (PassiveIdle q) e = no-state 0 (ap stateNumber e)
-
-passivated-never-offline : (x : State) → passivatedOf x ≡ Offline → ⊥
-unfolding passivatedOf
-passivated-never-offline Offline e = no-state 8 (ap stateNumber e)
-passivated-never-offline (ListenToken q k) e = no-state 8 (ap stateNumber e)
-passivated-never-offline (ActiveIdle q m k) e = no-state 8 (ap stateNumber e)
-passivated-never-offline (UseToken k d) e = no-state 2 (ap stateNumber e)
-passivated-never-offline (ClaimToken b) e = no-state 3 (ap stateNumber e)
-passivated-never-offline (AwaitDataResponse a d) e = no-state 4 (ap stateNumber e)
-passivated-never-offline (PassToken g k) e = no-state 5 (ap stateNumber e)
-passivated-never-offline (CheckTokenPass k) e = no-state 6 (ap stateNumber e)
-passivated-never-offline (AwaitStatusResponse a) e = no-state 7 (ap stateNumber e)
-passivated-never-offline (PassiveIdle q) e = no-state 8 (ap stateNumber e)
-
-pub dispatch-never-offline : (v : ConnectivityState) (x : State) → isOffline v ≡ false → enteredOf v x ≡ Offline → ⊥
-unfolding enteredOf isOffline
-dispatch-never-offline connectivity.Offline x f e = not-true (sym f)
-dispatch-never-offline connectivity.Passive x f e = passivated-never-offline x e
-dispatch-never-offline connectivity.Online x f e = connected-never-offline x e
+-- 1. Offline inside the dispatch: `dispatch-never-offline` of Sound.antt.
 
 -- 2. An application that declines where one was found to send (appTransmitOf, its first clause): the one that asking found to send
 -- does not decline.
@@ -358,6 +320,6 @@ unknown-listening (CheckTokenPass i) a z k e = absurd (rw e at k)
 unknown-listening (AwaitStatusResponse s) a z k e = absurd (rw e at k)
 unknown-listening (PassiveIdle q) a z k e = unknown-passive q a k e
 
-pub only-listening-unknown : (p : Parameters) (n : ℕ) (now : Micros) (x : State) (c : Core) (pending : ℕ) → pending < 2 ^ 16 → Clock now → isOffline (c .«connectivity_state») ≡ false → SoundCore p n x c → busActivityOf c now pending .«last_bus_activity» ≡ activity.Unknown → MayNotKnow (enteredOf (c .«connectivity_state») x)
+pub only-listening-unknown : (p : Parameters) (n : ℕ) (now : Micros) (x : State) (c : Core) (pending : ℕ) → pending < 2 ^ 11 → Clock now → isOffline (c .«connectivity_state») ≡ false → SoundCore p n x c → busActivityOf c now pending .«last_bus_activity» ≡ activity.Unknown → MayNotKnow (enteredOf (c .«connectivity_state») x)
 only-listening-unknown p n now x c pending few l o w e =
     unknown-listening _ _ (dispatch-never-offline (c .«connectivity_state») x o) (dispatched p n now x c pending few l o w .activity-known) e

@@ -29,15 +29,15 @@ use Rattle.station_pass.specs.Pass.{gapAdvanced, passSentOn, passSend, passPoll
 use Rattle.station_await_status.specs.AwaitStatus.{statusRingOn, statusRing, statusAnswered, statusUnexpected, statusReceived, awaitStatusOf}
 use Rattle.station_check_pass.specs.CheckPass.{resendOf, checkReceived, checkTokenPassOf}
 use Rattle.theorem_sound.specs.Moves.{GapAddressed, GapCounted}
-use Rattle.theorem_sound.specs.Keeps.{RingGood, either, decided, gap-low, add-good, remove-good, witness-good}
-use Rattle.theorem_sound.specs.Walk.{Came, RingMade, event-made, sound-at, known-here, new-token, paused, slotted, slot-known, rx, gap-turned, to-idle, to-use, to-pass, to-check, to-await-status, done-made, transmit-made}
+use Rattle.theorem_sound.specs.Keeps.{RingGood, either, decided, gap-asked, add-good, remove-good, witness-good}
+use Rattle.theorem_sound.specs.Walk.{Came, RingMade, event-made, known-here, new-token, new-unasked, paused, slotted, slot-known, rx, gap-turned, to-idle, to-use, to-pass, to-check, to-await-status, done-made, transmit-made}
 use Rattle.theorem_sound.specs.Listen.{ActiveEnds, handled-made}
 
 -- do_pass_token: the gap's turn
-pub advanced-good : (p : Parameters) (r : Ring) (s : GapState) → RingGood p r → GapAddressed (gapAdvanced p r s)
+pub advanced-good : (p : Parameters) (r : Ring) (s : GapState) → RingGood p r → GapAddressed p (gapAdvanced p r s)
 unfolding gapAdvanced
-advanced-good p r (Waiting count) g = either GapAddressed (ltb (p .«gap_wait_rotations») count) _ _ (gap-low r _ _ (g .sound)) tt
-advanced-good p r (DoPoll current) g = gap-low r _ _ (g .sound)
+advanced-good p r (Waiting count) g = either (GapAddressed p) (ltb (p .«gap_wait_rotations») count) _ _ (gap-asked p r _ g) tt
+advanced-good p r (DoPoll current) g = gap-asked p r _ g
 
 gap-counted : (p : Parameters) (r : Ring) (a hsa : ℕ) → GapCounted p (gapOf r a hsa)
 unfolding gapOf
@@ -73,7 +73,7 @@ module _ {p : Parameters} {n : ℕ} {now : Micros} {x₀ : State} {c₀ : Core} 
   sent-made : {gap : Bool} {attempt : PassTokenAttempt} {c : Core} (x : NextStation) (to : ℕ) (r : Ring) → PassEnds E gap → Came p n now x₀ c₀ (PassToken gap attempt) c → RingGood p r → RingMade p n now x₀ c₀ E (passSentOn x p c now attempt to r)
   unfolding passSentOn
   sent-made Nobody to r e k g =
-      record { made-step = transmit-made _ (lit≤ tt) (to-use _ refl (new-token n now (k .clock)) k) (e .ends-alone _); made-ring = g }
+      record { made-step = transmit-made _ (lit≤ tt) (to-use _ refl (new-token n now (k .clock)) (new-unasked now) k) (e .ends-alone _); made-ring = g }
   sent-made {attempt = attempt} (Neighbour a) to r e k g =
       record { made-step = transmit-made _ (lit≤ tt) (to-check attempt refl k) (e .ends-check _); made-ring = g }
 
@@ -81,17 +81,17 @@ module _ {p : Parameters} {n : ℕ} {now : Micros} {x₀ : State} {c₀ : Core} 
   unfolding passSend
   send-made r e k g = sent-made _ _ _ e k (witness-good p r (p .address) _ g)
 
-  poll-on-made : {attempt : PassTokenAttempt} {c : Core} (s : GapState) (r : Ring) → GapAddressed s → PassEnds E true → Came p n now x₀ c₀ (PassToken true attempt) c → RingGood p r → RingMade p n now x₀ c₀ E (passPollOn s p c r now attempt)
+  poll-on-made : {attempt : PassTokenAttempt} {c : Core} (s : GapState) (r : Ring) → c .«gap_state» ≡ s → PassEnds E true → Came p n now x₀ c₀ (PassToken true attempt) c → RingGood p r → RingMade p n now x₀ c₀ E (passPollOn s p c r now attempt)
   unfolding passPollOn
   poll-on-made (Waiting count) r l e k g = send-made r e k g
   poll-on-made (DoPoll current) r l e k g =
-      record { made-step = transmit-made _ (lit≤ tt) (to-await-status current refl (omega arith) k) (e .ends-asking refl _); made-ring = g }
+      record { made-step = transmit-made _ (lit≤ tt) (to-await-status current refl l k) (e .ends-asking refl _); made-ring = g }
 
   pub pass-token-made : {attempt : PassTokenAttempt} {c : Core} (gap : Bool) (r : Ring) → PassEnds E gap → (pauseOf p c now .over ≡ false → E (PassToken gap attempt)) → Came p n now x₀ c₀ (PassToken gap attempt) c → RingGood p r → RingMade p n now x₀ c₀ E (passTokenOf p c r now gap attempt)
   unfolding passTokenOf passPoll
   pass-token-made {c = c} true r e u k g =
       let t = gap-turned _ (advanced-good p r (c .«gap_state») g) (advanced-counted p r (c .«gap_state»)) (paused k) in
-      decided (RingMade p n now x₀ c₀ E) (pauseOf p c now .over) _ _ (λ o. poll-on-made _ r (sound-at t .gap-address) e t g)
+      decided (RingMade p n now x₀ c₀ E) (pauseOf p c now .over) _ _ (λ o. poll-on-made _ r refl e t g)
       (λ o. record { made-step = done-made _ (paused k) (u o); made-ring = g })
   pass-token-made {c = c} false r e u k g =
       decided (RingMade p n now x₀ c₀ E) (pauseOf p c now .over) _ _ (λ o. send-made r e (paused k) g)

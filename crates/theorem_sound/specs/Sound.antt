@@ -1,8 +1,8 @@
 -- Every station that the public calls make is sound: what `new` gives for an address of settings and a number of applications that is
 -- not refused, and what any list of polls and commands makes of it.
-use Prim.Native.Nat.{ℕ, _^_, _<_, _≤_}
+use Prim.Native.Nat.{ℕ, suc, _^_, _<_, _≤_}
 use mathlib.Core.Bool.{Bool, true, false, cond}
-use mathlib.Core.Path.{_≡_, refl, sym, subst}
+use mathlib.Core.Path.{_≡_, refl, sym, ap, subst}
 use mathlib.Core.Logic.{inl}
 use mathlib.Core.List.{List, [], _∷_}
 use native.Mathlib.Omega.{arith}
@@ -25,14 +25,14 @@ use Rattle.station.specs.declared.State.the-variants.{Offline, ListenToken, Act
 use Rattle.station.specs.declared.Core.{Core}
 use Rattle.station.specs.Whole.{Station, RingStep}
 use Rattle.station.specs.Parts.{zeroTime, freshCore, freshStation, isOffline, stateNumber}
-use Rattle.station.specs.Steps.{ongoingOf, busActivityOf, doneOf, ringStepOf}
+use Rattle.station.specs.Steps.{ongoingOf, busActivityOf, pauseOf, tokenLostWaitOf, doneOf, ringStepOf}
 use Rattle.station_poll.specs.Poll.{connectedOf, passivatedOf, enteredOf, dispatchOf, pollOnline, pollInner, acceptedAfter, acceptedPoll, pollOf}
 use Rattle.station_answer.specs.Answer.{Polled, polledOf, refusedPoll}
 use Rattle.station_command.specs.Command.{connectOf, onlineOf, offlineOf, passiveOf}
 use Rattle.theorem_sound.specs.Moves.{lists, Clock, Moves, none, then, goes-offline, connects}
 use Rattle.theorem_sound.specs.Lines.{SoundCore}
-use Rattle.theorem_sound.specs.Kept.{not-true, not-passive, not-online, moves-keep}
-use Rattle.theorem_sound.specs.Follows.{reached, FirstAttempt, SlotCoversPause, Follows, covered}
+use Rattle.theorem_sound.specs.Kept.{not-true, not-passive, not-online, fresh-core, moves-keep}
+use Rattle.theorem_sound.specs.Follows.{reached, FirstAttempt, SlotCoversPause, Follows, covered, lost-covered}
 use Rattle.theorem_sound.specs.Keeps.{RingGood, either, fresh-good, again-good}
 use Rattle.theorem_sound.specs.Walk.{Came, RingMade, sound-at, marked, ends-where, bus, to-passive, to-listen, done-made}
 use Rattle.theorem_sound.specs.Hold.{use-token-made, await-data-made}
@@ -48,7 +48,7 @@ pub record SoundStation (s : Station) : Type 0 where
   -- there are 1 to 8 applications
   pub some : 1 ≤ s .applications
   pub eight : s .applications ≤ 8
-  -- a token pass stands at its first attempt, where the slot is not shorter than the pause
+  -- a token pass stands at its first attempt and a claim has sent its first token, where the slot is not shorter than the pause
   pub first-attempt : SlotCoversPause (s .p) → FirstAttempt (s .state)
   -- its state and core are sound: see SoundCore, in Lines.antt, for the lines
   pub core-sound : SoundCore (s .p) (s .applications) (s .state) (s .core)
@@ -83,9 +83,51 @@ clockOf online = zeroTime
 clockOf offline = zeroTime
 clockOf passive = zeroTime
 
+-- no state but Offline has the number 0
+no-state : (k : ℕ) → suc k ≡ 0 → ⊥
+no-state k e = omega arith
+
+-- Offline inside the dispatch (`unreachable!()` in poll_inner): the state that the dispatch of a station that is not offline is given
+-- is not Offline, since enteredOf comes first.
+connected-never-offline : (x : State) → connectedOf x ≡ Offline → ⊥
+unfolding connectedOf
+connected-never-offline Offline e = no-state 0 (ap stateNumber e)
+connected-never-offline (ListenToken q k) e = no-state 0 (ap stateNumber e)
+connected-never-offline (ActiveIdle q m k) e = no-state 1 (ap stateNumber e)
+connected-never-offline (UseToken k d) e = no-state 2 (ap stateNumber e)
+connected-never-offline (ClaimToken b) e = no-state 3 (ap stateNumber e)
+connected-never-offline (AwaitDataResponse a d) e = no-state 4 (ap stateNumber e)
+connected-never-offline (PassToken g k) e = no-state 5 (ap stateNumber e)
+connected-never-offline (CheckTokenPass k) e = no-state 6 (ap stateNumber e)
+connected-never-offline (AwaitStatusResponse a) e = no-state 7 (ap stateNumber e)
+connected-never-offline (PassiveIdle q) e = no-state 0 (ap stateNumber e)
+
+passivated-never-offline : (x : State) → passivatedOf x ≡ Offline → ⊥
+unfolding passivatedOf
+passivated-never-offline Offline e = no-state 8 (ap stateNumber e)
+passivated-never-offline (ListenToken q k) e = no-state 8 (ap stateNumber e)
+passivated-never-offline (ActiveIdle q m k) e = no-state 8 (ap stateNumber e)
+passivated-never-offline (UseToken k d) e = no-state 2 (ap stateNumber e)
+passivated-never-offline (ClaimToken b) e = no-state 3 (ap stateNumber e)
+passivated-never-offline (AwaitDataResponse a d) e = no-state 4 (ap stateNumber e)
+passivated-never-offline (PassToken g k) e = no-state 5 (ap stateNumber e)
+passivated-never-offline (CheckTokenPass k) e = no-state 6 (ap stateNumber e)
+passivated-never-offline (AwaitStatusResponse a) e = no-state 7 (ap stateNumber e)
+passivated-never-offline (PassiveIdle q) e = no-state 8 (ap stateNumber e)
+
+pub dispatch-never-offline : (v : ConnectivityState) (x : State) → isOffline v ≡ false → enteredOf v x ≡ Offline → ⊥
+unfolding enteredOf isOffline
+dispatch-never-offline connectivity.Offline x f e = not-true (sym f)
+dispatch-never-offline connectivity.Passive x f e = passivated-never-offline x e
+dispatch-never-offline connectivity.Online x f e = connected-never-offline x e
+
 -- a state that the table has
 goes : {p : Parameters} {x y : State} → lists (reached x) (stateNumber y) ≡ true → FirstAttempt y → Follows p x y
 goes i f = record { in-table = λ s. i; at-first = λ s. f }
+
+-- a lost token is claimed in the poll that finds it lost
+lost-follows : {p : Parameters} {x : State} (c : Core) (now : Micros) → lists (reached x) 4 ≡ true → tokenLostWaitOf p c now .over ≡ true → pauseOf p (tokenLostWaitOf p c now .core) now .over ≡ false → Follows p x (ClaimToken true)
+lost-follows {p} c now i e u = record { in-table = λ s. i; at-first = λ s. absurd (lost-covered p c now s e u) }
 
 -- a poll's part of it
 module _ {p : Parameters} {n : ℕ} {now : Micros} {x₀ : State} {c₀ : Core} where
@@ -124,70 +166,71 @@ module _ {p : Parameters} {n : ℕ} {now : Micros} {x₀ : State} {c₀ : Core} 
   entered-came connectivity.Online x o f k = connected-came x (not-online _ o) k
 
   -- what a poll comes to by what its dispatch does, from the state x
-  poll-online-made : {E : State → Type 0} {x : State} {c : Core} (r : Ring) (t : Bool) (pending : ℕ) (few : pending < 2 ^ 16) (bytes : List ℕ) (count : ℕ) → E x → ((d : Core) → Came p n now x₀ c₀ x d → RingMade p n now x₀ c₀ E (dispatchOf p x d r now bytes n count)) → Came p n now x₀ c₀ x c → RingGood p r → RingMade p n now x₀ c₀ E (pollOnline p x c r now t pending bytes n count)
+  poll-online-made : {E : State → Type 0} {x : State} {c : Core} (r : Ring) (t : Bool) (pending : ℕ) (few : pending < 2 ^ 11) (bytes : List ℕ) (count : ℕ) → (x ≡ Offline → ⊥) → E x → ((d : Core) → Came p n now x₀ c₀ x d → RingMade p n now x₀ c₀ E (dispatchOf p x d r now bytes n count)) → Came p n now x₀ c₀ x c → RingGood p r → RingMade p n now x₀ c₀ E (pollOnline p x c r now t pending bytes n count)
   unfolding pollOnline
-  poll-online-made {E} {c = c} r t pending few bytes count y dispatch k g =
+  poll-online-made {E} {c = c} r t pending few bytes count o y dispatch k g =
       either (RingMade p n now x₀ c₀ E) (ongoingOf (c .«last_bus_activity») now t) _ _ (record { made-step = done-made _ (marked k) y; made-ring = g })
-      (dispatch _ (bus pending few k))
+      (dispatch _ (bus pending few o k))
 
   -- what a poll comes to, by the state before it
-  connected-made : (x : State) {c : Core} (r : Ring) (t : Bool) (pending : ℕ) (few : pending < 2 ^ 16) (bytes : List ℕ) (count : ℕ) → (SlotCoversPause p → FirstAttempt x) → (c .«connectivity_state» ≡ connectivity.Offline → ⊥) → Came p n now x₀ c₀ x c → RingGood p r → RingMade p n now x₀ c₀ (Follows p x) (pollOnline p (connectedOf x) c r now t pending bytes n count)
+  connected-made : (x : State) {c : Core} (r : Ring) (t : Bool) (pending : ℕ) (few : pending < 2 ^ 11) (bytes : List ℕ) (count : ℕ) → (SlotCoversPause p → FirstAttempt x) → (c .«connectivity_state» ≡ connectivity.Offline → ⊥) → Came p n now x₀ c₀ x c → RingGood p r → RingMade p n now x₀ c₀ (Follows p x) (pollOnline p (connectedOf x) c r now t pending bytes n count)
   unfolding connectedOf dispatchOf
   connected-made Offline r t pending few bytes count f o k g =
-      poll-online-made r t pending few bytes count (goes refl tt)
-      (λ d m. listen-token-made r bytes count (λ b. goes refl tt) (record { ends-offline = goes refl tt; ends-listen = λ q i. goes refl tt; ends-passive = λ q. goes refl tt }) m g)
+      poll-online-made r t pending few bytes count (λ z. no-state _ (ap stateNumber z)) (goes refl tt)
+      (λ d m. listen-token-made r bytes count (goes refl refl) (lost-follows d now refl) (record { ends-offline = goes refl tt; ends-listen = λ q i. goes refl tt; ends-passive = λ q. goes refl tt }) m g)
       (to-listen refl o k) g
   connected-made (ListenToken optionAddress.None i) r t pending few bytes count f o k g =
-      poll-online-made r t pending few bytes count (goes refl tt)
-      (λ d m. listen-token-made r bytes count (λ b. goes refl tt) (record { ends-offline = goes refl tt; ends-listen = λ q i. goes refl tt; ends-passive = λ q. goes refl tt }) m g) k g
+      poll-online-made r t pending few bytes count (λ z. no-state _ (ap stateNumber z)) (goes refl tt)
+      (λ d m. listen-token-made r bytes count (goes refl refl) (lost-follows d now refl) (record { ends-offline = goes refl tt; ends-listen = λ q i. goes refl tt; ends-passive = λ q. goes refl tt }) m g) k g
   connected-made (ListenToken (optionAddress.Some a) i) r t pending few bytes count f o k g =
-      poll-online-made r t pending few bytes count (goes refl tt)
-      (λ d m. listen-token-made r bytes count (λ b. goes refl tt) (goes refl tt, goes refl tt, goes refl tt) m g) k g
+      poll-online-made r t pending few bytes count (λ z. no-state _ (ap stateNumber z)) (goes refl tt)
+      (λ d m. listen-token-made r bytes count (goes refl refl) (lost-follows d now refl) (goes refl tt, goes refl tt, goes refl tt) m g) k g
   connected-made (ActiveIdle q m i) r t pending few bytes count f o k g =
-      poll-online-made r t pending few bytes count (goes refl tt)
-      (λ d m. active-idle-made r bytes count (λ b. goes refl tt)
+      poll-online-made r t pending few bytes count (λ z. no-state _ (ap stateNumber z)) (goes refl tt)
+      (λ d m. active-idle-made r bytes count (goes refl refl) (lost-follows d now refl)
       (record { ends-idle = λ q m i. goes refl tt; ends-accepted = λ held. goes refl tt; ends-left = goes refl tt }) m g)
       k g
   connected-made (UseToken i d) r t pending few bytes count f o k g =
-      poll-online-made r t pending few bytes count (goes refl tt)
+      poll-online-made r t pending few bytes count (λ z. no-state _ (ap stateNumber z)) (goes refl tt)
       (λ d m. record { made-step = use-token-made i bytes (record { ends-use = λ cycled held. goes refl tt; ends-await = λ a held. goes refl tt; ends-pass = goes refl refl }) m; made-ring = g }) k g
   connected-made (ClaimToken b) r t pending few bytes count f o k g =
-      poll-online-made r t pending few bytes count (goes refl tt) (λ d m. claim-token-made r (λ b. goes refl tt) (λ e held. goes refl tt) m g) k g
+      poll-online-made r t pending few bytes count (λ z. no-state _ (ap stateNumber z)) (record { in-table = λ s. refl; at-first = f })
+      (λ d m. claim-token-made r (goes refl refl) (λ u. record { in-table = λ s. refl; at-first = f }) (λ e held. goes refl tt) m g) k g
   connected-made (AwaitDataResponse a d) r t pending few bytes count f o k g =
-      poll-online-made r t pending few bytes count (goes refl tt)
+      poll-online-made r t pending few bytes count (λ z. no-state _ (ap stateNumber z)) (goes refl tt)
       (λ d m. record { made-step = await-data-made bytes count (record { ends-use = λ cycled held. goes refl tt; ends-await = λ a held. goes refl tt; ends-pass = goes refl refl }) (goes refl tt) m; made-ring = g })
       k g
   connected-made (PassToken gap a) r t pending few bytes count f o k g =
-      poll-online-made r t pending few bytes count (record { in-table = λ s. refl; at-first = f })
+      poll-online-made r t pending few bytes count (λ z. no-state _ (ap stateNumber z)) (record { in-table = λ s. refl; at-first = f })
       (λ d m. pass-token-made gap r
       (record { ends-alone = λ held. goes refl tt; ends-check = λ j. goes refl tt; ends-asking = λ e a. goes refl tt })
       (λ u. record { in-table = λ s. refl; at-first = f }) m g)
       k g
   connected-made (CheckTokenPass a) r t pending few bytes count f o k g =
-      poll-online-made r t pending few bytes count (goes refl tt)
+      poll-online-made r t pending few bytes count (λ z. no-state _ (ap stateNumber z)) (goes refl tt)
       (λ d m. check-token-made a r bytes count
       (record { ends-alone = λ held. goes refl tt; ends-check = λ j. goes refl tt; ends-asking = λ e a. not-true e })
       (record { ends-idle = λ q m i. goes refl tt; ends-accepted = λ held. goes refl tt; ends-left = goes refl tt })
       (λ e u j. record { in-table = λ s. absurd (covered p _ now s e u); at-first = λ s. absurd (covered p _ now s e u) }) m g)
       k g
   connected-made (AwaitStatusResponse a) r t pending few bytes count f o k g =
-      poll-online-made r t pending few bytes count (goes refl tt)
+      poll-online-made r t pending few bytes count (λ z. no-state _ (ap stateNumber z)) (goes refl tt)
       (λ d m. await-status-made r bytes count
       (record { ends-alone = λ held. goes refl tt; ends-check = λ j. goes refl tt; ends-asking = λ e a. not-true e }) (goes refl refl) (goes refl tt) (goes refl tt) m g)
       k g
   connected-made (PassiveIdle q) r t pending few bytes count f o k g =
-      poll-online-made r t pending few bytes count (goes refl tt)
-      (λ d m. listen-token-made r bytes count (λ b. goes refl tt) (record { ends-offline = goes refl tt; ends-listen = λ q i. goes refl tt; ends-passive = λ q. goes refl tt }) m g)
+      poll-online-made r t pending few bytes count (λ z. no-state _ (ap stateNumber z)) (goes refl tt)
+      (λ d m. listen-token-made r bytes count (goes refl refl) (lost-follows d now refl) (record { ends-offline = goes refl tt; ends-listen = λ q i. goes refl tt; ends-passive = λ q. goes refl tt }) m g)
       (to-listen refl o k) g
 
   -- what a poll of PassiveIdle comes to, from a state that may be left for it
-  idle-made : {E : State → Type 0} {c : Core} (q : OptionAddress) (r : Ring) (t : Bool) (pending : ℕ) (few : pending < 2 ^ 16) (bytes : List ℕ) (count : ℕ) → ((q' : OptionAddress) → E (PassiveIdle q')) → Came p n now x₀ c₀ (PassiveIdle q) c → RingGood p r → RingMade p n now x₀ c₀ E (pollOnline p (PassiveIdle q) c r now t pending bytes n count)
+  idle-made : {E : State → Type 0} {c : Core} (q : OptionAddress) (r : Ring) (t : Bool) (pending : ℕ) (few : pending < 2 ^ 11) (bytes : List ℕ) (count : ℕ) → ((q' : OptionAddress) → E (PassiveIdle q')) → Came p n now x₀ c₀ (PassiveIdle q) c → RingGood p r → RingMade p n now x₀ c₀ E (pollOnline p (PassiveIdle q) c r now t pending bytes n count)
   unfolding dispatchOf
   idle-made {E} q r t pending few bytes count e k g =
-      poll-online-made r t pending few bytes count (e q) (λ d m. ends-where (λ y w. subst E (sym (w .1)) (e (w .0))) (passive-idle-made q r bytes count m g)) k g
+      poll-online-made r t pending few bytes count (λ z. no-state _ (ap stateNumber z)) (e q) (λ d m. ends-where (λ y w. subst E (sym (w .1)) (e (w .0))) (passive-idle-made q r bytes count m g)) k g
 
   -- what a poll of a passive station comes to, by the state before it
-  passivated-made : (x : State) {c : Core} (r : Ring) (t : Bool) (pending : ℕ) (few : pending < 2 ^ 16) (bytes : List ℕ) (count : ℕ) → (SlotCoversPause p → FirstAttempt x) → c .«connectivity_state» ≡ connectivity.Passive → Came p n now x₀ c₀ x c → RingGood p r → RingMade p n now x₀ c₀ (Follows p x) (pollOnline p (passivatedOf x) c r now t pending bytes n count)
+  passivated-made : (x : State) {c : Core} (r : Ring) (t : Bool) (pending : ℕ) (few : pending < 2 ^ 11) (bytes : List ℕ) (count : ℕ) → (SlotCoversPause p → FirstAttempt x) → c .«connectivity_state» ≡ connectivity.Passive → Came p n now x₀ c₀ x c → RingGood p r → RingMade p n now x₀ c₀ (Follows p x) (pollOnline p (passivatedOf x) c r now t pending bytes n count)
   unfolding passivatedOf connectedOf
   passivated-made Offline r t pending few bytes count f o k g = idle-made _ r t pending few bytes count (λ q. goes refl tt) (to-passive refl o k) g
   passivated-made (ListenToken q i) r t pending few bytes count f o k g = idle-made _ r t pending few bytes count (λ q. goes refl tt) (to-passive refl o k) g
@@ -218,10 +261,10 @@ begins : {p : Parameters} {n : ℕ} {now : Micros} {x : State} {c : Core} → Cl
 begins l w = record { clock = l; start = w; by = none }
 
 -- the state and core that the state's step is given: past enteredOf and check_for_bus_activity
-pub dispatched : (p : Parameters) (n : ℕ) (now : Micros) (x : State) (c : Core) (pending : ℕ) → pending < 2 ^ 16 → Clock now → isOffline (c .«connectivity_state») ≡ false → SoundCore p n x c → SoundCore p n (enteredOf (c .«connectivity_state») x) (busActivityOf c now pending)
-dispatched p n now x c pending few l o w = sound-at (bus pending few (entered-came (c .«connectivity_state») x refl o (begins l w)))
+pub dispatched : (p : Parameters) (n : ℕ) (now : Micros) (x : State) (c : Core) (pending : ℕ) → pending < 2 ^ 11 → Clock now → isOffline (c .«connectivity_state») ≡ false → SoundCore p n x c → SoundCore p n (enteredOf (c .«connectivity_state») x) (busActivityOf c now pending)
+dispatched p n now x c pending few l o w = sound-at (bus pending few (dispatch-never-offline (c .«connectivity_state») x o) (entered-came (c .«connectivity_state») x refl o (begins l w)))
 
-poll-inner-made : (p : Parameters) (n : ℕ) (now : Micros) (x : State) (c : Core) (r : Ring) (t : Bool) (pending : ℕ) (few : pending < 2 ^ 16) (bytes : List ℕ) (count : ℕ) → Clock now → SoundCore p n x c → (SlotCoversPause p → FirstAttempt x) → RingGood p r → RingMade p n now x c (Follows p x) (pollInner p x c r now t pending bytes n count)
+poll-inner-made : (p : Parameters) (n : ℕ) (now : Micros) (x : State) (c : Core) (r : Ring) (t : Bool) (pending : ℕ) (few : pending < 2 ^ 11) (bytes : List ℕ) (count : ℕ) → Clock now → SoundCore p n x c → (SlotCoversPause p → FirstAttempt x) → RingGood p r → RingMade p n now x c (Follows p x) (pollInner p x c r now t pending bytes n count)
 unfolding pollInner enteredOf isOffline
 poll-inner-made p n now x c r t pending few bytes count l w f g = go (c .«connectivity_state») refl
   where
@@ -255,11 +298,11 @@ unfolding refusedPoll
 refused-made s now k w = stays-made s now w
 
 -- a record's pending bytes have 11 bits
-pub few-pending : (bytes : List ℕ) → headOf bytes .pending < 2 ^ 16
-few-pending bytes = omega (arith, pending-below bytes)
+pub few-pending : (bytes : List ℕ) → headOf bytes .pending < 2 ^ 11
+few-pending bytes = pending-below bytes
 
 -- the step of a poll whose record is not refused
-pub inner-made : (s : Station) (bytes : List ℕ) (t : Bool) (pending count : ℕ) → pending < 2 ^ 16 → SoundStation s → RingMade (s .p) (s .applications) (clockOf (poll bytes)) (s .state) (s .core) (Follows (s .p) (s .state)) (pollInner (s .p) (s .state) (s .core) (s .«token_ring») (clockOf (poll bytes)) t pending bytes (s .applications) count)
+pub inner-made : (s : Station) (bytes : List ℕ) (t : Bool) (pending count : ℕ) → pending < 2 ^ 11 → SoundStation s → RingMade (s .p) (s .applications) (clockOf (poll bytes)) (s .state) (s .core) (Follows (s .p) (s .state)) (pollInner (s .p) (s .state) (s .core) (s .«token_ring») (clockOf (poll bytes)) t pending bytes (s .applications) count)
 inner-made s bytes t pending count few w =
     poll-inner-made (s .p) (s .applications) _ (s .state) (s .core) (s .«token_ring») t pending few bytes count (clock-fits bytes) (w .core-sound) (w .first-attempt) (part-ring s w)
 
@@ -328,14 +371,18 @@ unfolding freshCore
 fresh-core-sound p n l =
     record {
       next-one = l;
+      pending-few = lit< tt;
       addresses = tt;
       gap-address = tt;
+      asked-in-gap = tt;
       gap-count = omega arith;
       offline = λ e. refl;
+      fresh-offline = fresh-core;
       collided-once = tt;
       activity-known = tt;
       activity-fits = tt;
       token-held = tt;
+      token-unasked = tt;
       last-token = tt;
       token-time = lit< tt;
       hold-made = inl (record { no-last = refl; no-end = refl });

@@ -8,6 +8,7 @@ use Rattle.bit_times.specs.declared.Micros.{Micros}
 use Rattle.settings.specs.declared.Parameters.{Parameters}
 use Rattle.ring.specs.Ring.{Ring}
 use Rattle.ring.specs.declared.GapState.{GapState}
+use Rattle.ring.specs.declared.GapState.the-variants.{DoPoll}
 use Rattle.codec_answers.specs.declared.Outcome.{Outcome}
 use Rattle.codec_answers.specs.declared.Sent.{Sent}
 use Rattle.codec_answers.specs.Answers.{sentBytes}
@@ -24,7 +25,7 @@ use Rattle.station.specs.Whole.{RingStep, Heard}
 use Rattle.station.specs.Parts.{withActivity, withPending, withGap, withNextApplication, freshCore, stateNumber}
 use Rattle.station.specs.Steps.{withTokenTime, toListenToken, toPassiveIdle, toActiveIdle, markedAt, waitedOf, pauseOf, slotExpiredOf, tokenLostWaitOf, rxOf, busActivityOf, doneOf, transmitOf, withEvent, heardOf, collisionOf}
 use Rattle.station_hold.specs.Hold.{holdEndOf}
-use Rattle.theorem_sound.specs.Moves.{passiveIdleFrom, listenTokenFrom, activeIdleFrom, useTokenFrom, claimTokenFrom, awaitDataResponseFrom, passTokenFrom, checkTokenPassFrom, awaitStatusResponseFrom, In, Known, KnownWith, Low, Clock, HeldFits, GapAddressed, GapCounted, Move, waits, marks, sends, pends, holds, turns, gaps, listens, passives, idles, cycles, claims, passive-idle, listen-token, active-idle, use-token, claim-token, await-data-response, pass-token, check-token-pass, await-status-response, goes-offline, Moves, then}
+use Rattle.theorem_sound.specs.Moves.{passiveIdleFrom, listenTokenFrom, activeIdleFrom, useTokenFrom, claimTokenFrom, awaitDataResponseFrom, passTokenFrom, checkTokenPassFrom, awaitStatusResponseFrom, In, Known, KnownWith, Low, Other, Clock, Unasked, HeldFits, GapAddressed, GapCounted, Move, waits, marks, sends, pends, holds, turns, gaps, listens, passives, idles, cycles, claims, passive-idle, listen-token, active-idle, use-token, use-token-again, claim-token, await-data-response, pass-token, check-token-pass, await-status-response, goes-offline, Moves, then}
 use Rattle.theorem_sound.specs.Lines.{Addressed, CollidedOnce, KnownIn, HeldIn, LastToken, SoundCore}
 use Rattle.theorem_sound.specs.Kept.{moves-keep, marked-known}
 use Rattle.theorem_sound.specs.Keeps.{RingGood, either}
@@ -61,6 +62,10 @@ pub new-token : (n : ℕ) (now : Micros) → Clock now → HeldFits n (withToken
 unfolding withTokenTime
 new-token n now l = record { token-time = l; first-one = tt }
 
+pub new-unasked : (now : Micros) → Unasked (withTokenTime now)
+unfolding withTokenTime
+new-unasked now = refl
+
 -- after a wait or a reception the activity is known
 waited-known : (c : Core) (now time : Micros) → Known (waitedOf c now time .core .«last_bus_activity»)
 unfolding waitedOf withActivity
@@ -87,7 +92,7 @@ module _ {p : Parameters} {n : ℕ} {now : Micros} {x₀ : State} {c₀ : Core} 
   pub sound-at : {x : State} {c : Core} → Came p n now x₀ c₀ x c → SoundCore p n x c
   sound-at k = moves-keep (k .clock) (k .by) (k .start)
 
-  pub addressed-at : {x : State} {c : Core} → Came p n now x₀ c₀ x c → Addressed x
+  pub addressed-at : {x : State} {c : Core} → Came p n now x₀ c₀ x c → Addressed (p .address) x
   addressed-at k = sound-at k .addresses
 
   pub collided-at : {x : State} {c : Core} → Came p n now x₀ c₀ x c → CollidedOnce x
@@ -132,31 +137,31 @@ module _ {p : Parameters} {n : ℕ} {now : Micros} {x₀ : State} {c₀ : Core} 
 
   pub rx : {x : State} {c : Core} → Came p n now x₀ c₀ x c → Came p n now x₀ c₀ x (rxOf c now)
   unfolding rxOf withActivity withPending
-  rx k = moved (moved k (pends 0 (lit< tt))) marks
+  rx k = moved (moved k (pends 0 (lit< tt) (λ e. refl))) marks
 
-  pub bus : {x : State} {c : Core} (pending : ℕ) → pending < 2 ^ 16 → Came p n now x₀ c₀ x c → Came p n now x₀ c₀ x (busActivityOf c now pending)
+  pub bus : {x : State} {c : Core} (pending : ℕ) → pending < 2 ^ 11 → (x ≡ Offline → ⊥) → Came p n now x₀ c₀ x c → Came p n now x₀ c₀ x (busActivityOf c now pending)
   unfolding busActivityOf
-  bus {c} pending few k =
-      either (Came p n now x₀ c₀ _) (ltb (c .«pending_bytes») pending) _ _ (moved (moved k marks) (pends pending few)) k
+  bus {c} pending few o k =
+      either (Came p n now x₀ c₀ _) (ltb (c .«pending_bytes») pending) _ _ (moved (moved k marks) (pends pending few (λ e. absurd (o e)))) k
 
   -- the end of hold, the next application, the gap's turn
   pub hold-set-at : {cycled : Bool} {held : UseTokenData} {c : Core} → Came p n now x₀ c₀ (UseToken cycled held) c → Came p n now x₀ c₀ (UseToken cycled held) (holdEndOf p c (held .«token_time»))
   hold-set-at {cycled} {held} k = moved k (holds held cycled (held-at k))
 
-  pub turned : {x : State} {c : Core} (a : ℕ) → a < n → Came p n now x₀ c₀ x c → Came p n now x₀ c₀ x (withNextApplication c a)
-  turned a l k = moved k (turns a l)
+  pub turned : {cycled : Bool} {held : UseTokenData} {c : Core} (a : ℕ) → a < n → Came p n now x₀ c₀ (UseToken cycled held) c → Came p n now x₀ c₀ (UseToken cycled held) (withNextApplication c a)
+  turned {cycled} {held} a l k = moved k (turns held cycled a l)
 
-  pub gap-turned : {x : State} {c : Core} (g : GapState) → GapAddressed g → GapCounted p g → Came p n now x₀ c₀ x c → Came p n now x₀ c₀ x (withGap c g)
-  gap-turned g l h k = moved k (gaps g l h)
+  pub gap-turned : {gap : Bool} {attempt : PassTokenAttempt} {c : Core} (g : GapState) → GapAddressed p g → GapCounted p g → Came p n now x₀ c₀ (PassToken gap attempt) c → Came p n now x₀ c₀ (PassToken gap attempt) (withGap c g)
+  gap-turned {gap} {attempt} g l h k = moved k (gaps gap attempt g l h)
 
   -- a field of the state
-  pub listen-fields : {q : OptionAddress} {k : ℕ} {c : Core} (q' : OptionAddress) (k' : ℕ) → Low q' → k' ≤ 1 → Came p n now x₀ c₀ (ListenToken q k) c → Came p n now x₀ c₀ (ListenToken q' k') c
+  pub listen-fields : {q : OptionAddress} {k : ℕ} {c : Core} (q' : OptionAddress) (k' : ℕ) → Other (p .address) q' → k' ≤ 1 → Came p n now x₀ c₀ (ListenToken q k) c → Came p n now x₀ c₀ (ListenToken q' k') c
   listen-fields q' k' l o k = moved k (listens _ q' _ k' l o)
 
-  pub passive-fields : {q : OptionAddress} {c : Core} (q' : OptionAddress) → Low q' → KnownWith q' (c .«last_bus_activity») → Came p n now x₀ c₀ (PassiveIdle q) c → Came p n now x₀ c₀ (PassiveIdle q') c
+  pub passive-fields : {q : OptionAddress} {c : Core} (q' : OptionAddress) → Other (p .address) q' → KnownWith q' (c .«last_bus_activity») → Came p n now x₀ c₀ (PassiveIdle q) c → Came p n now x₀ c₀ (PassiveIdle q') c
   passive-fields q' l w k = moved k (passives _ q' l w)
 
-  pub idle-fields : {q m : OptionAddress} {k : ℕ} {c : Core} (q' m' : OptionAddress) (k' : ℕ) → Low q' → Low m' → k' ≤ 1 → Came p n now x₀ c₀ (ActiveIdle q m k) c → Came p n now x₀ c₀ (ActiveIdle q' m' k') c
+  pub idle-fields : {q m : OptionAddress} {k : ℕ} {c : Core} (q' m' : OptionAddress) (k' : ℕ) → Low q' → Other (p .address) m' → k' ≤ 1 → Came p n now x₀ c₀ (ActiveIdle q m k) c → Came p n now x₀ c₀ (ActiveIdle q' m' k') c
   idle-fields q' m' k' l h o k = moved k (idles _ q' _ m' _ k' l h o)
 
   pub cycle-done : {cycled : Bool} {held : UseTokenData} {c : Core} (kept : UseTokenData) → HeldFits n kept → kept .«token_time» .0 ≡ c .«last_token_time» .0 → Came p n now x₀ c₀ (UseToken cycled held) c → Came p n now x₀ c₀ (UseToken true kept) c
@@ -175,8 +180,8 @@ module _ {p : Parameters} {n : ℕ} {now : Micros} {x₀ : State} {c₀ : Core} 
   pub to-idle : {x : State} {c : Core} → In activeIdleFrom x → Known (c .«last_bus_activity») → Came p n now x₀ c₀ x c → Came p n now x₀ c₀ toActiveIdle c
   to-idle i o k = moved k (active-idle i o)
 
-  pub to-use : {x : State} {c : Core} (held : UseTokenData) → In useTokenFrom x → HeldFits n held → Came p n now x₀ c₀ x c → Came p n now x₀ c₀ (UseToken false held) c
-  to-use held i f k = moved k (use-token held i f)
+  pub to-use : {x : State} {c : Core} (held : UseTokenData) → In useTokenFrom x → HeldFits n held → Unasked held → Came p n now x₀ c₀ x c → Came p n now x₀ c₀ (UseToken false held) c
+  to-use held i f z k = moved k (use-token held i f z)
 
   pub to-claim : {x : State} {c : Core} → In claimTokenFrom x → Known (c .«last_bus_activity») → Came p n now x₀ c₀ x c → Came p n now x₀ c₀ (ClaimToken true) c
   to-claim i o k = moved k (claim-token i o)
@@ -190,12 +195,12 @@ module _ {p : Parameters} {n : ℕ} {now : Micros} {x₀ : State} {c₀ : Core} 
   pub to-check : {x : State} {c : Core} (attempt : PassTokenAttempt) → In checkTokenPassFrom x → Came p n now x₀ c₀ x c → Came p n now x₀ c₀ (CheckTokenPass attempt) c
   to-check attempt i k = moved k (check-token-pass attempt i)
 
-  pub to-await-status : {x : State} {c : Core} (a : ℕ) → In awaitStatusResponseFrom x → a < 128 → Came p n now x₀ c₀ x c → Came p n now x₀ c₀ (AwaitStatusResponse a) c
-  to-await-status a i l k = moved k (await-status-response a i l)
+  pub to-await-status : {x : State} {c : Core} (a : ℕ) → In awaitStatusResponseFrom x → c .«gap_state» ≡ DoPoll a → Came p n now x₀ c₀ x c → Came p n now x₀ c₀ (AwaitStatusResponse a) c
+  to-await-status a i e k = moved k (await-status-response a i e)
 
   -- transition_use_token, and first_cycle_done set: after a reply or a timeout
   pub to-use-again : {a : ℕ} {held : UseTokenData} {c : Core} → Came p n now x₀ c₀ (AwaitDataResponse a held) c → Came p n now x₀ c₀ (UseToken true held) c
-  to-use-again {held} k = cycle-done held (held-at k) (last-here k) (to-use held refl (held-at k) k)
+  to-use-again {a} {held} k = moved k (use-token-again a held (held-at k) (last-here k))
 
   pub to-fresh : {x : State} {c : Core} → Came p n now x₀ c₀ x c → Came p n now x₀ c₀ Offline freshCore
   to-fresh k = moved k goes-offline

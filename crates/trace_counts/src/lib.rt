@@ -14,7 +14,7 @@ use station::Counts;
 use station::Station;
 
 // The bytes of the three counts.
-const COUNTS_LENGTH: usize = 12;
+pub const COUNTS_LENGTH: usize = 12;
 
 // What a run over a trace's entries comes to: the number that the call returns, and the counts of the station after it.
 pub struct Counted {
@@ -23,7 +23,7 @@ pub struct Counted {
 }
 
 // Writes the counts into the first 12 bytes, each of 32 bits; every other byte stays. A shorter slice stays as it is.
-fn write_counts(bytes: &mut [u8], counts: Counts)
+pub fn write_counts(bytes: &mut [u8], counts: Counts)
     ensures { λ _. ⌜ now (bytes .exit) ≡ countsOver (now (bytes .entry)) counts ⌝ }
 {
     if bytes.len() < COUNTS_LENGTH {

@@ -9,14 +9,11 @@ ghost use Rattle.station.specs.Whole.{stationAt};
 ghost use Rattle.trace_headers.specs.Headers.{headerLength};
 ghost use Rattle.trace.specs.Trace.{roomFor, ranOf, numberOf};
 ghost use Rattle.trace_heard.specs.TraceHeard.{consumedOver, heardNumber, heardInto};
+use heard::ENTRY_LENGTH;
+use heard::TABLE_LENGTH;
 use settings::Created;
 use settings::Parameters;
 use station::Station;
-
-// The bytes of an entry of the table, and of a table for the 126 addresses.
-const ENTRY_LENGTH: usize = 17;
-
-const TABLE_LENGTH: usize = 2142;
 
 // Answers the entries after the header one by one, from a fresh station, and feeds the table with the telegrams that each consumed.
 fn listen(

@@ -1,5 +1,6 @@
 //! The proved calls as a Rust host makes them. This is the one place with unsafe code.
 
+use oracle::comparison::beside::Beside;
 use oracle::comparison::steps::STATION;
 use oracle::editions::Edition;
 use oracle::trace::ANSWER;
@@ -35,6 +36,32 @@ mod proved {
             entry_len: usize,
             answer: *mut u8,
             answer_len: usize,
+        ) -> u64;
+        /// The call that does so with a table of who was heard: the live door, document 02's P7.
+        pub fn amsulfezd_step_heard(
+            station: *mut u8,
+            station_len: usize,
+            entry: *const u8,
+            entry_len: usize,
+            answer: *mut u8,
+            answer_len: usize,
+            table: *mut u8,
+            table_len: usize,
+        ) -> u64;
+        /// The call that says what such a table has of an address.
+        pub fn amsulfezd_table_heard(
+            table: *const u8,
+            table_len: usize,
+            address: u8,
+            entry: *mut u8,
+            entry_len: usize,
+        ) -> u64;
+        /// The call that gives the counts of a station: the live door, document 02's P6.
+        pub fn amsulfezd_station_counts(
+            station: *const u8,
+            station_len: usize,
+            counts: *mut u8,
+            counts_len: usize,
         ) -> u64;
         /// The call that reads a frame: document 02's P1.
         pub fn amsulfezd_read_frame(frame: *const u8, frame_len: usize) -> u64;
@@ -113,6 +140,43 @@ pub fn step_station(station: &mut [u8], entry: &[u8], answer: &mut [u8]) -> u64 
 /// Steps a trace one entry at a time by the proved calls.
 pub fn step_trace(trace: &[u8], answers: &mut [u8]) -> u64 {
     oracle::comparison::steps::step_trace(&open_station, &step_station, trace, answers)
+}
+
+/// Takes a station one entry further with a table of who was heard by the proved call.
+pub fn step_heard(station: &mut [u8], entry: &[u8], answer: &mut [u8], table: &mut [u8]) -> u64 {
+    let (to, room) = (answer.as_mut_ptr(), answer.len());
+    let (heard, length) = (table.as_mut_ptr(), table.len());
+    // Safety: as above.
+    unsafe {
+        proved::amsulfezd_step_heard(
+            station.as_mut_ptr(),
+            station.len(),
+            entry.as_ptr(),
+            entry.len(),
+            to,
+            room,
+            heard,
+            length,
+        )
+    }
+}
+
+/// Asks a table for an address by the proved call.
+pub fn table_heard(table: &[u8], address: u8, entry: &mut [u8]) -> u64 {
+    // Safety: as above.
+    unsafe { proved::amsulfezd_table_heard(table.as_ptr(), table.len(), address, entry.as_mut_ptr(), entry.len()) }
+}
+
+/// Asks a station for its counts by the proved call.
+pub fn station_counts(station: &[u8], counts: &mut [u8]) -> u64 {
+    // Safety: as above.
+    unsafe { proved::amsulfezd_station_counts(station.as_ptr(), station.len(), counts.as_mut_ptr(), counts.len()) }
+}
+
+/// Steps a trace with a table by the proved calls, and says the counts and who was heard.
+pub fn step_heard_trace(trace: &[u8], left: &mut [u8]) -> u64 {
+    let calls = Beside { open: &open_station, step: &step_heard, counts: &station_counts, heard: &table_heard };
+    oracle::comparison::beside::step_heard_trace(calls, trace, left)
 }
 
 /// Steps a trace one entry at a time by the proved calls, and does nothing else: to measure. The trace has whole entries, and there is

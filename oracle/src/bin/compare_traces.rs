@@ -29,12 +29,14 @@ fn status(words: &[String]) -> i32 {
                         |trace: &[u8], address: u8, entry: &mut [u8]| program.trace_heard(trace, address, entry);
                     let trace_counts = |trace: &[u8], counts: &mut [u8]| program.trace_counts(trace, counts);
                     let step_trace = |trace: &[u8], answers: &mut [u8]| program.step_trace(trace, answers);
+                    let step_heard_trace = |trace: &[u8], left: &mut [u8]| program.step_heard_trace(trace, left);
                     let calls = Calls {
                         replay_trace: &replay_trace,
                         other_edition: &other_edition,
                         trace_heard: &trace_heard,
                         trace_counts: &trace_counts,
                         step_trace: &step_trace,
+                        step_heard_trace: &step_heard_trace,
                     };
                     compare::main(USAGE, calls, &[seed.clone(), count.clone()])
                 }

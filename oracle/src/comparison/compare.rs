@@ -1,11 +1,11 @@
 //! Runs generated traces through the oracle and through another `replay_trace`, steps them one entry at a time by the other's
-//! station, moves their headers by `other_edition` of both,
+//! station, without a table of who was heard and with one, moves their headers by `other_edition` of both,
 //! asks `trace_heard` of both for every address and both `trace_counts`, and holds the number and every byte of the buffer to
 //! each other.
 
 use super::run::{
-    counts_otherwise, first_difference, hears_otherwise, moves_otherwise, parts_from_oracle, run, steps_otherwise, Ask,
-    Call, Calls, Count, Move, Question,
+    counts_otherwise, first_difference, hears_otherwise, moves_otherwise, parts_from_oracle, run, says_otherwise,
+    steps_otherwise, Ask, Call, Calls, Count, Move, Question, Said,
 };
 use super::shorten::shorten;
 use super::words;
@@ -36,6 +36,26 @@ fn describe(replay: Call, trace: &Trace) -> String {
         words::answer(&got, entry),
         words::end(&expected),
         words::end(&got),
+    )
+}
+
+/// What is left otherwise on a trace that is stepped with a table.
+fn describe_said(call: Call, trace: &Trace, found: Said) -> String {
+    let found = says_otherwise(call, trace).unwrap_or(found);
+    format!(
+        "  the shortest trace found that differs, {} entries, room for {} bytes of answers, filled with {:02x}:
+    {}
+  {}; left there, and returned:
+    the oracle:  {}
+    the other:   {}
+",
+        trace.entries.len(),
+        trace.room,
+        trace.fill,
+        words::hex(&trace.bytes()),
+        found.what,
+        words::asked(&found.expected),
+        words::asked(&found.got),
     )
 }
 
@@ -119,6 +139,12 @@ pub fn compare_traces(calls: Calls, seed: u64, count: u64) -> (String, bool) {
             let at = format!("seed {}, trace {}, entry {}", seed, index, entry);
             return (format!("traces: {}: a station that is stepped answers otherwise\n{}", at, shortest), false);
         }
+        if let Some(found) = says_otherwise(calls.step_heard_trace, &made) {
+            let shortest = shorten(&|trace| says_otherwise(calls.step_heard_trace, trace).is_some(), &made);
+            let said = describe_said(calls.step_heard_trace, &shortest, found);
+            let at = format!("seed {}, trace {}", seed, index);
+            return (format!("traces: {}: a station that is stepped with a table says otherwise\n{}", at, said), false);
+        }
         if let Some(found) = moves_otherwise(calls.other_edition, &made) {
             let at = format!("seed {}, trace {}", seed, index);
             return (format!("traces: {}: the header moves otherwise\n{}", at, describe_move(&found)), false);
@@ -150,6 +176,7 @@ pub fn compare_traces(calls: Calls, seed: u64, count: u64) -> (String, bool) {
         say(format!("all {} coverage points reached", points.size()));
     }
     say(format!("each stepped one entry at a time, {} entries, 0 differ", met.entries));
+    say(format!("each stepped with a table, its counts and all addresses asked for, {} calls, 0 differ", met.beside));
     say(format!("their headers moved to the other edition and back, {} calls, 0 differ", met.moves));
     say(format!("each asked for every address that was heard or not, {} calls, 0 differ", met.asked));
     say(format!("each asked for the counts of its station's life, {} calls, 0 differ", met.counted));

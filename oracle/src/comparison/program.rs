@@ -2,10 +2,11 @@
 //! standard output. So the proved library is compared where this machine cannot link it but can run it.
 //!
 //! A call is a byte that says which, 0 for `replay_trace`, 1 for `other_edition`, 2 for `trace_heard`, 3 for
-//! `trace_counts` and 4 for a trace that is stepped (see `steps`), a byte that is the address asked for in `trace_heard` and 0 in the others, the lengths of the bytes that are lent and of the buffer, 8 bytes each, most
+//! `trace_counts`, 4 for a trace that is stepped (see `steps`) and 5 for one that is stepped with a table (see `beside`), a byte that is the address asked for in `trace_heard` and 0 in the others, the lengths of the bytes that are lent and of the buffer, 8 bytes each, most
 //! significant first, then these bytes and the buffer. What it left is the number, 8 bytes, a byte that is 1 if nothing but the
 //! buffer was changed, and the buffer.
 
+use super::beside::oracle_heard_trace;
 use crate::counts::trace_counts;
 use crate::editions::other_edition;
 use crate::heard::trace_heard;
@@ -21,6 +22,7 @@ const OTHER_EDITION: u8 = 1;
 const TRACE_HEARD: u8 = 2;
 const TRACE_COUNTS: u8 = 3;
 const STEP_TRACE: u8 = 4;
+const STEP_HEARD_TRACE: u8 = 5;
 
 /// A program with its arguments, and the process that runs it. After a failure it is started anew, so that a trace that
 /// ends it can be made short.
@@ -59,6 +61,11 @@ impl Program {
     /// Has the program step a trace one entry at a time.
     pub fn step_trace(&self, trace: &[u8], answers: &mut [u8]) -> u64 {
         self.make([STEP_TRACE, 0], trace, answers)
+    }
+
+    /// Has the program step a trace with a table, and say the counts and who was heard.
+    pub fn step_heard_trace(&self, trace: &[u8], left: &mut [u8]) -> u64 {
+        self.make([STEP_HEARD_TRACE, 0], trace, left)
     }
 
     /// Has the program make the call. That it does not answer is a panic, which the comparison counts as a difference.
@@ -129,6 +136,7 @@ pub fn serve() -> Result<()> {
             OTHER_EDITION => other_edition(&lent, &mut buffer),
             TRACE_HEARD => trace_heard(&lent, address, &mut buffer),
             TRACE_COUNTS => trace_counts(&lent, &mut buffer),
+            STEP_HEARD_TRACE => oracle_heard_trace(&lent, &mut buffer),
             _ => return Err(Error::new(ErrorKind::Other, "there is no such call")),
         };
         output.write_all(&[&number.to_be_bytes()[..], &[1], &buffer].concat())?;

@@ -1,11 +1,12 @@
 //! Makes a call on a trace or a header, and finds where what it left parts from what the oracle's call left.
 
-use crate::counts::{self, count, trace_counts};
+use super::beside::{oracle_heard_trace, SAID};
+use crate::counts::{self, count, trace_counts, COUNTS};
 use crate::coverage::counts::ROOMS as COUNT_ROOMS;
 use crate::coverage::heard::questions;
 use crate::coverage::moves::{lent, ROOMS};
 use crate::editions::other_edition;
-use crate::heard::{asked, summarize, trace_heard};
+use crate::heard::{asked, summarize, trace_heard, ENTRY};
 use crate::trace::{replay_trace, Trace, ANSWER};
 use std::panic::{catch_unwind, AssertUnwindSafe};
 
@@ -24,6 +25,8 @@ pub struct Calls<'a> {
     pub trace_counts: Call<'a>,
     /// What `replay_trace` returns and leaves, by a station that is opened and stepped one entry at a time.
     pub step_trace: Call<'a>,
+    /// The same with a table of who was heard, and what is said at the end: see `beside`.
+    pub step_heard_trace: Call<'a>,
 }
 
 /// The oracle's own.
@@ -33,6 +36,7 @@ pub const ORACLE: Calls = Calls {
     trace_heard: &trace_heard,
     trace_counts: &trace_counts,
     step_trace: &replay_trace,
+    step_heard_trace: &oracle_heard_trace,
 };
 
 /// What a call left: the number it returned, `None` if it panicked, and the whole buffer.
@@ -87,6 +91,39 @@ pub fn parts_from_oracle(replay: Call, trace: &Trace) -> Option<usize> {
 /// The entry at which a trace that is stepped parts from the same calls' replay of it, if it does.
 pub fn steps_otherwise(calls: Calls, trace: &Trace) -> Option<usize> {
     first_difference(&run(calls.replay_trace, trace), &run(calls.step_trace, trace))
+}
+
+/// Something that is left otherwise than by the oracle where a trace is stepped with a table.
+pub struct Said {
+    pub what: String,
+    pub expected: Left,
+    pub got: Left,
+}
+
+/// The first such thing on this trace, if there is one.
+pub fn says_otherwise(call: Call, trace: &Trace) -> Option<Said> {
+    let bytes = trace.bytes();
+    let expected = run_on(&oracle_heard_trace, &bytes, SAID + trace.room, trace.fill);
+    let got = run_on(call, &bytes, SAID + trace.room, trace.fill);
+    if expected == got {
+        return None;
+    }
+    let (at, end, what) = match expected.buffer.iter().zip(&got.buffer).position(|(a, b)| a != b) {
+        None => (0, 0, "what is returned".to_string()),
+        Some(at) if at < COUNTS => (0, COUNTS, "the counts".to_string()),
+        Some(at) if at < SAID => {
+            let address = (at - COUNTS) / ENTRY;
+            let from = COUNTS + ENTRY * address;
+            (from, from + ENTRY, format!("address {}", address))
+        }
+        Some(at) => {
+            let entry = (at - SAID) / ANSWER;
+            let from = SAID + ANSWER * entry;
+            (from, expected.buffer.len().min(from + ANSWER), format!("the answer to entry {}", entry + 1))
+        }
+    };
+    let part = |left: Left| Left { buffer: left.buffer[at..end].to_vec(), ..left };
+    Some(Said { what, expected: part(expected), got: part(got) })
 }
 
 /// A move of a header to the other edition on which a call parts from the oracle.

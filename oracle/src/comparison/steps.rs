@@ -9,7 +9,7 @@ use crate::trace::ANSWER;
 pub const STATION: usize = 96;
 
 /// So many bytes behind the station, in the slice that is lent, are watched.
-const BEHIND: usize = 8;
+pub(crate) const BEHIND: usize = 8;
 
 /// A call that takes a station one entry further: the station, the entry, and the buffer for its answer.
 pub type Step<'a> = &'a dyn Fn(&mut [u8], &[u8], &mut [u8]) -> u64;
@@ -18,11 +18,24 @@ pub type Step<'a> = &'a dyn Fn(&mut [u8], &[u8], &mut [u8]) -> u64;
 /// looked at, and a panic is a difference: that an entry's bytes are counted, that what is refused and an entry that is answered with
 /// a refusal leave the station, and that bytes behind it stay.
 pub fn step_trace(open: Call, step: Step, trace: &[u8], answers: &mut [u8]) -> u64 {
+    stepped(open, &mut |station, entry, answer| step(station, entry, answer), trace, answers).0
+}
+
+/// A call that takes a station one entry further and may keep something beside it.
+pub(crate) type Steps<'a> = &'a mut dyn FnMut(&mut [u8], &[u8], &mut [u8]) -> u64;
+
+/// The same, and the station at the end; none where the header is refused.
+pub(crate) fn stepped(
+    open: Call,
+    step: Steps,
+    trace: &[u8],
+    answers: &mut [u8],
+) -> (u64, Option<[u8; STATION + BEHIND]>) {
     let mut station = [0x69; STATION + BEHIND];
     let opened = open(trace, &mut station);
     if opened % 256 != 0 {
         assert_eq!((opened / 256, station), (0, [0x69; STATION + BEHIND]), "a refused header writes");
-        return opened;
+        return (opened, None);
     }
     assert_eq!(opened / 256, STATION as u64, "not the bytes of a station");
     let mut rest = &trace[Edition::of(trace).length()..];
@@ -35,12 +48,12 @@ pub fn step_trace(open: Call, step: Step, trace: &[u8], answers: &mut [u8]) -> u
         let refused = if stepped % 256 == 0 { room[0] >> 3 } else { (stepped % 256) as u8 };
         assert!(refused == 0 || station == before, "what is refused changes the station");
         if stepped % 256 != 0 {
-            return 256 * answered as u64 + stepped;
+            return (256 * answered as u64 + stepped, Some(station));
         }
         rest = &rest[(stepped / 256) as usize..];
         answered += 1;
     }
-    256 * answered as u64
+    (256 * answered as u64, Some(station))
 }
 
 #[cfg(test)]

@@ -1,6 +1,7 @@
 //! A trace is walked entry by entry with the oracle's station, and each entry is counted under what it was and what it
 //! did. What traces have to reach is named here; a pair of states that is said to be out of reach and is met is an error.
 
+use super::beside;
 use super::counts::{self, Living};
 use super::events::{events, EVENTS};
 use super::heard::{self, Hearing};
@@ -176,12 +177,14 @@ fn pairs<A: ToString, B: ToString>(first: &[A], link: &str, second: &[B]) -> Vec
 /// What was met.
 pub struct Met {
     points: Points,
-    /// Traces and entries walked, calls that move a header, calls that ask who was heard, and calls that ask for the counts.
+    /// Traces and entries walked, calls that move a header, calls that ask who was heard, calls that ask for the counts, and calls
+    /// on a station that is stepped with a table.
     pub traces: u64,
     pub entries: u64,
     pub moves: u64,
     pub asked: u64,
     pub counted: u64,
+    pub beside: u64,
 }
 
 impl Default for Met {
@@ -209,6 +212,7 @@ impl Default for Met {
         moves::name_points(&mut points);
         heard::name_points(&mut points);
         counts::name_points(&mut points);
+        beside::name_points(&mut points);
         points.group("entries behind", ["16 bytes", "14 bytes"]);
         points.group("ending", ENDINGS);
         points.group("answer buffer", ["all used", "bytes left over", "eight or more left over"]);
@@ -234,7 +238,7 @@ impl Default for Met {
         points.group("reply to a gap question alone", pairs(&STATION_TYPES, ", ", &OK));
         points.group("event", CLOCKS.iter().chain(&EVENTS));
         passive::name_points(&mut points);
-        Met { points, traces: 0, entries: 0, moves: 0, asked: 0, counted: 0 }
+        Met { points, traces: 0, entries: 0, moves: 0, asked: 0, counted: 0, beside: 0 }
     }
 }
 
@@ -246,6 +250,7 @@ impl Met {
         self.moves += moves::see(&mut self.points, trace);
         self.asked += heard::see(&mut self.points, trace);
         self.counted += counts::see(&mut self.points, trace);
+        self.beside += beside::see(&mut self.points, trace);
         refusals::see_start(&mut self.points, &bytes);
         let header = match Header::read(&bytes) {
             Some(header) if header.refusal().is_some() => return,

@@ -18,15 +18,17 @@ returns-3 : tie.Need-returns-3
 unfolding lookupOn
 returns-3 c =
     let read = c .before .before in
-    let asked = read .before .before .before in
-    rw (lookup-there _ _ _ (sym (asked .before .heard-refusal .ensures) ∙ asked .if1 .left) (read .read-entry .ensures), eq-eqb _ _ (c .if3 .taken))
+    let room = read .before .before in
+    let asked = room .before in
+    rw (lookup-there _ _ _ (sym (asked .before .heard-refusal .ensures) ∙ asked .if1 .left) (room .if2 .left) (read .read-entry .ensures), eq-eqb _ _ (c .if3 .taken))
 
 returns-4 : tie.Need-returns-4
 unfolding lookupOn
 returns-4 c =
     let read = c .before .before in
-    let asked = read .before .before .before in
-    rw (lookup-there _ _ _ (sym (asked .before .heard-refusal .ensures) ∙ asked .if1 .left) (read .read-entry .ensures), ne-eqb _ _ (c .if3 .left))
+    let room = read .before .before in
+    let asked = room .before in
+    rw (lookup-there _ _ _ (sym (asked .before .heard-refusal .ensures) ∙ asked .if1 .left) (room .if2 .left) (read .read-entry .ensures), ne-eqb _ _ (c .if3 .left))
 
 pub lookup-spec : {M : Type 1} → statement M
 lookup-spec =
@@ -34,6 +36,7 @@ lookup-spec =
     (tie.spec
     (λ c κs. search needs)
     returns
+    (λ c. search needs)
     (λ c. search needs)
     returns-2
     (λ c. search needs)

@@ -11,4 +11,4 @@ write-words-spec =
     (λ c κs. search needs)
     (λ c κs. search needs)
     (λ c. search needs)
-    (λ c. simp (← c .before .before .before .before .before .before .write-first .ensures, ← c .before .before .write-last .ensures)))
+    (λ c. simp (← c .before .before .before .before .before .before .write-five .ensures, ← c .before .before .write-five2 .ensures)))

@@ -12,5 +12,6 @@ gap-line-spec =
     (λ c. search needs)
     (λ c. search needs)
     (λ c. search needs)
+    (λ c κs. search needs)
     (λ c. simp (c .before .before .gap .given .1))
-    (λ c. simp (c .before .gap2 .given .1)))
+    (λ c. simp (c .before .before .gap2 .given .1, ← c .in-gap-line .ensures)))

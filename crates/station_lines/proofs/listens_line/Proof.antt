@@ -9,5 +9,5 @@ listens-line-spec =
     tie.close
     (tie.spec
     (λ c κs. search needs)
-    (λ c. simp (← c .before .low-line .ensures, c .if1 .taken))
-    (λ c. simp (← c .before .low-line .ensures, c .if1 .left)))
+    (λ c. simp (← c .before .other-line .ensures, c .if1 .taken))
+    (λ c. simp (← c .before .other-line .ensures, c .if1 .left)))

@@ -12,4 +12,4 @@ rests-line-spec =
     (λ c. search needs)
     (λ c κs. search needs)
     (λ c. simp (c .enum-told .given .1))
-    (λ c. simp (c .before .before .request .given .1, ← c .asks-line .ensures)))
+    (λ c. simp (c .before .before .request .given .1, ← c .noted-line .ensures)))

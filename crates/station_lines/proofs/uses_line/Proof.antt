@@ -10,6 +10,7 @@ uses-line-spec =
     (tie.spec
     (λ c κs. search needs)
     (λ c. simp (c .before .before .before .before .before .before .if1 .taken, ← c .before .before .before .before .before .held-line .ensures, c .before .before .before .before .if2 .taken, c .before .before .before .if3 .taken))
-    (λ c. simp (c .before .before .before .if1 .taken, ← c .before .before .held-line .ensures, c .before .if2 .taken, c .if3 .left))
+    (λ c κs. search needs)
+    (λ c. simp (c .before .before .before .before .if1 .taken, ← c .before .before .before .held-line .ensures, c .before .before .if2 .taken, c .before .if3 .left, ← c .unasked-line .ensures))
     (λ c. simp (c .before .before .if1 .taken, ← c .before .held-line .ensures, c .if2 .left))
     (λ c. simp (c .if1 .left)))

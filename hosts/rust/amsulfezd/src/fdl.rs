@@ -224,10 +224,9 @@ impl FdlActiveStation {
 
         let (_, answer) = self
             .station
-            .step(&entry_of(&poll, apps.len())?)
+            .step_heard(&entry_of(&poll, apps.len())?, &mut self.heard)
             .expect("a whole entry");
 
-        self.heard.hear(&poll, &answer);
         if let Some(last) = usize::from(answer.consumed).checked_sub(1) {
             let taken = phy.receive_data(now, |bytes| (ends[last], bytes[..ends[0]].to_vec()));
             if let Notice::Reply {

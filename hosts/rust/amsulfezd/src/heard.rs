@@ -1,8 +1,8 @@
-//! Document 02, P7: who was heard, and when. The call is there where the static library is linked (see [`crate::replay`]).
+//! Document 02, P7: who was heard, and when. The calls are there where the static library is linked: of a whole trace in
+//! [`crate::replay`], of a table beside a station here.
 
-use crate::answer::Answer;
 use crate::bits::{Reader, Writer};
-use crate::record::{Poll, StationType, Telegram};
+use crate::record::StationType;
 use crate::run::{NotARun, Run};
 
 /// The length of an address's entry in bytes.
@@ -10,6 +10,9 @@ pub const HEARD_LENGTH: usize = 17;
 
 /// The last address that can be asked for.
 pub const LAST_ADDRESS: u8 = 125;
+
+/// The length of a table of who was heard, in bytes: an entry for each address.
+pub const TABLE_LENGTH: usize = HEARD_LENGTH * (LAST_ADDRESS as usize + 1);
 
 /// When an address was heard. First and last are in the order of hearing: after a clock that went back, last may be below
 /// first.
@@ -68,69 +71,111 @@ impl Heard {
     }
 }
 
-/// Who was heard, poll by poll: a table for a host that steps a station or replays a trace itself. It is plain Rust and not
-/// proved; the tests hold it to the proved call.
-///
-/// ```
-/// use amsulfezd::answer::Answer;
-/// use amsulfezd::heard::Table;
-/// use amsulfezd::record::{Poll, Telegram};
-///
-/// let mut table = Table::default();
-/// let poll = Poll::at(1_000).telegram(Telegram::token(9, 12));
-/// table.hear(&poll, &Answer::try_from(0x0310_0000_0100_0024)?); // one telegram consumed
-/// let nine = table.of(9).expect("9 was heard");
-/// assert_eq!((nine.times, nine.first, nine.last), (1, 1_000, 1_000));
-/// assert_eq!(table.of(12), None);
-/// # Ok::<(), amsulfezd::answer::NotAnAnswer>(())
-/// ```
-#[derive(Debug, Clone, PartialEq, Eq)]
-pub struct Table {
-    entries: [Option<Heard>; LAST_ADDRESS as usize + 1],
-}
+#[cfg(linked)]
+pub use linked::{table_heard, Table};
 
-impl Default for Table {
-    /// Nobody was heard.
-    fn default() -> Table {
-        Table {
-            entries: [None; LAST_ADDRESS as usize + 1],
+#[cfg(linked)]
+mod linked {
+    use super::{Heard, HEARD_LENGTH, TABLE_LENGTH};
+    use crate::refusal::Refusal;
+
+    extern "C" {
+        /// The proved call as `hosts/c/amsulfezd.h` documents it.
+        fn amsulfezd_table_heard(
+            table: *const u8,
+            table_len: usize,
+            address: u8,
+            entry: *mut u8,
+            entry_len: usize,
+        ) -> u64;
+    }
+
+    /// Writes what a table says of an address to the first 17 bytes of `entry`, zeros if it was never heard; the bytes after them
+    /// keep their value. In a table that is too short for it an address was never heard. Refused, in this order, with nothing
+    /// written: [`Refusal::AskedAddress`] for an address above 125, [`Refusal::NoRoom`].
+    pub fn table_heard(table: &[u8], address: u8, entry: &mut [u8]) -> Result<(), Refusal> {
+        // SAFETY: both pointers come from slices and are valid for the lengths given; as `entry` is borrowed mutably the two do
+        // not overlap. The library keeps neither pointer, and it is proved to stay inside both slices and to return.
+        let returned = unsafe {
+            amsulfezd_table_heard(
+                table.as_ptr(),
+                table.len(),
+                address,
+                entry.as_mut_ptr(),
+                entry.len(),
+            )
+        };
+        match returned {
+            0 => Ok(()),
+            number => Err(u8::try_from(number)
+                .ok()
+                .and_then(|number| Refusal::try_from(number).ok())
+                .expect("the call is proved to return one of its refusal numbers")),
         }
     }
-}
 
-impl Table {
-    /// Takes note of a poll and of what it was answered with: the telegrams that it consumed are heard.
-    pub fn hear(&mut self, poll: &Poll, answer: &Answer) {
-        for telegram in poll.telegrams.iter().take(usize::from(answer.consumed)) {
-            let (source, station_type) = match *telegram {
-                Telegram::ShortConfirmation => continue,
-                Telegram::Token { source, .. } | Telegram::Request { source, .. } => (source, None),
-                Telegram::Response {
-                    source,
-                    station_type,
-                    ..
-                } => (source, Some(station_type)),
-            };
-            if let Some(entry) = self.entries.get_mut(usize::from(source)) {
-                let before = entry.unwrap_or(Heard {
-                    times: 0,
-                    first: poll.clock,
-                    last: poll.clock,
-                    station_type: None,
-                });
-                *entry = Some(Heard {
-                    times: before.times.saturating_add(1),
-                    last: poll.clock,
-                    station_type: station_type.or(before.station_type),
-                    ..before
-                });
+    /// Who was heard beside a live station: [`crate::station::Station::step_heard`] feeds it, by the proved call.
+    ///
+    /// ```
+    /// use amsulfezd::heard::Table;
+    /// use amsulfezd::record::{Poll, Telegram};
+    /// use amsulfezd::settings::Settings;
+    /// use amsulfezd::station::Station;
+    /// use amsulfezd::trace::{entry_of, ONLINE};
+    ///
+    /// let mut station = Station::open(&Settings::new(5, 6, 1)?.finish()?)?;
+    /// let mut table = Table::default();
+    /// station.step_heard(&[ONLINE], &mut table)?;
+    /// let poll = Poll::at(1_000).telegram(Telegram::token(9, 12));
+    /// station.step_heard(&entry_of(&poll, 1)?, &mut table)?;
+    /// let nine = table.of(9).expect("9 was heard");
+    /// assert_eq!((nine.times, nine.first, nine.last), (1, 1_000, 1_000));
+    /// assert_eq!(table.of(12), None);
+    /// assert_eq!(Table::from_bytes(table.bytes()), Some(table));
+    /// # Ok::<(), Box<dyn std::error::Error>>(())
+    /// ```
+    #[derive(Debug, Clone, PartialEq, Eq)]
+    pub struct Table {
+        bytes: [u8; TABLE_LENGTH],
+    }
+
+    impl Default for Table {
+        /// Nobody was heard.
+        fn default() -> Table {
+            Table {
+                bytes: [0; TABLE_LENGTH],
             }
         }
     }
 
-    /// When this address was heard; none if never, or above 125.
-    pub fn of(&self, address: u8) -> Option<Heard> {
-        self.entries.get(usize::from(address)).copied().flatten()
+    impl Table {
+        /// When this address was heard; none if never, or above 125.
+        pub fn of(&self, address: u8) -> Option<Heard> {
+            let mut entry = [0; HEARD_LENGTH];
+            table_heard(&self.bytes, address, &mut entry).ok()?;
+            Heard::from_bytes(&entry).expect("a table is made of entries")
+        }
+
+        /// The table's bytes, to be saved beside a station's.
+        pub fn bytes(&self) -> &[u8; TABLE_LENGTH] {
+            &self.bytes
+        }
+
+        /// The table of these bytes; none where they are not as many as a table has, or one of its entries is none.
+        pub fn from_bytes(bytes: &[u8]) -> Option<Table> {
+            let bytes: [u8; TABLE_LENGTH] = bytes.try_into().ok()?;
+            let is_entry =
+                |entry: &[u8]| entry.try_into().ok().and_then(Heard::from_bytes).is_some();
+            bytes
+                .chunks(HEARD_LENGTH)
+                .all(is_entry)
+                .then_some(Table { bytes })
+        }
+
+        /// What a step is lent.
+        pub(crate) fn lent(&mut self) -> &mut [u8] {
+            &mut self.bytes
+        }
     }
 }
 

@@ -7,12 +7,12 @@
 //! | [`answer`] | the 64-bit answer, and an iterator over a buffer of them |
 //! | [`refusal`] | the refusal numbers of documents 01 and 02 and their words |
 //! | [`run`] | what the call returns, and the text that the program `replay` prints |
-//! | [`heard`] | when an address was heard: the entry's bytes, and the text of all of them |
+//! | [`heard`] | when an address was heard: the entry's bytes, and the text of all of them; a table beside a station, only where the static library is linked |
 //! | [`counts`] | how often a station claimed the token, removed a neighbour and met its own address: bytes and text |
 //! | `replay` | the calls on traces, safe; only where the static library is linked |
 //! | [`frame`] | the bytes of frames; reading and writing them, safe, only where the static library is linked |
 //! | `settings` | settings in a header's bytes, safe; only where the static library is linked |
-//! | `station` | a station in bytes, stepped one entry at a time, safe; only where the static library is linked |
+//! | `station` | a station in bytes, stepped one entry at a time, with a table of who was heard or without, safe; only where the static library is linked |
 //! | `fdl` | a live station with the shape of profirust's: `poll(now, phy, app)`; only where the static library is linked |
 //! | [`capture`] | a bus monitor's text; importing and exporting it, safe, only where the static library is linked |
 //! | [`simulation`] | a setup of several stations, as bytes and as text; simulating it, safe, only where the static library is linked |

@@ -3,6 +3,7 @@
 
 use crate::answer::{Answer, ANSWER_LENGTH};
 use crate::counts::{Counts, COUNTS_LENGTH};
+use crate::heard::Table;
 use crate::refusal::Refusal;
 
 extern "C" {
@@ -21,15 +22,28 @@ extern "C" {
         answer: *mut u8,
         answer_len: usize,
     ) -> u64;
+    fn amsulfezd_step_heard(
+        station: *mut u8,
+        station_len: usize,
+        entry: *const u8,
+        entry_len: usize,
+        answer: *mut u8,
+        answer_len: usize,
+        table: *mut u8,
+        table_len: usize,
+    ) -> u64;
+    fn amsulfezd_station_counts(
+        station: *const u8,
+        station_len: usize,
+        counts: *mut u8,
+        counts_len: usize,
+    ) -> u64;
 }
 
 /// The length of a station in bytes.
 pub const STATION_LENGTH: usize = 96;
 
-/// Where the bytes of the counts begin.
-const COUNTS_AT: usize = 64;
-
-/// The bytes that a call has written or taken, or the refusal.
+/// The bytes that a call has written or taken, none where it does not say, or the refusal.
 fn taken_apart(returned: u64) -> Result<usize, Refusal> {
     match returned % 256 {
         0 => Ok((returned / 256) as usize),
@@ -68,6 +82,45 @@ pub fn step_station(station: &mut [u8], entry: &[u8], answer: &mut [u8]) -> Resu
             answer.len(),
         )
     })
+}
+
+/// Takes a station one entry further as [`step_station`] does, and feeds the first [`TABLE_LENGTH`](crate::heard::TABLE_LENGTH)
+/// bytes of `table` with the telegrams that the poll consumed; they begin as zeros. Refused as there, [`Refusal::NoRoom`] also where
+/// the table has fewer bytes.
+pub fn step_heard(
+    station: &mut [u8],
+    entry: &[u8],
+    answer: &mut [u8],
+    table: &mut [u8],
+) -> Result<usize, Refusal> {
+    // SAFETY: as for `open_station`; the three slices that are written are borrowed mutably, each on its own.
+    taken_apart(unsafe {
+        amsulfezd_step_heard(
+            station.as_mut_ptr(),
+            station.len(),
+            entry.as_ptr(),
+            entry.len(),
+            answer.as_mut_ptr(),
+            answer.len(),
+            table.as_mut_ptr(),
+            table.len(),
+        )
+    })
+}
+
+/// Writes the counts of a station's life to the first 12 bytes of `counts`. Bytes behind station and counts are not looked at.
+/// Refused, with nothing written: [`Refusal::Station`] where the bytes are no station, then [`Refusal::NoRoom`].
+pub fn station_counts(station: &[u8], counts: &mut [u8]) -> Result<(), Refusal> {
+    // SAFETY: as for `open_station`.
+    taken_apart(unsafe {
+        amsulfezd_station_counts(
+            station.as_ptr(),
+            station.len(),
+            counts.as_mut_ptr(),
+            counts.len(),
+        )
+    })
+    .map(|_| ())
 }
 
 /// A station. Its bytes are all of it: written to disk and read again it goes on as if nothing had happened.
@@ -137,9 +190,22 @@ impl Station {
         Ok((used, answer))
     }
 
+    /// The same, and takes note in the table of who was heard: the telegrams that the poll consumed.
+    pub fn step_heard(
+        &mut self,
+        entry: &[u8],
+        table: &mut Table,
+    ) -> Result<(usize, Answer), Refusal> {
+        let mut answer = [0; ANSWER_LENGTH];
+        let used = step_heard(&mut self.bytes, entry, &mut answer, table.lent())?;
+        let answer = Answer::try_from(answer).expect("the call is proved to write an answer");
+        Ok((used, answer))
+    }
+
     /// The counts of its life.
     pub fn counts(&self) -> Counts {
-        let counts = &self.bytes[COUNTS_AT..COUNTS_AT + COUNTS_LENGTH];
-        Counts::from_bytes(counts.try_into().expect("12 bytes"))
+        let mut counts = [0; COUNTS_LENGTH];
+        station_counts(&self.bytes, &mut counts).expect("it is a station, and there is room");
+        Counts::from_bytes(&counts)
     }
 }

@@ -7,12 +7,11 @@ mod stored;
 
 use amsulfezd::answer::{answers, Answer};
 use amsulfezd::counts::{self, Counts, COUNTS_LENGTH};
-use amsulfezd::heard::{Table, LAST_ADDRESS};
 use amsulfezd::record::{Poll, Telegram};
 use amsulfezd::refusal::Refusal;
-use amsulfezd::replay::{counts, heard, other_edition, replay, replay_whole, trace_counts};
+use amsulfezd::replay::{counts, other_edition, replay, replay_whole, trace_counts};
 use amsulfezd::run::{from_text, to_text};
-use amsulfezd::trace::{entries, in_other_edition, Edition, Entry, Header, TraceBuilder};
+use amsulfezd::trace::{in_other_edition, Edition, Header, TraceBuilder};
 use stored::{files, traces};
 
 #[test]
@@ -230,34 +229,4 @@ fn counts_read_back() {
     ] {
         assert!(counts::from_text(bad).is_err(), "{}", bad);
     }
-}
-
-/// The table that is kept poll by poll beside the answers says what the proved call says of the whole trace.
-#[test]
-fn the_table_of_who_was_heard_is_the_calls() {
-    let mut heard_at_all = 0;
-    for path in files(&traces(), "trace") {
-        let trace = std::fs::read(&path).expect("the trace");
-        let (run, answers) = replay_whole(&trace);
-        let header = match Header::from_bytes(&trace) {
-            Some(header) if run.entries > 0 => header,
-            _ => continue,
-        };
-        let mut table = Table::default();
-        for (entry, answer) in entries(&trace).zip(&answers) {
-            if let Entry::Poll(record) = entry {
-                let applications = usize::from(header.applications);
-                if let Some(poll) = Poll::from_bytes(record, applications) {
-                    table.hear(&poll, answer);
-                }
-            }
-        }
-        for address in 0..=LAST_ADDRESS {
-            let (_, expected) = heard(&trace, address).expect("an accepted header");
-            assert_eq!(table.of(address), expected, "{}", path.display());
-            heard_at_all += u32::from(expected.is_some());
-        }
-        assert_eq!((table.of(126), table.of(255)), (None, None));
-    }
-    assert!(heard_at_all > 50, "only {} heard", heard_at_all);
 }

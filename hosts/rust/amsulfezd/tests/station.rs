@@ -1,5 +1,5 @@
 //! A station in bytes, where the proved calls are linked: stepped along the stories of traces/ it answers as they say, wherever it
-//! is saved and loaded; and the live station with profirust's shape does with port and applications what its answers say.
+//! is saved and loaded, with a table of who was heard beside it or without; and the live station with profirust's shape does with port and applications what its answers say.
 
 #![allow(unknown_lints, unexpected_cfgs)]
 #![cfg(linked)]
@@ -10,18 +10,22 @@ use amsulfezd::answer::{Answer, Sent, State};
 use amsulfezd::fdl::{
     FdlActiveStation, FdlApplication, Instant, ProfibusPhy, TelegramTx, TelegramTxResponse,
 };
-use amsulfezd::heard::Table;
+use amsulfezd::heard::{table_heard, Heard, Table, HEARD_LENGTH, LAST_ADDRESS, TABLE_LENGTH};
+use amsulfezd::record::{Poll, StationType, Telegram};
 use amsulfezd::refusal::Refusal;
-use amsulfezd::replay::{counts, replay_whole};
+use amsulfezd::replay::{counts, heard, replay_whole};
 use amsulfezd::settings::Settings;
-use amsulfezd::station::{open_station, step_station, Station, STATION_LENGTH};
-use amsulfezd::trace::{Edition, Header};
+use amsulfezd::station::{
+    open_station, station_counts, step_heard, step_station, Station, STATION_LENGTH,
+};
+use amsulfezd::trace::{entry_of, Edition, Header, ONLINE};
 use stored::{files, traces};
 
-/// Every story, stepped one entry at a time; the station is saved and loaded before each.
+/// Every story, stepped one entry at a time; the station is saved and loaded before each. With a table beside it it is the same
+/// station, and at the end the table says of every address, and the station of its counts, what the calls on the whole trace say.
 #[test]
 fn stepped_stations_answer_as_the_stories_say() {
-    let mut stepped = 0;
+    let (mut stepped, mut heard_at_all) = (0, 0);
     for path in files(&traces(), "trace") {
         let trace = std::fs::read(&path).expect("the trace");
         let (run, answers) = replay_whole(&trace);
@@ -33,23 +37,192 @@ fn stepped_stations_answer_as_the_stories_say() {
             }
         };
         let mut rest = &trace[Edition::of(&trace).header_length()..];
+        let (mut beside, mut table) = (station.clone(), Table::default());
         for expected in &answers {
             station = Station::from_bytes(&station.bytes().to_vec()).expect("a station");
             let before = station.clone();
             let (used, answer) = station.step(rest).expect("a whole entry");
             assert_eq!(&answer, expected, "{}", path.display());
             assert!(answer.refusal.is_none() || station == before);
+            let known = table.clone();
+            let with_table = beside.step_heard(rest, &mut table);
+            assert_eq!(with_table, Ok((used, answer)), "{}", path.display());
+            assert_eq!(beside, station, "{}", path.display());
+            assert!(answer.consumed > 0 || table == known);
+            table = Table::from_bytes(table.bytes()).expect("a table");
             rest = &rest[used..];
             stepped += 1;
         }
         assert_eq!(run.ending.is_none(), rest.is_empty());
         assert_eq!(station.step(rest), Err(Refusal::Cut));
+        assert_eq!(beside.step_heard(rest, &mut table), Err(Refusal::Cut));
         assert_eq!(
             counts(&trace).map(|(_, counts)| counts),
-            Ok(station.counts())
+            Ok(beside.counts())
         );
+        for address in 0..=LAST_ADDRESS {
+            let (_, expected) = heard(&trace, address).expect("an accepted header");
+            assert_eq!(table.of(address), expected, "{}", path.display());
+            heard_at_all += u32::from(expected.is_some());
+        }
+        assert_eq!((table.of(126), table.of(255)), (None, None));
     }
     assert!(stepped > 500, "only {} entries", stepped);
+    assert!(heard_at_all > 50, "only {} heard", heard_at_all);
+}
+
+/// Every length of the table, and some of the other slices: 36, 17, 18, and what is refused writes nothing.
+#[test]
+fn refusals_with_a_table_come_in_their_order_and_write_nothing() {
+    let mut opened = [0xa5; STATION_LENGTH + 1];
+    open_station(&Header::new(5, 6, 1).to_bytes(), &mut opened).expect("a station");
+    for length in 0..TABLE_LENGTH + 4 {
+        for (station_len, entry, room) in [
+            (STATION_LENGTH + 1, &[ONLINE][..], 9),
+            (STATION_LENGTH, &[ONLINE, 1][..], 8),
+            (STATION_LENGTH, &[ONLINE][..], 7),
+            (STATION_LENGTH, &[14][..], 7),
+            (STATION_LENGTH - 1, &[][..], 7),
+        ] {
+            let (mut station, mut answer, mut table) = (opened, [0xa5; 9], vec![0xa5; length]);
+            let expected = match (station_len, entry.len(), room) {
+                (95, ..) => Err(Refusal::Station),
+                _ if entry[0] == 14 => Err(Refusal::Cut),
+                (_, _, 7) => Err(Refusal::NoRoom),
+                _ if length < TABLE_LENGTH => Err(Refusal::NoRoom),
+                _ => Ok(1),
+            };
+            let stepped = step_heard(
+                &mut station[..station_len],
+                entry,
+                &mut answer[..room],
+                &mut table,
+            );
+            assert_eq!(stepped, expected, "a table of {} bytes", length);
+            // a command leaves the table
+            assert_eq!(table, vec![0xa5; length]);
+            assert_eq!(station == opened, expected.is_err());
+            assert_eq!(station[STATION_LENGTH], 0xa5);
+            assert_eq!(answer[..8] == [0xa5; 8], expected.is_err());
+            assert_eq!(answer[8], 0xa5);
+        }
+    }
+}
+
+/// What a table says of an address: 26, then 18; in a table that is too short for it it was never heard.
+#[test]
+fn a_table_is_asked_for_an_address() {
+    let heard = Heard {
+        times: 7,
+        first: 3,
+        last: 2,
+        station_type: Some(StationType::InRing),
+    };
+    let table = heard.to_bytes().repeat(usize::from(LAST_ADDRESS) + 1);
+    for (length, address, room) in [
+        (TABLE_LENGTH, 0, 17),
+        (TABLE_LENGTH, 125, 20),
+        (TABLE_LENGTH - 1, 125, 17),
+        (17, 0, 17),
+        (16, 0, 18),
+        (0, 0, 17),
+        (TABLE_LENGTH, 125, 16),
+        (TABLE_LENGTH, 126, 16),
+        (0, 255, 0),
+    ] {
+        let mut entry = vec![0xa5; room];
+        let expected = match (address, room) {
+            (126..=255, _) => Err(Refusal::AskedAddress),
+            (_, 0..=16) => Err(Refusal::NoRoom),
+            _ => Ok(()),
+        };
+        assert_eq!(table_heard(&table[..length], address, &mut entry), expected);
+        let mut left = vec![0xa5; room];
+        if expected.is_ok() {
+            let whole = length >= HEARD_LENGTH * (usize::from(address) + 1);
+            let said = if whole {
+                heard.to_bytes()
+            } else {
+                [0; HEARD_LENGTH]
+            };
+            left[..HEARD_LENGTH].copy_from_slice(&said);
+        }
+        assert_eq!(entry, left, "{} bytes, address {}", length, address);
+    }
+    let whole = Table::from_bytes(&table).expect("a table");
+    assert_eq!(whole.of(125), Some(heard));
+    assert_eq!(Table::from_bytes(&table[1..]), None);
+    let mut bad = table;
+    bad[16] = 5;
+    assert_eq!(Table::from_bytes(&bad), None);
+}
+
+/// Counts stop at their largest and first stays; tokens leave the type, a response sets it.
+#[test]
+fn entries_at_their_ends_go_on() {
+    let header = Header::new(5, 6, 1).to_bytes();
+    let mut station = Station::open(&header).expect("a station");
+    let before = |times, station_type| Heard {
+        times,
+        first: 9_000,
+        last: 9_999,
+        station_type,
+    };
+    let mut bytes = [0; TABLE_LENGTH];
+    let mut put = |address: usize, heard: Heard| {
+        bytes[HEARD_LENGTH * address..][..HEARD_LENGTH].copy_from_slice(&heard.to_bytes());
+    };
+    put(9, before(u32::MAX - 1, Some(StationType::Slave)));
+    put(12, before(u32::MAX, None));
+    let mut table = Table::from_bytes(&bytes).expect("a table");
+    station
+        .step_heard(&[ONLINE], &mut table)
+        .expect("a command");
+    let token = Telegram::token(9, 12);
+    let response = Telegram::response(12, 9, StationType::InRing);
+    let poll = Poll::at(8_000)
+        .telegram(token)
+        .telegram(token)
+        .telegram(response);
+    let entry = entry_of(&poll, 1).expect("it fits");
+    let (_, answer) = station.step_heard(&entry, &mut table).expect("a poll");
+    assert_eq!(answer.consumed, 3);
+    let after = |station_type| Heard {
+        last: 8_000,
+        ..before(u32::MAX, Some(station_type))
+    };
+    assert_eq!(table.of(9), Some(after(StationType::Slave)));
+    assert_eq!(table.of(12), Some(after(StationType::InRing)));
+    assert_eq!(table.of(5), None);
+}
+
+/// The counts of a station: 36, then 18, and nothing behind them changes.
+#[test]
+fn counts_are_asked_with_every_room() {
+    let mut station = [0xa5; STATION_LENGTH + 1];
+    open_station(&Header::new(5, 6, 1).to_bytes(), &mut station).expect("a station");
+    let mut broken = station;
+    broken[0] = 2;
+    for room in 0..16 {
+        let ask = |station: &[u8]| {
+            let mut counts = vec![0xa5; room];
+            (station_counts(station, &mut counts), counts)
+        };
+        let kept = vec![0xa5; room];
+        let short = &station[..STATION_LENGTH - 1];
+        assert_eq!(ask(short), (Err(Refusal::Station), kept.clone()));
+        assert_eq!(ask(&broken), (Err(Refusal::Station), kept.clone()));
+        let mut left = kept;
+        let said = match left.get_mut(..12) {
+            Some(counts) => {
+                counts.fill(0);
+                Ok(())
+            }
+            None => Err(Refusal::NoRoom),
+        };
+        assert_eq!(ask(&station), (said, left.clone()));
+        assert_eq!(ask(&station[..STATION_LENGTH]), (said, left));
+    }
 }
 
 #[test]

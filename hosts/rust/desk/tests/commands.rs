@@ -19,9 +19,27 @@ fn folder(name: &str) -> PathBuf {
     folder
 }
 
+/// The words that run the program: on another machine than x86-64 the emulator's before it, which scripts/common.sh says.
+fn program_words() -> Vec<String> {
+    let emulator = std::env::var("AMSULFEZD_EMULATOR").unwrap_or_default();
+    emulator
+        .split_whitespace()
+        .chain([env!("CARGO_BIN_EXE_amsulfezd")])
+        .map(String::from)
+        .collect()
+}
+
+/// The program, still without words.
+fn program() -> Command {
+    let words = program_words();
+    let mut command = Command::new(&words[0]);
+    command.args(&words[1..]);
+    command
+}
+
 /// What came of the program with these words, and with these bytes on standard input.
 fn fed(words: &[&str], input: &[u8]) -> Output {
-    let mut program = Command::new(env!("CARGO_BIN_EXE_amsulfezd"))
+    let mut program = program()
         .args(words)
         .current_dir(root())
         .stdin(Stdio::piped())
@@ -220,7 +238,7 @@ fn nobody_reads() {
             .write(true)
             .open("/dev/full")
             .expect("the device that is full");
-        let ended = Command::new(env!("CARGO_BIN_EXE_amsulfezd"))
+        let ended = program()
             .args(words)
             .current_dir(root())
             .stdout(Stdio::null())
@@ -228,7 +246,7 @@ fn nobody_reads() {
             .status();
         assert_eq!(ended.expect("it runs").code(), Some(status), "{:?}", words);
     }
-    let mut program = Command::new(env!("CARGO_BIN_EXE_amsulfezd"))
+    let mut program = program()
         .args(["view", "traces/captures/site.trace"])
         .current_dir(root())
         .stdout(Stdio::piped())
@@ -743,7 +761,7 @@ fn examples_run() {
         for example in examples {
             let line = example
                 .trim()
-                .replacen("amsulfezd", env!("CARGO_BIN_EXE_amsulfezd"), 1);
+                .replacen("amsulfezd", &program_words().join(" "), 1);
             let status = Command::new("sh")
                 .args(["-c", &line])
                 .current_dir(&folder)

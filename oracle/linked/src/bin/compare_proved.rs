@@ -15,6 +15,7 @@ const PROVED: Calls = Calls {
     trace_heard: &linked::trace_heard,
     trace_counts: &linked::trace_counts,
     step_trace: &linked::step_trace,
+    step_heard_trace: &linked::step_heard_trace,
 };
 
 /// Traces of 2^32 bytes and one more, with good headers of both editions and a bad one and room for two answers: the longer

@@ -1,0 +1,3 @@
+-- Definitions first, then what the proof uses.
+pub mod LiveCounts
+pub mod Laws
