@@ -2,6 +2,8 @@
 // names carry the prefix amsulfezd_, as a C library's names do. hosts/c/amsulfezd.h declares them. It leans on trace,
 // trace_editions, trace_heard, trace_counts, bus, bus_trace, live, live_heard, live_counts, heard_shown, settings_header, codec_frames,
 // capture_import and capture_export.
+#![tactic(auto)]
+
 ghost use Rattle.std.specs.Prelude.{◌≡◌, length};
 ghost use Rattle.bus_run.specs.Run.{simulate_number, simulate_into, trace_number, trace_into};
 ghost use Rattle.capture_export.specs.Export.{export_of, exported_of, buffer_of as exportBuffer};

@@ -1,5 +1,7 @@
 // The report of a simulated bus (document 02, P12): the answers of each tick, written one behind the other. It leans on bus_setup for the
 // setup and on bus_ticks for the run.
+#![tactic(auto)]
+
 ghost use Rattle.std.specs.Prelude.{◌≡◌, ◌*◌, ◌≤◌, ◌^◌, length};
 ghost use Rattle.bus_run.specs.Run.{simulate_number, simulate_into};
 ghost use Rattle.bus.specs.Reports.{answers_stored, Reported};
@@ -43,6 +45,7 @@ fn run_report(opened: Bus, n: u8, step: u64, ticks: u64, report: &mut [u8])
 
 // Runs a setup and writes the report, 8 bytes an answer, tick by tick, within a tick by rising address. Returns ticks × 256, or the
 // number that refuses it; then nothing is written.
+#[tactic(auto, using(bus_run::specs::Sized::sized, crate::specs::Reports::product_small, crate::specs::Reports::room_short, crate::specs::Reports::simulate_refused, crate::specs::Reports::simulate_no_room, crate::specs::Reports::simulate_ran))]
 pub fn simulate(setup: &[u8], report: &mut [u8]) -> u64
     ensures value { result ≡ simulate_number setup.now (length report.old) }
     ensures report_after { report.new ≡ simulate_into setup.now report.old }

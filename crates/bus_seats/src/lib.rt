@@ -1,6 +1,8 @@
 // The seats of a simulated bus (document 02, P12): a station with what waits for it, and its turn at a tick. A station is polled through
 // `station_poll::poll` on record bytes that the record writer wrote, so that what it saw is a trace entry. Memory is fixed. It leans on
 // bus_wire for what is on the bus, on the record writer and on `station_poll`.
+#![tactic(auto)]
+
 ghost use Rattle.std.specs.Prelude.{◌≡◌, ◌≤◌, ◌<◌, ◌^◌, length, take};
 ghost use Rattle.station.specs.Whole.{station_at};
 ghost use Rattle.station_answer.specs.Answer.{polled_at};
@@ -18,7 +20,7 @@ use station::Station;
 use station_answer::Polled;
 
 // A station with its ring's tables, the telegrams that wait for it, and when the last that it sent has ended.
-#[derive(Drop)]
+#[derive(Clone, Copy)]
 pub struct Seat {
     pub station: Station,
     pub links: [u8; 252],
@@ -27,14 +29,14 @@ pub struct Seat {
 }
 
 // A poll record, and how many bytes of it there are.
-#[derive(Drop)]
+#[derive(Clone, Copy)]
 pub struct Record {
     pub bytes: [u8; 46],
     pub length: usize,
 }
 
 // What became of a station's poll: the seat after it, the answer, and the record that it was given.
-#[derive(Drop)]
+#[derive(Clone, Copy)]
 pub struct Turn {
     pub seat: Seat,
     pub answer: Answer,
@@ -42,7 +44,7 @@ pub struct Turn {
 }
 
 // What a station's turn leaves: the seat, what is on the bus, the answer's word, and the record that it was given.
-#[derive(Drop)]
+#[derive(Clone, Copy)]
 pub struct Place {
     pub seat: Seat,
     pub wire: Wire,
@@ -51,13 +53,14 @@ pub struct Place {
 }
 
 // What is on the bus after a station's turn, and when the last that it sent has ended.
-#[derive(Drop)]
+#[derive(Clone, Copy)]
 struct Sending {
     wire: Wire,
     until: u64,
 }
 
 // The telegrams that a record lists: those that wait, and the one that arrives.
+#[tactic(auto, unfolding(crate::specs::Kept::offered_of))]
 fn offered(waiting: Waiting, heard: Wire, now: u64, place: u8) -> Waiting
     ensures { result ≡ offered_of waiting heard now place }
 {
@@ -68,6 +71,7 @@ fn offered(waiting: Waiting, heard: Wire, now: u64, place: u8) -> Waiting
 }
 
 // The bytes of a record with so many telegrams, 8 at most.
+#[tactic(auto, unfolding(crate::specs::Kept::record_length_of))]
 fn record_length(count: u8) -> usize
     ensures { (result ≡ record_length_of count) × (result ≤ 46) }
 {
@@ -78,6 +82,7 @@ fn record_length(count: u8) -> usize
 }
 
 // A telegram's word; 0 past the eighth.
+#[tactic(auto, unfolding(crate::specs::Kept::word_of))]
 fn word(waiting: Waiting, j: u8) -> u64
     ensures { result ≡ word_of waiting j }
 {
@@ -101,6 +106,7 @@ fn write_words(bytes: &mut [u8], waiting: Waiting)
 }
 
 // Writes a whole record: the head, an application that declines, the telegrams.
+#[tactic(auto, unfolding(crate::specs::Kept::record_stored_of))]
 fn write_record(bytes: &mut [u8], clock: u64, transmitting: bool, waiting: Waiting)
     ensures { bytes.new ≡ record_stored_of bytes.old clock transmitting waiting }
 {
@@ -119,6 +125,7 @@ fn write_record(bytes: &mut [u8], clock: u64, transmitting: bool, waiting: Waiti
 }
 
 // A whole record.
+#[tactic(auto, using(crate::specs::Turns::record_made))]
 fn make_record(clock: u64, transmitting: bool, waiting: Waiting) -> Record
     ensures { RecordIs clock transmitting waiting result }
 {
@@ -129,6 +136,7 @@ fn make_record(clock: u64, transmitting: bool, waiting: Waiting) -> Record
 }
 
 // Polls a station with a record.
+#[tactic(auto, using(crate::specs::Turns::poll_part))]
 fn poll_record(station: Station, links: &mut [u8; 252], given: Record) -> Polled
     requires { (given.length ≤ 46) × (length given.bytes ≡ 46) }
     ensures { polled_at result links.new ≡ poll_of (station_at station links.old) (take given.length given.bytes) }
@@ -139,6 +147,7 @@ fn poll_record(station: Station, links: &mut [u8; 252], given: Record) -> Polled
 }
 
 // Polls a station with what it is given at this tick.
+#[tactic(auto, using(crate::specs::Turns::turn_taken))]
 fn take_turn(seat: Seat, heard: Wire, clock: u64, place: u8) -> Turn
     ensures { TurnIs (station_at seat.station seat.links) seat.waiting seat.until heard clock place result }
 {
@@ -164,6 +173,7 @@ fn take_turn(seat: Seat, heard: Wire, clock: u64, place: u8) -> Turn
 }
 
 // The bus after a station's turn, by what it sent.
+#[tactic(auto, using(crate::specs::Turns::bytes_bound), unfolding(crate::specs::Kept::wire_after, crate::specs::Kept::until_after))]
 fn after_sending(
     wire: Wire,
     until: u64,

@@ -1,6 +1,8 @@
 // The setup of a simulated bus (document 02, P12): 2 to 8 stations, the tick and the number of ticks, read in place and refused by
 // number; which station stands at which place by rising address, and the header of its trace. Every call is total on every slice. It
 // leans on codec_fields for the bytes and on trace for a station's settings.
+#![tactic(auto)]
+
 ghost use Rattle.std.specs.Prelude.{◌≡◌, ◌≤◌, ◌*◌, cond, eqb, length};
 ghost use Rattle.bus_setup.specs.Setup.{stations_of, tick_of, ticks_of, station_place, address_of, code_of, station_header, is_lower, is_equal, is_other, twins_of, pairs_of, others_of, rank_of, placed_of, station_refusal, settings_refusal, stations_refusal, sized_refusal, setup_refusal};
 
@@ -8,6 +10,7 @@ use codec_fields::{load, store};
 use settings::Created;
 
 // The number of stations; 0 of an empty setup.
+#[tactic(auto, unfolding(crate::specs::Setup::stations_of))]
 pub fn stations(setup: &[u8]) -> u64
     ensures { result ≡ stations_of setup.now }
 {
@@ -15,6 +18,7 @@ pub fn stations(setup: &[u8]) -> u64
 }
 
 // The tick in microseconds; 0 where the setup ends before.
+#[tactic(auto, unfolding(crate::specs::Setup::tick_of))]
 pub fn tick(setup: &[u8]) -> u64
     ensures { result ≡ tick_of setup.now }
 {
@@ -22,6 +26,7 @@ pub fn tick(setup: &[u8]) -> u64
 }
 
 // The number of ticks; 0 where the setup ends before.
+#[tactic(auto, unfolding(crate::specs::Setup::ticks_of))]
 pub fn ticks(setup: &[u8]) -> u64
     ensures { result ≡ ticks_of setup.now }
 {
@@ -29,6 +34,7 @@ pub fn ticks(setup: &[u8]) -> u64
 }
 
 // Where the bytes of a station begin, counted as given.
+#[tactic(auto, unfolding(crate::specs::Setup::station_place))]
 fn station_place(j: u8) -> usize
     ensures { (result ≡ station_place j) × (result ≤ 3579) }
 {
@@ -36,6 +42,7 @@ fn station_place(j: u8) -> usize
 }
 
 // The address of a station, as given.
+#[tactic(auto, unfolding(crate::specs::Setup::address_of))]
 fn address(setup: &[u8], j: u8) -> u64
     ensures { result ≡ address_of setup.now j }
 {
@@ -43,6 +50,7 @@ fn address(setup: &[u8], j: u8) -> u64
 }
 
 // The baud code of a station, as given.
+#[tactic(auto, unfolding(crate::specs::Setup::code_of))]
 fn code(setup: &[u8], j: u8) -> u64
     ensures { result ≡ code_of setup.now j }
 {
@@ -50,6 +58,7 @@ fn code(setup: &[u8], j: u8) -> u64
 }
 
 // Writes the header of a station's trace, edition 1.
+#[tactic(auto, using(crate::specs::Laws::header_made))]
 pub fn write_header(setup: &[u8], j: u8, header: &mut [u8; 16])
     ensures { header.new ≡ station_header setup.now j }
 {
@@ -63,6 +72,7 @@ pub fn write_header(setup: &[u8], j: u8, header: &mut [u8; 16])
 }
 
 // 1 where station m has a lower address than station j, else 0.
+#[tactic(auto, unfolding(crate::specs::Setup::is_lower))]
 fn lower(setup: &[u8], j: u8, m: u8) -> u8
     ensures { (result ≡ is_lower setup.now j m) × (result ≤ 1) }
 {
@@ -73,6 +83,7 @@ fn lower(setup: &[u8], j: u8, m: u8) -> u8
 }
 
 // 1 where station m has the address of station j, else 0.
+#[tactic(auto, unfolding(crate::specs::Setup::is_equal))]
 fn equal(setup: &[u8], j: u8, m: u8) -> u64
     ensures { (result ≡ is_equal setup.now j m) × (result ≤ 1) }
 {
@@ -83,6 +94,7 @@ fn equal(setup: &[u8], j: u8, m: u8) -> u64
 }
 
 // 1 where the code of station j is not the first station's, else 0.
+#[tactic(auto, unfolding(crate::specs::Setup::is_other))]
 fn other(setup: &[u8], j: u8) -> u64
     ensures { (result ≡ is_other setup.now j) × (result ≤ 1) }
 {
@@ -168,6 +180,7 @@ pub fn placed(setup: &[u8], n: u8, i: u8) -> u8
 }
 
 // What refuses a station's settings, or 0.
+#[tactic(auto, using(crate::specs::Laws::header_length_lem), unfolding(crate::specs::Setup::station_refusal))]
 fn station_refusal(setup: &[u8], j: u8) -> u8
     ensures { result ≡ station_refusal setup.now j }
 {
@@ -207,6 +220,7 @@ fn settings_refusal(setup: &[u8], n: u8) -> u8
 }
 
 // What refuses the stations together: 30, 27, then the settings of each.
+#[tactic(auto, unfolding(crate::specs::Setup::stations_refusal))]
 fn stations_refusal(setup: &[u8], n: u8) -> u8
     ensures { result ≡ stations_refusal setup.now n }
 {
@@ -220,6 +234,7 @@ fn stations_refusal(setup: &[u8], n: u8) -> u8
 }
 
 // What refuses a setup that has 2 to 8 stations: 17, 28, 35, then the stations.
+#[tactic(auto, unfolding(crate::specs::Setup::sized_refusal))]
 fn sized_refusal(setup: &[u8], n: u8) -> u8
     ensures { result ≡ sized_refusal setup.now n }
 {
@@ -240,6 +255,7 @@ fn sized_refusal(setup: &[u8], n: u8) -> u8
 }
 
 // What refuses a setup before there is a question of room: 17, 29, 17, 28, 35, 30, 27, then each station's settings; 0 for none.
+#[tactic(auto, unfolding(crate::specs::Setup::setup_refusal))]
 pub fn setup_refusal(setup: &[u8]) -> u8
     ensures { result ≡ setup_refusal setup.now }
 {

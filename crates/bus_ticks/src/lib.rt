@@ -1,5 +1,7 @@
 // A simulated bus and its ticks (document 02, P12): eight seats at most, and what is on the bus; its start, where each station is fresh
 // and online. It leans on bus_setup for a station's header, on bus_seats for its turn and on bus_wire for what is on the bus.
+#![tactic(auto)]
+
 ghost use Rattle.std.specs.Prelude.{◌≡◌, ◌≤◌, ◌<◌, ◌^◌};
 ghost use Rattle.bus_run.specs.Run.{settings_in};
 ghost use Rattle.bus_wire.specs.Kept.{quiet, cleared_at, nothing_waits};
@@ -14,14 +16,14 @@ use settings_watchdog::WatchdogFactors;
 use station::Station;
 
 // The bus: eight seats, of which the first n are in use, and what is on it.
-#[derive(Drop)]
+#[derive(Clone, Copy)]
 pub struct Bus {
     pub seats: [Seat; 8],
     pub wire: Wire,
 }
 
 // What a tick leaves: the bus, the words of the answers by place, and the record of the chosen station.
-#[derive(Drop)]
+#[derive(Clone, Copy)]
 pub struct Ticked {
     pub bus: Bus,
     pub words: [u64; 8],
@@ -29,6 +31,7 @@ pub struct Ticked {
 }
 
 // The record of the chosen station: the new one where it is its turn, else the one before.
+#[tactic(auto, unfolding(crate::specs::Ticks::picked_of))]
 fn picked(before: Record, new: Record, place: u8, chosen: u8) -> Record
     ensures { result ≡ picked_of before new place chosen }
 {
@@ -39,6 +42,7 @@ fn picked(before: Record, new: Record, place: u8, chosen: u8) -> Record
 }
 
 // The bus after the arrivals of now.
+#[tactic(auto, unfolding(bus_wire::specs::Kept::cleared_at))]
 fn cleared(wire: Wire, now: u64) -> Wire
     ensures { result ≡ cleared_at wire now }
 {
@@ -88,6 +92,7 @@ pub fn tick(bus: Bus, n: u8, clock: u64, chosen: u8) -> Ticked
 }
 
 // No telegram waits.
+#[tactic(auto, unfolding(bus_wire::specs::Kept::nothing_waits))]
 fn nothing_waits() -> Waiting
     ensures { result ≡ nothing_waits }
 {
@@ -98,6 +103,7 @@ fn nothing_waits() -> Waiting
 }
 
 // A bus on which nothing was sent.
+#[tactic(auto, unfolding(bus_wire::specs::Kept::quiet))]
 fn quiet_wire() -> Wire
     ensures { result ≡ quiet }
 {
@@ -130,6 +136,7 @@ fn settings_in(created: Created) -> Parameters
 }
 
 // The station at a place, fresh and online.
+#[tactic(auto, using(bus_setup::specs::Laws::header_length_lem, crate::specs::Starts::seat_opened))]
 fn open_seat(setup: &[u8], n: u8, place: u8) -> Seat
     ensures { SeatStarts setup.now n place result }
 {

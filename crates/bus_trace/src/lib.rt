@@ -1,6 +1,8 @@
 // A station's trace of a simulated bus (document 02, P12): its header of edition 1, online, and the record of each tick, as the station
 // was given it. The ticks are run twice: first nothing is kept of the trace but its length, so that a trace without room writes nothing.
 // It leans on bus_setup for the setup and on bus_ticks for the run.
+#![tactic(auto)]
+
 ghost use Rattle.std.specs.Prelude.{◌≡◌, ◌+◌, ◌*◌, ◌≤◌, ◌<◌, ◌^◌, ◌∷◌, length, take};
 ghost use Rattle.bus_setup.specs.Setup.{stations_of, setup_refusal};
 ghost use Rattle.bus_run.specs.Run.{trace_of, trace_number, trace_into};
@@ -10,6 +12,7 @@ use bus_seats::Record;
 use bus_ticks::{Bus, open_bus, tick};
 
 // Writes a byte; where there is no room for it, it is left out.
+#[tactic(auto, using(crate::specs::Traces::byte_written, crate::specs::Traces::byte_left_out))]
 fn put_byte(trace: &mut [u8], at: usize, byte: u8)
     ensures { trace.new ≡ byte_in trace.old at byte }
 {
@@ -31,6 +34,7 @@ fn put_bytes(trace: &mut [u8], at: usize, bytes: &[u8])
 }
 
 // Writes the entry of a record: its length, and its bytes.
+#[tactic(auto, using(crate::specs::Traces::entry_put, crate::specs::Traces::part_short))]
 fn put_entry(trace: &mut [u8], at: usize, given: Record)
     requires { (given.length ≤ 46) × (length given.bytes ≡ 46) × (at ≤ 2 ^ 32) }
     ensures { trace.new ≡ bytes_in trace.old at (given.length ∷ take given.length given.bytes) }
@@ -72,6 +76,7 @@ fn put_entries(
 }
 
 // Writes the trace of the station at a place of an accepted setup, as far as there is room; gives its length.
+#[tactic(auto, using(bus_setup::specs::Laws::header_length_lem, bus_run::specs::Sized::sized, crate::specs::Traces::header_short, crate::specs::Traces::trace_put))]
 fn put_trace(setup: &[u8], station: u8, trace: &mut [u8]) -> usize
     requires { (setup_refusal setup.now ≡ 0) × (station < stations_of setup.now) }
     ensures value { (result ≡ length (trace_of setup.now station)) × (result ≤ 2 ^ 32) }
@@ -95,6 +100,7 @@ fn put_trace(setup: &[u8], station: u8, trace: &mut [u8]) -> usize
 
 // Writes the trace of the station with that place by rising address, from 0, of a run of a setup. Returns bytes × 256, or the number that
 // refuses it; then nothing is written.
+#[tactic(auto, using(crate::specs::Traces::trace_refused, crate::specs::Traces::trace_nobody, crate::specs::Traces::trace_no_room, crate::specs::Traces::trace_done))]
 pub fn simulated_trace(setup: &[u8], station: u8, trace: &mut [u8]) -> u64
     ensures value { result ≡ trace_number setup.now station (length trace.old) }
     ensures trace_after { trace.new ≡ trace_into setup.now station trace.old }

@@ -1,5 +1,7 @@
 // What a simulated bus keeps (document 02, P12): until when it is busy, the one telegram that may still arrive, and for a station the
 // telegrams that wait for it. It leans on codec_answers and codec_telegrams for what is sent and on bit_times for how long it takes.
+#![tactic(auto)]
+
 ghost use Rattle.std.specs.Prelude.{◌≡◌, ◌-◌};
 ghost use Rattle.bus_wire.specs.Wire.{sent_telegram, bytes_time};
 ghost use Rattle.bus_wire.specs.Kept.{later_of, sent_on, arrives_at, dropped_of, appended_of, joined_of, left_of};
@@ -9,7 +11,7 @@ use codec_answers::Sent;
 use codec_telegrams::Telegram;
 
 // The bus: when all that was sent has ended; the word and the sender of the telegram that was sent last; whether it may still arrive.
-#[derive(Drop)]
+#[derive(Clone, Copy)]
 pub struct Wire {
     pub until: u64,
     pub word: u64,
@@ -18,13 +20,14 @@ pub struct Wire {
 }
 
 // The telegrams that wait for a station: their words, the oldest first, and how many they are.
-#[derive(Drop)]
+#[derive(Clone, Copy)]
 pub struct Waiting {
     pub words: [u64; 8],
     pub count: u8,
 }
 
 // What an answer's "sent" is on the bus, from the station of this address.
+#[tactic(auto, unfolding(crate::specs::Wire::sent_telegram))]
 pub fn sent_telegram(sent: Sent, source: u8) -> Telegram
     ensures { result ≡ sent_telegram sent source }
 {
@@ -59,6 +62,7 @@ pub fn sent_telegram(sent: Sent, source: u8) -> Telegram
 }
 
 // How long bytes take on the bus.
+#[tactic(auto, unfolding(crate::specs::Wire::bytes_time))]
 pub fn bytes_time(bytes: u8, baud: Baud) -> u64
     ensures { result ≡ bytes_time bytes baud }
 {
@@ -67,6 +71,7 @@ pub fn bytes_time(bytes: u8, baud: Baud) -> u64
 }
 
 // The later of two times.
+#[tactic(auto, unfolding(crate::specs::Kept::later_of))]
 pub fn later(a: u64, b: u64) -> u64
     ensures { result ≡ later_of a b }
 {
@@ -77,6 +82,7 @@ pub fn later(a: u64, b: u64) -> u64
 }
 
 // The bus after a telegram starts on it: while it is busy, neither that telegram nor the one before arrives.
+#[tactic(auto, unfolding(crate::specs::Kept::sent_on))]
 pub fn send(wire: Wire, start: u64, ends: u64, sender: u8, word: u64) -> Wire
     ensures { result ≡ sent_on wire start ends sender word }
 {
@@ -97,6 +103,7 @@ pub fn send(wire: Wire, start: u64, ends: u64, sender: u8, word: u64) -> Wire
 }
 
 // Whether the telegram on the bus arrives at a place now.
+#[tactic(auto, unfolding(crate::specs::Kept::arrives_at))]
 pub fn arrives(wire: Wire, now: u64, place: u8) -> bool
     ensures { result ≡ arrives_at wire now place }
 {
@@ -123,6 +130,7 @@ fn one_less(count: u8) -> u8
 }
 
 // The telegrams without the oldest.
+#[tactic(auto, unfolding(crate::specs::Kept::dropped_of))]
 fn dropped(waiting: Waiting) -> Waiting
     ensures { result ≡ dropped_of waiting }
 {
@@ -135,6 +143,7 @@ fn dropped(waiting: Waiting) -> Waiting
 }
 
 // The telegrams and one more, where there is room.
+#[tactic(auto, unfolding(crate::specs::Kept::appended_of))]
 fn appended(mut waiting: Waiting, word: u64) -> Waiting
     ensures { result ≡ appended_of waiting word }
 {
@@ -149,6 +158,7 @@ fn appended(mut waiting: Waiting, word: u64) -> Waiting
 }
 
 // The telegrams and one more; beyond 8 the oldest falls away.
+#[tactic(auto, unfolding(crate::specs::Kept::joined_of))]
 pub fn joined(waiting: Waiting, word: u64) -> Waiting
     ensures { result ≡ joined_of waiting word }
 {

@@ -1,6 +1,8 @@
 // Trace entries exported as a capture (document 02, P13): a line for each telegram of each record that P1 can write, in their order.
 // The entries are those of a trace without its header, for one application. It leans on capture_text for the lines, on codec_records
 // for the records and on codec_frames for the frames.
+#![tactic(auto)]
+
 ghost use Rattle.std.specs.Prelude.{◌≡◌, ◌≤◌, length};
 ghost use Rattle.codec_frames.specs.Frames.{fitted, written_over};
 ghost use Rattle.capture_text.specs.Text.{line_written};
@@ -13,7 +15,7 @@ use codec_frames::write_frame;
 use codec_records::{read_head, record_refusal};
 
 // What an export comes to: the refused entry, counted from 1, or 0; the bytes written; the refusal's number, or 0.
-#[derive(Drop)]
+#[derive(Clone, Copy)]
 pub struct Exported {
     pub entry: u64,
     pub written: u64,
@@ -21,7 +23,7 @@ pub struct Exported {
 }
 
 // What became of an entry: how many bytes it has, how many were written, and its refusal, or 0.
-#[derive(Drop)]
+#[derive(Clone, Copy)]
 struct EntryWritten {
     used: usize,
     bytes: usize,
@@ -29,6 +31,7 @@ struct EntryWritten {
 }
 
 // Writes the line of a telegram word, where P1 can write it; else nothing.
+#[tactic(auto, using(crate::specs::Laws::word_skipped, crate::specs::Laws::word_small, crate::specs::Laws::word_written))]
 fn write_word(text: &mut [u8], time: u64, word: u64) -> LineWritten
     ensures value { result ≡ line_written (fitted (word_line time word) (length text.old)) }
     ensures text_after { text.new ≡ written_over (fitted (word_line time word) (length text.old)) text.old }
@@ -75,6 +78,7 @@ fn write_lines(text: &mut [u8], bytes: &[u8]) -> LineWritten
 }
 
 // Writes the lines of the entry at the start of a slice: none for a command; 17 for a cut entry, the record's own number, 18.
+#[tactic(auto, using(crate::specs::Laws::code_command, crate::specs::Laws::code_cut, crate::specs::Laws::code_refused, crate::specs::Laws::code_lines))]
 fn write_entry(entries: &[u8], text: &mut [u8]) -> EntryWritten
     requires { 1 ≤ length entries.now }
     ensures value { result ≡ entry_written entries.now (length text.old) }

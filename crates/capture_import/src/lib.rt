@@ -1,6 +1,8 @@
 // A bus monitor's capture, imported (document 02, P13): one pass over its text, and each line's telegram is written where it
 // belongs, into a new trace entry or into the newest one, whose length and count then change in place. The entries are poll records
 // for a station with one application that declines. It leans on capture_lines for the lines and on codec_records_written for the records.
+#![tactic(auto)]
+
 ghost use Rattle.std.specs.Prelude.{◌≡◌, ◌+◌, ◌*◌, ◌≤◌, [], ◌∷◌, length};
 ghost use Rattle.codec_records_written.specs.Stored.{head_stored, telegram_stored};
 ghost use Rattle.codec_records_written.specs.Whole.{record_stored};
@@ -15,7 +17,7 @@ use codec_records_written::{store_decision, store_head, store_telegram};
 use codec_telegrams::Telegram;
 
 // What an import comes to: the refused line, counted from 1, or 0; the bytes written; the refusal's number, or 0.
-#[derive(Drop)]
+#[derive(Clone, Copy)]
 pub struct Imported {
     pub line: u64,
     pub written: u64,
@@ -23,7 +25,7 @@ pub struct Imported {
 }
 
 // The newest entry: where it begins, where it ends, its time, and how many telegrams it has; all 0 before the first.
-#[derive(Drop)]
+#[derive(Clone, Copy)]
 struct Newest {
     place: usize,
     end: usize,
@@ -32,7 +34,7 @@ struct Newest {
 }
 
 // What became of a line: how many bytes it has, the newest entry after it, and its refusal, or 0.
-#[derive(Drop)]
+#[derive(Clone, Copy)]
 struct Taken {
     used: usize,
     newest: Newest,
@@ -63,6 +65,7 @@ fn poll_head(time: u64, telegrams: u8) -> Head
 }
 
 // Writes a record with one telegram.
+#[tactic(auto, unfolding(codec_records_written::specs::Whole::decisions_stored, codec_records_written::specs::Whole::telegrams_stored, codec_records_written::specs::Whole::record_stored))]
 fn write_record(bytes: &mut [u8], time: u64, heard: Telegram)
     ensures { bytes.new ≡ record_stored bytes.old (head_of time 1) 1 declines (telegram_of (heard ∷ [])) }
 {
@@ -73,6 +76,7 @@ fn write_record(bytes: &mut [u8], time: u64, heard: Telegram)
 }
 
 // Writes an entry with one telegram into its bytes.
+#[tactic(auto, using(crate::specs::Import::new_poll, crate::specs::Laws::entry_written_lem, crate::specs::Laws::entry_length_lem))]
 fn write_entry(entry: &mut [u8], time: u64, heard: Telegram)
     requires { length entry.old ≡ 19 }
     ensures { entry.new ≡ entry_bytes (new_poll time heard) }
@@ -91,6 +95,7 @@ fn extend_record(bytes: &mut [u8], time: u64, telegrams: u8, heard: Telegram)
 }
 
 // Makes one telegram more of an entry: its length, and its record.
+#[tactic(auto, using(crate::specs::Laws::extended_written, crate::specs::Laws::extended_length))]
 fn extend(entry: &mut [u8], time: u64, telegrams: u8, heard: Telegram)
     requires { (1 ≤ length entry.old) × (telegrams ≤ 8) }
     ensures { entry.new ≡ extended_bytes entry.old time telegrams heard }
@@ -100,6 +105,7 @@ fn extend(entry: &mut [u8], time: u64, telegrams: u8, heard: Telegram)
 }
 
 // A new entry behind the newest, or 18 where there is no room for it.
+#[tactic(auto, using(crate::specs::Laws::added_written), unfolding(crate::specs::Turns::added_taken, crate::specs::Turns::added_left))]
 fn add_entry(entries: &mut [u8], newest: Newest, time: u64, heard: Telegram, used: usize) -> Taken
     requires { Fits newest (length entries.old) }
     ensures value { result ≡ added_taken newest time used (length entries.old) }
@@ -124,6 +130,7 @@ fn add_entry(entries: &mut [u8], newest: Newest, time: u64, heard: Telegram, use
 }
 
 // One telegram more in the newest entry, or 18 where there is no room for it.
+#[tactic(auto, using(crate::specs::Laws::newest_written), unfolding(crate::specs::Turns::extended_taken, crate::specs::Turns::extended_left))]
 fn extend_newest(entries: &mut [u8], newest: Newest, heard: Telegram, used: usize) -> Taken
     requires { Fits newest (length entries.old) }
     ensures value { result ≡ extended_taken newest used (length entries.old) }
@@ -150,6 +157,7 @@ fn extend_newest(entries: &mut [u8], newest: Newest, heard: Telegram, used: usiz
 }
 
 // Whether there is an entry and it has this time.
+#[tactic(auto, unfolding(crate::specs::Turns::is_newest))]
 fn is_newest(newest: Newest, time: u64) -> bool
     ensures { result ≡ is_newest newest time }
 {
@@ -160,6 +168,7 @@ fn is_newest(newest: Newest, time: u64) -> bool
 }
 
 // A telegram of this time: into the newest entry, or into a new one.
+#[tactic(auto, unfolding(crate::specs::Turns::hear_taken, crate::specs::Turns::hear_left))]
 fn hear(entries: &mut [u8], newest: Newest, time: u64, heard: Telegram, used: usize) -> Taken
     requires { Fits newest (length entries.old) }
     ensures value { result ≡ hear_taken newest time used (length entries.old) }
@@ -172,6 +181,7 @@ fn hear(entries: &mut [u8], newest: Newest, time: u64, heard: Telegram, used: us
 }
 
 // The refusal of a time after an entry of time `last` with so many telegrams: 32 below, 33 after the eighth; else 0.
+#[tactic(auto, unfolding(crate::specs::Import::time_refusal))]
 fn time_refusal(last: u64, telegrams: u8, time: u64) -> u8
     ensures { result ≡ time_refusal last telegrams time }
 {
@@ -188,6 +198,7 @@ fn time_refusal(last: u64, telegrams: u8, time: u64) -> u8
 }
 
 // The line at the start of a text: what it says is written, or it is refused.
+#[tactic(auto, unfolding(crate::specs::Turns::line_taken, crate::specs::Turns::line_left))]
 fn take_line(text: &[u8], entries: &mut [u8], newest: Newest) -> Taken
     requires { Fits newest (length entries.old) }
     ensures value { result ≡ line_taken (line_at text.now) newest (length entries.old) }

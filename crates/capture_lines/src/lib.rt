@@ -1,5 +1,7 @@
 // A line of a bus monitor's capture (document 02, P13): a decimal time, one space, a frame in hex digits, a line feed. It is read
 // in one pass over its bytes, and its frame by codec_frames.
+#![tactic(auto)]
+
 ghost use Rattle.std.specs.Prelude.{◌≡◌, ◌+◌, ◌^◌, ◌<◌, length, take, set};
 ghost use Rattle.std.proofs.lemmas.List.Edits.{sets};
 ghost use Rattle.codec_frames.specs.Frames.{frame_of};
@@ -24,7 +26,7 @@ const CLOCK_LIMIT: u64 = 281474976710656;
 
 // A line of a capture: not built as lines are; built so, with its time, but its frame is refused, or bytes follow it (31); or its
 // time and telegram, with the number of its bytes, the line feed among them.
-#[derive(Drop)]
+#[derive(Clone, Copy)]
 pub enum LineRead {
     NotBuilt,
     Refused {
@@ -39,7 +41,7 @@ pub enum LineRead {
 }
 
 // Decimal digits at the start of a slice: how many, and the number that they are, up to the clock's limit.
-#[derive(Drop)]
+#[derive(Clone, Copy)]
 struct Digits {
     value: u64,
     count: usize,
@@ -56,6 +58,7 @@ fn is_between(byte: u8, low: u8, high: u8) -> bool
 }
 
 // The value of a hex digit, lower or upper case; 16 for any other byte.
+#[tactic(auto, using(crate::specs::Laws::between_is), unfolding(crate::specs::Lines::digit_of))]
 fn digit_of(byte: u8) -> u8
     ensures { result ≡ digit_of byte }
 {
@@ -72,6 +75,7 @@ fn digit_of(byte: u8) -> u8
 }
 
 // A number with one decimal digit more, up to the clock's limit.
+#[tactic(auto, using(crate::specs::Lines::clock_limit), unfolding(crate::specs::Ways::capped_more))]
 fn with_digit(value: u64, digit: u8) -> u64
     ensures { result ≡ capped_more value digit }
 {
@@ -151,6 +155,7 @@ fn read_pairs(text: &[u8], frame: &mut [u8]) -> usize
 }
 
 // The frame that the first `count` bytes begin with; all bytes where there are fewer.
+#[tactic(auto, using(codec_frames::specs::Frames::frame_of))]
 fn read_first(bytes: &[u8], count: usize) -> FrameRead
     ensures { result ≡ frame_of (take count bytes.now) }
 {
@@ -161,6 +166,7 @@ fn read_first(bytes: &[u8], count: usize) -> FrameRead
 }
 
 // What a line of `used` bytes says by what was read of its frame, which has `count` bytes.
+#[tactic(auto, unfolding(crate::specs::Lines::said_of))]
 fn line_said(time: u64, read: FrameRead, count: usize, used: usize) -> LineRead
     ensures { result ≡ said_of time read count used }
 {
@@ -189,6 +195,7 @@ fn line_said(time: u64, read: FrameRead, count: usize, used: usize) -> LineRead
 }
 
 // The rest of a line, after the `begun` bytes of its time and the space.
+#[tactic(auto, using(crate::specs::Laws::pairs_within, crate::specs::Laws::rest_none, crate::specs::Laws::rest_cut, crate::specs::Laws::rest_other, crate::specs::Laws::rest_ended))]
 fn read_rest(text: &[u8], time: u64, begun: usize) -> LineRead
     requires { begun + length text.now < 2 ^ 64 }
     ensures { result ≡ rest_way text.now time begun }
@@ -209,6 +216,7 @@ fn read_rest(text: &[u8], time: u64, begun: usize) -> LineRead
 }
 
 // The line at the start of a slice. Bytes behind it are not looked at.
+#[tactic(auto, using(crate::specs::Laws::digits_within, crate::specs::Laws::line_none, crate::specs::Laws::line_late, crate::specs::Laws::line_led, crate::specs::Laws::line_cut, crate::specs::Laws::line_other, crate::specs::Laws::line_rest))]
 pub fn read_line(text: &[u8]) -> LineRead
     ensures { result ≡ line_at text.now }
 {

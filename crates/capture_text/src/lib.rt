@@ -1,5 +1,7 @@
 // A line of a capture, written (document 02, P13): the time in decimal digits, one space, the frame in hex digits of lower case, a
 // line feed. It leans on no other crate's code.
+#![tactic(auto)]
+
 ghost use Rattle.std.specs.Prelude.{◌≡◌, ◌*◌, ◌<◌, ◌≤◌, length};
 ghost use Rattle.std.proofs.lemmas.List.Edits.{sets};
 ghost use Rattle.codec_frames.specs.Frames.{fitted, written_over};
@@ -14,7 +16,7 @@ const LINE_FEED: u8 = 10;
 const MOST_DIGITS: usize = 15;
 
 // What was written: how many bytes, and the refusal's number, or 0.
-#[derive(Drop)]
+#[derive(Clone, Copy)]
 pub struct LineWritten {
     pub bytes: usize,
     pub refusal: u8,
@@ -50,6 +52,7 @@ fn write_digits(text: &mut [u8], number: u64)
 }
 
 // The hex digit of a number below 16.
+#[tactic(auto, unfolding(crate::specs::Text::hex_digit))]
 fn hex_digit(number: u8) -> u8
     requires { number < 16 }
     ensures { result ≡ hex_digit number }
@@ -77,6 +80,7 @@ fn write_hex(text: &mut [u8], bytes: &[u8])
 }
 
 // Writes the line of a time and a frame at the start of a slice; the bytes past it stay. Where there is no room, 18 and nothing.
+#[tactic(auto, using(crate::specs::Laws::line_full, crate::specs::Laws::time_length, crate::specs::Laws::space_length, crate::specs::Laws::hex_room, crate::specs::Laws::hex_whole, crate::specs::Laws::line_whole, crate::specs::Laws::line_fits))]
 pub fn write_line(text: &mut [u8], time: u64, frame: &[u8]) -> LineWritten
     ensures value { result ≡ line_written (fitted (line_text time frame.now) (length text.old)) }
     ensures text_after { text.new ≡ written_over (fitted (line_text time frame.now) (length text.old)) text.old }

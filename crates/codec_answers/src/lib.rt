@@ -1,6 +1,8 @@
 // Document 01's answer of 64 bits: a struct with enums for outcome, sent and notice, packed into a word and unpacked again. A field
 // that has no meaning in a case is zero, since the case has no number for it. It leans on codec_fields for the bits and
 // on codec_telegrams for the station type.
+#![tactic(auto)]
+
 ghost use Rattle.std.specs.Prelude.{◌≡◌};
 ghost use Rattle.codec_answers.specs.Answers.{sent_bytes, outcome_number, outcome_of, sent_fields, sent_from, notice_fields, notice_from, refused_answer, answer_word, full_of, answer_of, refusal_known, sent_meant, meant, unpack_of};
 
@@ -12,7 +14,7 @@ use codec_telegrams::{ResponseState, response_state, response_state_number};
 const LAST_STATE: u8 = 9;
 
 // How a poll ended.
-#[derive(Drop)]
+#[derive(Clone, Copy)]
 pub enum Outcome {
     None,
     Offline,
@@ -22,7 +24,7 @@ pub enum Outcome {
 }
 
 // What was sent. An application's destination is the reply address, 0 where no reply is expected.
-#[derive(Drop)]
+#[derive(Clone, Copy)]
 pub enum Sent {
     Nothing,
     Token {
@@ -44,7 +46,7 @@ pub enum Sent {
 }
 
 // What an application is told: a reply from the address that it awaits one from, or that none came.
-#[derive(Drop)]
+#[derive(Clone, Copy)]
 pub enum Notice {
     NoNotice,
     Reply { application: u8, address: u8 },
@@ -52,7 +54,7 @@ pub enum Notice {
 }
 
 // An entry's answer. The state is that after the entry, by its number; the refusal is 0 for an entry that is not refused.
-#[derive(Drop)]
+#[derive(Clone, Copy)]
 pub struct Answer {
     pub refusal: u8,
     pub outcome: Outcome,
@@ -65,14 +67,14 @@ pub struct Answer {
 }
 
 // What a word says: the answer whose word it is, if there is one.
-#[derive(Drop)]
+#[derive(Clone, Copy)]
 pub enum Unpacked {
     NoAnswer,
     Is(Answer),
 }
 
 // The six fields of what was sent.
-#[derive(Drop)]
+#[derive(Clone, Copy)]
 struct SentFields {
     kind: u8,
     destination: u8,
@@ -83,7 +85,7 @@ struct SentFields {
 }
 
 // The three fields of a notice.
-#[derive(Drop)]
+#[derive(Clone, Copy)]
 struct NoticeFields {
     kind: u8,
     application: u8,
@@ -104,6 +106,7 @@ fn outcome_number(outcome: Outcome) -> u8
 }
 
 // The outcome of a number; none where there is no such outcome.
+#[tactic(auto, unfolding(crate::specs::Answers::outcome_of))]
 fn outcome_of(number: u8) -> Outcome
     ensures { result ≡ outcome_of number }
 {
@@ -136,6 +139,7 @@ pub fn sent_bytes(sent: Sent) -> u8
 }
 
 // The fields of what was sent.
+#[tactic(auto, unfolding(crate::specs::Answers::sent_fields))]
 fn sent_fields(sent: Sent) -> SentFields
     ensures { result ≡ sent_fields sent }
 {
@@ -190,6 +194,7 @@ fn sent_fields(sent: Sent) -> SentFields
 }
 
 // What was sent, by its fields; nothing where there is no such kind.
+#[tactic(auto, unfolding(crate::specs::Answers::sent_from))]
 fn sent_from(fields: SentFields) -> Sent
     ensures { result ≡ sent_from fields }
 {
@@ -223,6 +228,7 @@ fn sent_from(fields: SentFields) -> Sent
 }
 
 // The fields of a notice.
+#[tactic(auto, unfolding(crate::specs::Answers::notice_fields))]
 fn notice_fields(notice: Notice) -> NoticeFields
     ensures { result ≡ notice_fields notice }
 {
@@ -252,6 +258,7 @@ fn notice_fields(notice: Notice) -> NoticeFields
 }
 
 // A notice by its fields; none where there is no such kind.
+#[tactic(auto, unfolding(crate::specs::Answers::notice_from))]
 fn notice_from(fields: NoticeFields) -> Notice
     ensures { result ≡ notice_from fields }
 {
@@ -272,6 +279,7 @@ fn notice_from(fields: NoticeFields) -> Notice
 }
 
 // The answer of a refused entry: number, state, next application and next station, and nothing else.
+#[tactic(auto, unfolding(crate::specs::Answers::refused_answer))]
 pub fn refused_answer(refusal: u8, state: u8, application: u8, station: u8) -> Answer
     ensures { result ≡ refused_answer refusal state application station }
 {
@@ -288,6 +296,7 @@ pub fn refused_answer(refusal: u8, state: u8, application: u8, station: u8) -> A
 }
 
 // An answer as 64 bits. Of a number that does not fit its field the lowest bits are taken.
+#[tactic(auto, unfolding(crate::specs::Answers::answer_word))]
 pub fn pack(answer: Answer) -> u64
     ensures { result ≡ answer_word answer }
 {
@@ -316,6 +325,7 @@ pub fn pack(answer: Answer) -> u64
 }
 
 // What the fields of a word say, its refusal left out.
+#[tactic(auto, unfolding(crate::specs::Answers::full_of))]
 fn read_full(word: u64) -> Answer
     ensures { result ≡ full_of word }
 {
@@ -348,6 +358,7 @@ fn read_full(word: u64) -> Answer
 }
 
 // What the fields of a word say; with a refusal only the fields that a refused entry has.
+#[tactic(auto, unfolding(crate::specs::Answers::answer_of))]
 fn read_answer(word: u64) -> Answer
     ensures { result ≡ answer_of word }
 {
@@ -364,6 +375,7 @@ fn read_answer(word: u64) -> Answer
 }
 
 // Whether an answer can have this refusal.
+#[tactic(auto, unfolding(crate::specs::Answers::refusal_known))]
 fn refusal_known(refusal: u8) -> bool
     ensures { result ≡ refusal_known refusal }
 {
@@ -377,6 +389,7 @@ fn refusal_known(refusal: u8) -> bool
 }
 
 // Whether an application that sends sends a byte.
+#[tactic(auto, unfolding(crate::specs::Answers::sent_meant))]
 fn sent_meant(sent: Sent) -> bool
     ensures { result ≡ sent_meant sent }
 {
@@ -398,6 +411,7 @@ fn sent_meant(sent: Sent) -> bool
 }
 
 // Whether an answer's numbers are such as document 01 has.
+#[tactic(auto, unfolding(crate::specs::Answers::meant))]
 fn is_meant(answer: Answer) -> bool
     ensures { result ≡ meant answer }
 {
@@ -415,6 +429,7 @@ fn is_meant(answer: Answer) -> bool
 }
 
 // The answer whose word this is, if there is one.
+#[tactic(auto, unfolding(crate::specs::Answers::unpack_of))]
 pub fn unpack(word: u64) -> Unpacked
     ensures { result ≡ unpack_of word }
 {

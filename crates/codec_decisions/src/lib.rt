@@ -1,5 +1,7 @@
 // An application's decision of 24 bits (document 01, "Poll record"): what it says, the refusal of a word that no decision has,
 // and the writer. It leans on codec_fields.
+#![tactic(auto)]
+
 ghost use Rattle.std.specs.Prelude.{◌≡◌, [], ◌∷◌};
 ghost use Rattle.codec_fields.specs.Fields.{bit_number, put_all};
 ghost use Rattle.codec_decisions.specs.Decisions.{decision_of, decision_refusal, decision_widths, decision_word, length_refusal};
@@ -7,7 +9,7 @@ ghost use Rattle.codec_decisions.specs.Decisions.{decision_of, decision_refusal,
 use codec_fields::{bit, field, field_byte, put, put_bit, put_byte, zero_or_14};
 
 // What an application decides when it is asked: to send nothing, to send so many bytes, or to send them and await a reply.
-#[derive(Drop)]
+#[derive(Clone, Copy)]
 pub enum Decision {
     Decline,
     Send { length: u8 },
@@ -15,6 +17,7 @@ pub enum Decision {
 }
 
 // What a decision's word says.
+#[tactic(auto, unfolding(crate::specs::Decisions::decision_of))]
 pub fn read_decision(word: u64) -> Decision
     ensures { result ≡ decision_of word }
 {
@@ -32,6 +35,7 @@ pub fn read_decision(word: u64) -> Decision
 }
 
 // 15 for a send of 0 bytes.
+#[tactic(auto, unfolding(crate::specs::Decisions::length_refusal))]
 fn length_refusal(length: u8) -> u8
     ensures { result ≡ length_refusal length }
 {
@@ -42,6 +46,7 @@ fn length_refusal(length: u8) -> u8
 }
 
 // 14 for a decision's word with a bit that should be zero, else 15 for one that sends 0 bytes, 0 for any other.
+#[tactic(auto, using(codec_fields::specs::Fields::zero_or14, codec_fields::specs::Laws::zeros_field), unfolding(crate::specs::Decisions::decision_refusal))]
 pub fn decision_refusal(word: u64) -> u8
     ensures { result ≡ decision_refusal word }
 {
@@ -79,6 +84,7 @@ fn decision_word(sends: bool, expects: bool, address: u8, length: u8) -> u64
 }
 
 // The word that says a decision. Of an address that does not fit its field the lowest bits are taken.
+#[tactic(auto, unfolding(crate::specs::Decisions::decision_word))]
 pub fn write_decision(decision: Decision) -> u64
     ensures { result ≡ decision_word decision }
 {

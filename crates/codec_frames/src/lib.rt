@@ -1,5 +1,7 @@
 // The frames of PROFIBUS that carry telegrams (document 02, P1): one is read from the bytes at the start of a slice, and a telegram
 // word is written as one. It leans on codec_telegrams for the word and on codec_fields for bits.
+#![tactic(auto)]
+
 ghost use Rattle.std.specs.Prelude.{◌≡◌, [], ◌∷◌, length, ◌==◌};
 ghost use Rattle.codec_frames.specs.Frames.{sd4, sc, check_of, extended, coded_telegram, sd1_frame, start_of, frame_of, read_number, fitted, write_of, write_number, written_over};
 ghost use Rattle.codec_frames.specs.Ways.{coded_of, checked_of, sd2_of, token_of};
@@ -26,7 +28,7 @@ const END_BYTE: u8 = 0x16;
 const STATUS_CODE: u8 = 0x49;
 
 // How a frame begins: by one of the five start bytes, or by a byte that begins no frame.
-#[derive(Drop)]
+#[derive(Clone, Copy)]
 pub enum Start {
     Sd1,
     Sd2,
@@ -37,13 +39,14 @@ pub enum Start {
 }
 
 // What a reader makes of bytes: the telegram and how many bytes its frame has, or the refusal's number.
-#[derive(Drop)]
+#[derive(Clone, Copy)]
 pub enum FrameRead {
     Accepted { telegram: Telegram, used: u16 },
     Refused(u8),
 }
 
 // How a first byte begins a frame.
+#[tactic(auto, unfolding(crate::specs::Frames::start_of))]
 fn start_of(byte: u8) -> Start
     ensures { result ≡ start_of byte }
 {
@@ -89,6 +92,7 @@ fn is_extended(destination: u8, source: u8) -> bool
 }
 
 // What a function code says of a telegram with so many bytes of data: 49h without data is the status request.
+#[tactic(auto, using(crate::specs::Laws::status_read), unfolding(crate::specs::Frames::coded_telegram))]
 fn coded_telegram(destination: u8, source: u8, code: u8, count: u8) -> Telegram
     ensures { result ≡ coded_telegram destination source code (count == 0) }
 {
@@ -117,6 +121,7 @@ fn coded_telegram(destination: u8, source: u8, code: u8, count: u8) -> Telegram
 }
 
 // Addresses and function code of a frame of `used` bytes whose check byte and end byte are right.
+#[tactic(auto, unfolding(crate::specs::Ways::coded_of))]
 fn read_coded(destination: u8, source: u8, code: u8, count: u8, used: u16) -> FrameRead
     ensures { result ≡ coded_of destination source code count used }
 {
@@ -133,6 +138,7 @@ fn read_coded(destination: u8, source: u8, code: u8, count: u8, used: u16) -> Fr
 }
 
 // A frame with a check byte: `head` bytes, destination, source, function code, `count` bytes of data, check byte, end byte.
+#[tactic(auto, using(crate::specs::Laws::part_check), unfolding(crate::specs::Ways::checked_of))]
 fn read_checked(frame: &[u8], head: u8, count: u8) -> FrameRead
     ensures { result ≡ checked_of frame.now head count }
 {
@@ -157,6 +163,7 @@ fn read_checked(frame: &[u8], head: u8, count: u8) -> FrameRead
 }
 
 // SD2: a header of four bytes, with the length twice in it, and then what a frame with a check byte has.
+#[tactic(auto, unfolding(crate::specs::Ways::sd2_of))]
 fn read_sd2(frame: &[u8]) -> FrameRead
     ensures { result ≡ sd2_of frame.now }
 {
@@ -180,6 +187,7 @@ fn read_sd2(frame: &[u8]) -> FrameRead
 }
 
 // SD4: start byte, destination, source.
+#[tactic(auto, unfolding(crate::specs::Ways::token_of))]
 fn read_token(frame: &[u8]) -> FrameRead
     ensures { result ≡ token_of frame.now }
 {
@@ -202,6 +210,7 @@ fn read_token(frame: &[u8]) -> FrameRead
 }
 
 // The frame at the start of a slice. Bytes behind it are not looked at.
+#[tactic(auto, using(crate::specs::Laws::empty_way, crate::specs::Laws::sd1_way, crate::specs::Laws::sd2_way, crate::specs::Laws::sd3_way, crate::specs::Laws::sd4_way, crate::specs::Laws::sc_way, crate::specs::Laws::unknown_way), unfolding(crate::specs::Frames::frame_of))]
 pub fn read_frame(frame: &[u8]) -> FrameRead
     ensures { result ≡ frame_of frame.now }
 {
@@ -222,6 +231,7 @@ pub fn read_frame(frame: &[u8]) -> FrameRead
 }
 
 // What was read as one number: word × 65536 + bytes used × 256; refused: the number alone.
+#[tactic(auto, using(crate::specs::Laws::word_is_below), unfolding(crate::specs::Frames::read_number))]
 pub fn read_number(read: FrameRead) -> u64
     ensures { result ≡ read_number read }
 {
@@ -234,6 +244,7 @@ pub fn read_number(read: FrameRead) -> u64
 }
 
 // Writes an SD4 frame, where there is room: bytes written × 256 + number.
+#[tactic(auto, using(crate::specs::Frames::sd4, crate::specs::Laws::not_stored, crate::specs::Laws::stored))]
 fn write_sd4(frame: &mut [u8], destination: u8, source: u8) -> u64
     ensures value { result ≡ write_number (fitted (sd4 ∷ destination ∷ source ∷ []) (length frame.old)) }
     ensures frame_after { frame.new ≡ written_over (fitted (sd4 ∷ destination ∷ source ∷ []) (length frame.old)) frame.old }
@@ -248,6 +259,7 @@ fn write_sd4(frame: &mut [u8], destination: u8, source: u8) -> u64
 }
 
 // Writes an SC frame, where there is room.
+#[tactic(auto, using(crate::specs::Frames::sc, crate::specs::Laws::not_stored, crate::specs::Laws::stored))]
 fn write_sc(frame: &mut [u8]) -> u64
     ensures value { result ≡ write_number (fitted (sc ∷ []) (length frame.old)) }
     ensures frame_after { frame.new ≡ written_over (fitted (sc ∷ []) (length frame.old)) frame.old }
@@ -260,6 +272,7 @@ fn write_sc(frame: &mut [u8]) -> u64
 }
 
 // Writes an SD1 frame, where there is room.
+#[tactic(auto, using(crate::specs::Frames::sd1, crate::specs::Frames::end_byte, crate::specs::Frames::sd1_frame, crate::specs::Laws::not_stored, crate::specs::Laws::stored))]
 fn write_sd1(frame: &mut [u8], destination: u8, source: u8, code: u8) -> u64
     ensures value { result ≡ write_number (fitted (sd1_frame destination source code) (length frame.old)) }
     ensures frame_after { frame.new ≡ written_over (fitted (sd1_frame destination source code) (length frame.old)) frame.old }
@@ -279,6 +292,7 @@ fn write_sd1(frame: &mut [u8], destination: u8, source: u8, code: u8) -> u64
 
 // Writes the frame of a telegram word and returns bytes written × 256 + number. A refused call writes nothing, and bytes past the
 // frame stay.
+#[tactic(auto, using(crate::specs::Laws::as_written, crate::specs::Laws::write_refused, crate::specs::Laws::write_fitted, crate::specs::Laws::write_status, crate::specs::Laws::write_other, crate::specs::Laws::write_response, crate::specs::Laws::status_below, crate::specs::Laws::state_is_below))]
 pub fn write_frame(word: u64, frame: &mut [u8]) -> u64
     ensures value { result ≡ write_number (write_of word (length frame.old)) }
     ensures frame_after { frame.new ≡ written_over (write_of word (length frame.old)) frame.old }

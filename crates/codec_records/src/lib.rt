@@ -2,6 +2,8 @@
 // its first 64 bits say, the decision of an application and a telegram, and where these stand. Every call is total on every
 // slice and none reads past its end. It leans on codec_fields for the bits and on codec_telegrams and codec_decisions for the
 // words.
+#![tactic(auto)]
+
 ghost use Rattle.std.specs.Prelude.{◌≡◌, ◌+◌, ◌*◌};
 ghost use Rattle.codec_fields.specs.Fields.{bit_number};
 ghost use Rattle.codec_records.specs.Records.{head_of, record_refusal, decision_at, telegram_at};
@@ -13,7 +15,7 @@ use codec_telegrams::{Telegram, read_telegram, telegram_refusal};
 
 // A record's first 64 bits: the clock, below 2 to the 48, the pending bytes, the number of telegrams, and whether a
 // transmission goes on.
-#[derive(Drop)]
+#[derive(Clone, Copy)]
 pub struct Head {
     pub clock: u64,
     pub pending: u16,
@@ -22,6 +24,7 @@ pub struct Head {
 }
 
 // What a record's first 64 bits say.
+#[tactic(auto, unfolding(crate::specs::Records::head_of))]
 pub fn read_head(bytes: &[u8]) -> Head
     ensures { result ≡ head_of bytes.now }
 {
@@ -52,6 +55,7 @@ pub fn telegram_place(applications: u8, telegram: u8) -> usize
 }
 
 // The decision of an application, normal or high priority; an application past the last declines.
+#[tactic(auto, unfolding(crate::specs::Records::decision_at))]
 pub fn decision(bytes: &[u8], applications: u8, application: u8, high: bool) -> Decision
     ensures { result ≡ decision_at bytes.now applications application high }
 {
@@ -62,6 +66,7 @@ pub fn decision(bytes: &[u8], applications: u8, application: u8, high: bool) -> 
 }
 
 // A telegram of a record; past its end a short confirmation.
+#[tactic(auto, unfolding(crate::specs::Records::telegram_at))]
 pub fn telegram(bytes: &[u8], applications: u8, index: u8) -> Telegram
     ensures { result ≡ telegram_at bytes.now applications index }
 {
@@ -74,6 +79,7 @@ pub fn telegram(bytes: &[u8], applications: u8, index: u8) -> Telegram
 
 // The first refusal of an application's two decisions. Most decline, and six zero bytes are not read bit by bit. Bytes that are not
 // there count as zero: record_refusal tests the length before.
+#[tactic(auto, unfolding(crate::specs::Shortcut::decisions_refusal))]
 fn decisions_refusal(bytes: &[u8], application: u8) -> u8
     ensures { result ≡ decisions_refusal bytes.now application }
 {
@@ -112,6 +118,7 @@ fn entries_refusal(bytes: &[u8], applications: u8, telegrams: u8) -> u8
 }
 
 // The refusal of a record for a number of applications, 0 for a good one.
+#[tactic(auto, using(crate::specs::Shortcut::entries_first), unfolding(crate::specs::Records::record_refusal))]
 pub fn record_refusal(bytes: &[u8], applications: u8) -> u8
     ensures { result ≡ record_refusal bytes.now applications }
 {

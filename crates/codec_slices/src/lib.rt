@@ -1,6 +1,8 @@
 // Fields of lent bytes, most significant bit first: a field of any width at any bit, wherever it crosses the ends of bytes, read
 // and written in place. A field that touches more than 8 bytes is none: each of up to 57 bits has room in them. Every call is
 // total. It leans on codec_fields for the words.
+#![tactic(auto)]
+
 ghost use Rattle.std.specs.Prelude.{◌≡◌, ◌+◌, ◌≤◌};
 ghost use Rattle.codec_slices.specs.Slices.{touched, behind, field_at, put_at, over_word};
 
@@ -24,6 +26,7 @@ fn bits_behind(at: usize, width: usize) -> u64
 
 // The `width` bits of `s` from bit `at` on, bit 0 the highest of the first byte; 0 where `s` ends before, and for a field that
 // touches more than 8 bytes.
+#[tactic(auto, using(crate::specs::Parts::bytes_known, crate::specs::Parts::field_by_word, crate::specs::Parts::field_too_wide))]
 pub fn field_at(s: &[u8], at: usize, width: usize) -> u64
     ensures { result ≡ field_at s.now at width }
 {
@@ -35,6 +38,7 @@ pub fn field_at(s: &[u8], at: usize, width: usize) -> u64
 }
 
 // `word` with `value` in the `width` bits above its lowest `after`.
+#[tactic(auto, unfolding(crate::specs::Slices::over_word))]
 fn over_word(word: u64, after: u64, width: u64, value: u64) -> u64
     requires { (after ≤ 7) × (width ≤ 64) }
     ensures { result ≡ over_word word after width value }
@@ -48,6 +52,7 @@ fn over_word(word: u64, after: u64, width: u64, value: u64) -> u64
 
 // Writes the lowest `width` bits of `value` into `s` from bit `at` on; every other bit stays. Where `s` ends before, and for a
 // field that touches more than 8 bytes, all of `s` stays.
+#[tactic(auto, using(crate::specs::Parts::bytes_known, crate::specs::Parts::put_by_word, crate::specs::Parts::put_too_wide))]
 pub fn put_at(s: &mut [u8], at: usize, width: usize, value: u64)
     ensures { s.new ≡ put_at s.old at width value }
 {

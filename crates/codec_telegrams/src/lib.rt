@@ -1,5 +1,7 @@
 // Document 01's telegram word of 32 bits: what it says, the refusal of a word that no telegram has, and the writer. It leans on
 // codec_fields.
+#![tactic(auto)]
+
 ghost use Rattle.std.specs.Prelude.{◌≡◌, [], ◌∷◌};
 ghost use Rattle.codec_fields.specs.Fields.{bit_number, put_all};
 ghost use Rattle.codec_telegrams.specs.Words.{response_state_of, response_number, telegram_of, telegram_refusal, telegram_widths, telegram_word};
@@ -7,7 +9,7 @@ ghost use Rattle.codec_telegrams.specs.Words.{response_state_of, response_number
 use codec_fields::{bit, field, field_byte, put, put_bit, put_byte, zero_or_14};
 
 // A station's type in a response, in document 01's order: slave, not ready, without token, in ring.
-#[derive(Drop)]
+#[derive(Clone, Copy)]
 pub enum ResponseState {
     Slave,
     MasterNotReady,
@@ -16,7 +18,7 @@ pub enum ResponseState {
 }
 
 // What a telegram word says. A response's status is a number, 0 for Ok.
-#[derive(Drop)]
+#[derive(Clone, Copy)]
 pub enum Telegram {
     Token {
         destination: u8,
@@ -37,6 +39,7 @@ pub enum Telegram {
 }
 
 // The station type of a number of two bits.
+#[tactic(auto, unfolding(crate::specs::Words::response_state_of))]
 pub fn response_state(number: u8) -> ResponseState
     ensures { result ≡ response_state_of number }
 {
@@ -65,6 +68,7 @@ pub fn response_state_number(state: ResponseState) -> u8
 }
 
 // What a telegram word says.
+#[tactic(auto, unfolding(crate::specs::Words::telegram_of))]
 pub fn read_telegram(word: u64) -> Telegram
     ensures { result ≡ telegram_of word }
 {
@@ -97,6 +101,7 @@ pub fn read_telegram(word: u64) -> Telegram
 }
 
 // 14 for a word that no telegram has, 0 for any other.
+#[tactic(auto, using(codec_fields::specs::Fields::zero_or14, codec_fields::specs::Laws::zeros_field), unfolding(codec_fields::specs::Fields::zeros_or14, crate::specs::Words::telegram_refusal))]
 pub fn telegram_refusal(word: u64) -> u8
     ensures { result ≡ telegram_refusal word }
 {
@@ -139,6 +144,7 @@ fn telegram_word(
 }
 
 // The word that says a telegram. Of a number that does not fit its field the lowest bits are taken.
+#[tactic(auto, unfolding(crate::specs::Words::telegram_word))]
 pub fn write_telegram(telegram: Telegram) -> u64
     ensures { result ≡ telegram_word telegram }
 {

@@ -2,6 +2,8 @@
 // The station knows nothing of it. Here is what an address's entry is, read from the bytes that it begins with and written into
 // them; heard_telegrams feeds the table, heard_shown asks it. Every call is total on a slice of any length. It leans on
 // codec_telegrams for the station types, on codec_fields for the bytes.
+#![tactic(auto)]
+
 ghost use Rattle.std.specs.Prelude.{◌≡◌};
 ghost use Rattle.codec_fields.specs.Fields.{load_of};
 ghost use Rattle.heard.specs.Heard.{heard_refusal, type_byte, type_of, entry_of, entry_into};
@@ -19,14 +21,14 @@ pub const ENTRY_LENGTH: usize = 17;
 pub const TABLE_LENGTH: usize = 2142;
 
 // The station type that an address gave in its last response; unseen where no response was heard.
-#[derive(Drop)]
+#[derive(Clone, Copy)]
 pub enum LastType {
     Unseen,
     Seen(ResponseState),
 }
 
 // What is kept of an address: the clock when it was first and when it was last heard, how often, and its station type.
-#[derive(Drop)]
+#[derive(Clone, Copy)]
 pub struct AddressEntry {
     pub first: u64,
     pub last: u64,
@@ -35,7 +37,7 @@ pub struct AddressEntry {
 }
 
 // What is said of an address: its entry, that it was never heard, or the refusal of the question.
-#[derive(Drop)]
+#[derive(Clone, Copy)]
 pub enum Found {
     Heard(AddressEntry),
     Never,
@@ -43,6 +45,7 @@ pub enum Found {
 }
 
 // 26 for an address above 125, 0 for any other.
+#[tactic(auto, unfolding(crate::specs::Heard::heard_refusal))]
 pub fn heard_refusal(address: u8) -> u8
     ensures { result ≡ heard_refusal address }
 {
@@ -53,6 +56,7 @@ pub fn heard_refusal(address: u8) -> u8
 }
 
 // The byte of a station type: 0 where none was seen, else 1 + its number.
+#[tactic(auto, using(crate::specs::Steps::type_small), unfolding(crate::specs::Heard::type_byte))]
 fn type_byte(last_type: LastType) -> u8
     ensures { result ≡ type_byte last_type }
 {
@@ -63,6 +67,7 @@ fn type_byte(last_type: LastType) -> u8
 }
 
 // The station type that a byte says.
+#[tactic(auto, unfolding(crate::specs::Heard::type_of))]
 fn type_of(byte: u8) -> LastType
     ensures { result ≡ type_of byte }
 {
@@ -73,6 +78,7 @@ fn type_of(byte: u8) -> LastType
 }
 
 // The number that four bytes from a place are.
+#[tactic(auto, using(codec_slices::specs::Parts::bytes_known, crate::specs::Steps::load_small))]
 fn long(bytes: &[u8], at: usize) -> u32
     ensures { result ≡ load_of bytes.now at 4 }
 {
@@ -80,6 +86,7 @@ fn long(bytes: &[u8], at: usize) -> u32
 }
 
 // The byte at a place.
+#[tactic(auto, using(codec_slices::specs::Parts::bytes_known, crate::specs::Steps::load_small))]
 fn byte(bytes: &[u8], at: usize) -> u8
     ensures { result ≡ load_of bytes.now at 1 }
 {
@@ -87,6 +94,7 @@ fn byte(bytes: &[u8], at: usize) -> u8
 }
 
 // The entry that bytes begin with.
+#[tactic(auto, unfolding(crate::specs::Heard::entry_of))]
 pub fn read_entry(bytes: &[u8]) -> AddressEntry
     ensures { result ≡ entry_of bytes.now }
 {
@@ -100,6 +108,7 @@ pub fn read_entry(bytes: &[u8]) -> AddressEntry
 }
 
 // Writes an entry into the first 17 bytes; every other byte stays. A shorter slice stays as it is.
+#[tactic(auto, using(crate::specs::Steps::entry_stored), unfolding(crate::specs::Heard::entry_into))]
 pub fn write_entry(bytes: &mut [u8], entry: AddressEntry)
     ensures { bytes.new ≡ entry_into bytes.old entry }
 {

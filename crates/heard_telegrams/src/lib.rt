@@ -1,5 +1,7 @@
 // Telegrams heard (request P7): a table of heard is fed with those that a poll consumed. Every call is total on a table of any length:
 // of an address whose entry has no room nothing is kept. It leans on heard for the entries, on codec_records for the telegrams.
+#![tactic(auto)]
+
 ghost use Rattle.std.specs.Prelude.{◌≡◌};
 ghost use Rattle.heard.specs.Heard.{one_more, first_clock, newer_type, entry_after, heard_from, hear_of, consumed_in, hear_all};
 
@@ -10,6 +12,7 @@ use heard::{AddressEntry, ENTRY_LENGTH, LAST_ADDRESS, LastType, read_entry, writ
 const MOST_TIMES: u32 = 4294967295;
 
 // Heard once more; the count stops at its largest value.
+#[tactic(auto, unfolding(heard::specs::Heard::one_more))]
 fn one_more(times: u32) -> u32
     ensures { result ≡ one_more times }
 {
@@ -20,6 +23,7 @@ fn one_more(times: u32) -> u32
 }
 
 // When an address was first heard that is heard now.
+#[tactic(auto, unfolding(heard::specs::Heard::first_clock))]
 fn first_clock(times: u32, first: u64, clock: u64) -> u64
     ensures { result ≡ first_clock times first clock }
 {
@@ -30,6 +34,7 @@ fn first_clock(times: u32, first: u64, clock: u64) -> u64
 }
 
 // The station type after a telegram: a response has it, any other leaves it.
+#[tactic(auto, unfolding(heard::specs::Heard::newer_type))]
 fn newer_type(before: LastType, seen: LastType) -> LastType
     ensures { result ≡ newer_type before seen }
 {
@@ -40,6 +45,7 @@ fn newer_type(before: LastType, seen: LastType) -> LastType
 }
 
 // An entry after a telegram of its address.
+#[tactic(auto, unfolding(heard::specs::Heard::entry_after))]
 fn entry_after(entry: AddressEntry, clock: u64, seen: LastType) -> AddressEntry
     ensures { result ≡ entry_after entry clock seen }
 {
@@ -54,6 +60,7 @@ fn entry_after(entry: AddressEntry, clock: u64, seen: LastType) -> AddressEntry
 }
 
 // A telegram of a source, with the station type that it says. Sources 126 and 127 are skipped.
+#[tactic(auto, using(heard::specs::Steps::heard_past, heard::specs::Steps::heard_there), unfolding(heard::specs::Heard::heard_from))]
 fn hear_from(table: &mut [u8], clock: u64, source: u8, seen: LastType)
     ensures { table.new ≡ heard_from table.old clock source seen }
 {
@@ -69,6 +76,7 @@ fn hear_from(table: &mut [u8], clock: u64, source: u8, seen: LastType)
 }
 
 // One telegram that was consumed at a clock. A short confirmation has no source and is skipped.
+#[tactic(auto, unfolding(heard::specs::Heard::hear_of))]
 pub fn hear(table: &mut [u8], clock: u64, telegram: Telegram)
     ensures { table.new ≡ hear_of table.old clock telegram }
 {

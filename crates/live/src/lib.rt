@@ -1,5 +1,7 @@
 // The live door: a station as bytes in the caller's memory, opened by a header and stepped by one entry at a time. It leans on
 // trace_headers and trace for header and entry, on station_bytes for the bytes.
+#![tactic(auto)]
+
 ghost use Rattle.std.specs.Prelude.{◌≡◌, length};
 ghost use Rattle.station.specs.Whole.{station_at};
 ghost use Rattle.trace.specs.Entries.{entry_of};
@@ -14,7 +16,7 @@ use station::Station;
 use station_bytes::Reading;
 
 // How many telegrams an entry consumed, and for how many applications its record speaks.
-#[derive(Drop)]
+#[derive(Clone, Copy)]
 pub struct Consumed {
     pub telegrams: u8,
     pub applications: u8,
@@ -22,7 +24,7 @@ pub struct Consumed {
 
 // What a step came to beside its bytes: the number that the call returns, the entry's bytes, and what it consumed. Of a refused step
 // the last two are zero.
-#[derive(Drop)]
+#[derive(Clone, Copy)]
 pub struct Done {
     pub number: u64,
     pub size: usize,
@@ -31,6 +33,7 @@ pub struct Done {
 
 // Opens a station: a fresh one with the settings of the header that these bytes begin with, in either edition. Returns the bytes
 // written × 256, or the number that refuses: the header's as in a trace, then 18 where there is no room.
+#[tactic(auto, using(crate::specs::Laws::open_cut, crate::specs::Laws::open_refused, crate::specs::Laws::open_full, crate::specs::Laws::open_done))]
 pub fn open_station(header: &[u8], station: &mut [u8]) -> u64
     ensures value { result ≡ open_number header.now (length station.old) }
     ensures station_after { station.new ≡ open_into header.now station.old }
@@ -56,6 +59,7 @@ pub fn open_station(header: &[u8], station: &mut [u8]) -> u64
 }
 
 // A step that was refused with a number.
+#[tactic(auto, unfolding(crate::specs::Live::done_of))]
 fn refused(number: u64) -> Done
     ensures { result ≡ done_of (Refusal number) }
 {
@@ -70,6 +74,7 @@ fn refused(number: u64) -> Done
 }
 
 // Answers an entry, and writes its answer and the station after it. Says what it consumed.
+#[tactic(auto, using(crate::specs::Laws::answered_into))]
 fn answer_into(
     found: Station,
     links: &mut [u8; 252],
@@ -94,6 +99,7 @@ fn answer_into(
 }
 
 // Steps a station that was read by the entry that these bytes begin with.
+#[tactic(auto, using(station::specs::Whole::station_at, crate::specs::Laws::three_refused, crate::specs::Laws::three_answered, crate::specs::Laws::found_empty, crate::specs::Laws::found_cut, crate::specs::Laws::found_full, crate::specs::Laws::found_answered))]
 fn step_found(
     found: Station,
     links: &mut [u8; 252],
@@ -129,6 +135,7 @@ fn step_found(
 // `answer`, the station after it where it was. Says what it came to: the entry's bytes × 256 with what was consumed, or the number that
 // refuses, and then nothing is written: 36 where the bytes are no station, 17 where the entry is empty or cut, 18 where the answer has
 // no room.
+#[tactic(auto, using(crate::specs::Laws::three_refused, crate::specs::Laws::found_long, crate::specs::Laws::step_taken, crate::specs::Laws::step_none))]
 pub fn step(station: &mut [u8], entry: &[u8], answer: &mut [u8]) -> Done
     ensures value { result ≡ done_of (step_of station.old entry.now (length answer.old)) }
     ensures station_after { station.new ≡ step_into (step_of station.old entry.now (length answer.old)) station.old }
@@ -147,6 +154,7 @@ pub fn step(station: &mut [u8], entry: &[u8], answer: &mut [u8]) -> Done
 }
 
 // The same for a caller that keeps nothing beside the station: returns the number alone.
+#[tactic(auto, using(crate::specs::Laws::done_number))]
 pub fn step_station(station: &mut [u8], entry: &[u8], answer: &mut [u8]) -> u64
     ensures value { result ≡ step_number (step_of station.old entry.now (length answer.old)) }
     ensures station_after { station.new ≡ step_into (step_of station.old entry.now (length answer.old)) station.old }

@@ -1,10 +1,13 @@
 // The links of the ring (document 02, P8): two tables in one array, the member after each address and the member before it,
 // 127 where an address is no member: entry a and entry 126 + a. `ring` lends them, and asks for addresses below 126 alone.
+#![tactic(auto)]
+
 ghost use Rattle.std.specs.Prelude.{◌≡◌, ◌<◌, false, cond, eqb};
 ghost use Rattle.ring_addresses.specs.Set.{down, nearest};
 ghost use Rattle.ring_links.specs.Links.{listed, link_of, unlink_of, behind_of, insert_of, sweep_of, relink_of, follows_of, confirms_of};
 
 // Is `a` a member? Nobody above 125 is.
+#[tactic(auto, unfolding(crate::specs::Links::listed))]
 pub fn member(links: &[u8; 252], a: u8) -> bool
     ensures { result ≡ listed links.now a }
 {
@@ -15,6 +18,7 @@ pub fn member(links: &[u8; 252], a: u8) -> bool
 }
 
 // `y` comes after `x`, and `x` before `y`.
+#[tactic(auto, unfolding(crate::specs::Links::link_of))]
 fn link(links: &mut [u8; 252], x: u8, y: u8)
     requires { (x < 126) × (y < 126) }
     ensures { links.new ≡ link_of links.old x y }
@@ -24,6 +28,7 @@ fn link(links: &mut [u8; 252], x: u8, y: u8)
 }
 
 // Takes `a` out: who was before it and who was after it are linked, and it holds 127 twice. A non-member has no neighbours.
+#[tactic(auto, unfolding(crate::specs::Links::unlink_of))]
 pub fn unlink(links: &mut [u8; 252], a: u8)
     requires { a < 126 }
     ensures { links.new ≡ unlink_of links.old a }
@@ -70,6 +75,7 @@ fn member_below(links: &[u8; 252], a: u8) -> u8
 }
 
 // Puts `a` between `p` and the one after `p`.
+#[tactic(auto, unfolding(crate::specs::Links::behind_of))]
 fn insert_behind(links: &mut [u8; 252], p: u8, a: u8)
     requires { (p < 126) × (a < 126) }
     ensures { links.new ≡ behind_of links.old p a }
@@ -83,6 +89,7 @@ fn insert_behind(links: &mut [u8; 252], p: u8, a: u8)
 }
 
 // Puts `a` in, where it is no member yet.
+#[tactic(auto, using(crate::specs::Sets::nearest_low), unfolding(crate::specs::Links::insert_of))]
 pub fn insert(links: &mut [u8; 252], a: u8)
     requires { a < 126 }
     ensures { links.new ≡ insert_of links.old a }
@@ -127,6 +134,7 @@ fn sweep(links: &mut [u8; 252], own: u8, s: u8, d: u8)
 }
 
 // The links after a pass from `s` to `d` that they did not say: both are put in, and who stands between them goes.
+#[tactic(auto, unfolding(crate::specs::Links::relink_of))]
 pub fn relink(links: &mut [u8; 252], own: u8, s: u8, d: u8)
     requires { (s < 126) × (d < 126) }
     ensures { links.new ≡ relink_of own links.old s d }
@@ -140,6 +148,7 @@ pub fn relink(links: &mut [u8; 252], own: u8, s: u8, d: u8)
 }
 
 // Does `d` come after `s`, or own, and `d` after own?
+#[tactic(auto, unfolding(crate::specs::Links::follows_of))]
 fn follows(own: u8, links: &[u8; 252], s: u8, d: u8) -> bool
     requires { s < 126 }
     ensures { result ≡ follows_of own links.now s d }
@@ -158,6 +167,7 @@ fn follows(own: u8, links: &[u8; 252], s: u8, d: u8) -> bool
 }
 
 // Do the links say already that the token goes from `s` to `d`? A member may keep the token.
+#[tactic(auto, unfolding(crate::specs::Links::confirms_of))]
 pub fn confirms(own: u8, links: &[u8; 252], s: u8, d: u8) -> bool
     requires { s < 126 }
     ensures { result ≡ confirms_of own links.now s d }

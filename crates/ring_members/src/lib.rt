@@ -1,6 +1,8 @@
 // The members of a ring as a set of bits: 16 bytes, a bit for each address, address 0 the highest bit of the first byte. Read, the
 // addresses are added to a ring one by one, so that a sound ring stays sound whatever the bytes are; or the tables of the set are made
 // in one pass. It leans on ring for adding, on ring_links for the tables, and on codec_fields for a bit.
+#![tactic(auto)]
+
 ghost use Rattle.std.specs.Prelude.{◌≡◌, ℕ, ◌+◌, ◌-◌, ◌*◌, ◌^◌, ◌<◌, ◌≤◌, false, cond, get_or, replicate, eqb};
 ghost use Rattle.ring.specs.Ring.{ring_of};
 ghost use Rattle.ring_links.specs.Links.{listed, links_of, tab};
@@ -10,6 +12,7 @@ use codec_fields::bit;
 use ring::{Head, set_next_station};
 
 // The byte at `i`, 0 where the slice ends before.
+#[tactic(auto, unfolding(crate::specs::Members::byte_at))]
 fn byte_at(set: &[u8], i: usize) -> u8
     ensures { result ≡ byte_at set.now i }
 {
@@ -20,6 +23,7 @@ fn byte_at(set: &[u8], i: usize) -> u8
 }
 
 // Whether `a` is in the set that these bytes are.
+#[tactic(auto, unfolding(crate::specs::Members::in_set))]
 pub fn in_set(set: &[u8], a: u8) -> bool
     ensures { result ≡ in_set set.now a }
 {
@@ -27,6 +31,7 @@ pub fn in_set(set: &[u8], a: u8) -> bool
 }
 
 // Adds `a` where its bit is one, the one above the lowest `at` of the byte.
+#[tactic(auto, unfolding(crate::specs::Members::bit_added))]
 fn add_bit(head: Head, links: &mut [u8; 252], byte: u8, at: u8, a: u8)
     ensures { ring_of head links.new ≡ bit_added (ring_of head links.old) byte at a }
 {
@@ -102,6 +107,7 @@ fn highest(set: &[u8]) -> u8
 }
 
 // Links `a` behind `last` where its bit is one, the one above the lowest `at` of the byte; who is the last then.
+#[tactic(auto, unfolding(ring_links::specs::Links::link_of, crate::specs::Members::bit_linked))]
 fn link_bit(links: &mut [u8; 252], byte: u8, at: u8, last: u8, a: u8) -> u8
     requires { (last < 126) × (a < 126) }
     ensures { (chain_of links.new result ≡ bit_linked (chain_of links.old last) byte at a) × (result < 126) }
@@ -154,6 +160,7 @@ fn nobody() -> [u8; 252]
 }
 
 // Makes the tables of the addresses in a set, whatever stood in them. The first comes behind the highest.
+#[tactic(auto, using(crate::specs::Linked::tables_stand))]
 pub fn link_members(links: &mut [u8; 252], set: &[u8])
     ensures { links.new ≡ links_of (in_set set.now) }
 {
@@ -163,6 +170,7 @@ pub fn link_members(links: &mut [u8; 252], set: &[u8])
 }
 
 // The weight of each address in its byte; the two that are none have 0.
+#[tactic(auto, unfolding(ring_links::specs::Links::tab, crate::specs::Members::weight_of))]
 fn weights() -> [u8; 128]
     ensures { result ≡ tab weight_of 128 0 }
 {
@@ -200,6 +208,7 @@ fn weigh(links: &[u8; 252]) -> [u8; 128]
 }
 
 // Eight weights of a byte added.
+#[tactic(auto, using(crate::specs::Weights::eight_fit), unfolding(crate::specs::Members::eight_added))]
 fn add_eight(weighed: &[u8; 128], a: usize) -> u8
     requires { (a ≤ 120) × ((k : ℕ) → k < 8 → get_or weighed.now (a + k) 0 ≤ 2 ^ (7 - k)) }
     ensures { result ≡ eight_added weighed.now a }

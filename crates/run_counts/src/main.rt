@@ -1,6 +1,8 @@
 // Counts at their largest (request P6): a station whose three counts start at 2 to the 32 less 2 claims the token, goes offline, meets its
 // own address twice in one poll, which leads offline too, and claims again. After each of the three its counts are printed, each as 8
 // hexadecimal digits: they stop at ffffffff, and offline keeps them. It leans on station_poll and what lies below it.
+#![tactic(auto)]
+
 use libc::STDOUT_FILENO;
 use settings::{Created, Parameters};
 use station::{Counts, Station};

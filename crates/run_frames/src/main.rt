@@ -1,5 +1,7 @@
 // Reads the frames of standard input, one after the other, and prints the last result as 16 hexadecimal digits: what reading a
 // frame costs is counted on it. The input has for each frame a byte with its length and its bytes. It leans on codec_frames.
+#![tactic(auto)]
+
 ghost use Rattle.std.specs.Prelude.{◌≤◌};
 
 use libc::{STDIN_FILENO, STDOUT_FILENO};

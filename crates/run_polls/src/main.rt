@@ -2,6 +2,8 @@
 // digits: what a poll costs is measured on it. The input has the station's address and its number of applications in a
 // byte each, and then for each poll a byte with the record's length and the record. It leans on station_poll and
 // what lies below it.
+#![tactic(auto)]
+
 ghost use Rattle.std.specs.Prelude.{◌≤◌};
 
 use libc::{STDIN_FILENO, STDOUT_FILENO};

@@ -1,5 +1,7 @@
 // The replay program of document 01: reads at most 4,096 bytes of standard input as a trace, replays it, and prints each answer
 // as 16 hexadecimal digits, then the entries answered and the ending number. It leans on run_replay_print.
+#![tactic(auto)]
+
 use libc::{STDERR_FILENO, STDIN_FILENO};
 
 fn main() {

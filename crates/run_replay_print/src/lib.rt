@@ -1,5 +1,7 @@
 // What the replay programs print of a trace: each answer as 16 hexadecimal digits, then how many entries were answered and the
 // number that the replay ended with. It leans on trace and codec_fields, and writes through io.
+#![tactic(auto)]
+
 use libc::STDOUT_FILENO;
 
 // Prints a line with an answer. Answers whether it was written.

@@ -4,6 +4,8 @@
 // them one after another on one record; last, settings finished. A line ends with the ten numbers of the settings: address, baud code, slot bits,
 // rotation bits, gap wait, highest station address, retry limit, min Tsdr and the two watchdog factors. It leans on these
 // five and on io.
+#![tactic(auto)]
+
 ghost use Rattle.std.specs.Prelude.{◌≡◌};
 ghost use Rattle.settings.specs.Settings.{slot_bits_of, hsa_of, rotation_of};
 ghost use Rattle.settings_in_place.specs.InPlace.{InPlace};
@@ -356,7 +358,7 @@ fn whole_lines(f: PlainSettings) {
 }
 
 // What a setter on the caller's record came to: its number, and the settings that it left.
-#[derive(Drop)]
+#[derive(Clone, Copy)]
 struct Left {
     number: u8,
     settings: Parameters,

@@ -1,6 +1,8 @@
 // Replays the trace files that its arguments name, one after the other: a line with the name, then what the replay program
 // prints of the file's first 4,096 bytes. Its stored output holds what the traces of the folder traces/ must give. It leans on
 // run_replay_print.
+#![tactic(auto)]
+
 use libc::STDOUT_FILENO;
 
 // Replays one file.

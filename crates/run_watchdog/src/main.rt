@@ -1,12 +1,14 @@
 // Shows how the two watchdog factors of a time come about, for each time in milliseconds that its arguments name: the units,
 // the two divisions, the factors and the time that they make; for a refused time the number and the limit. The numbers are
 // what the proved calls give. It leans on settings_watchdog for the factors and on settings for what a setting takes.
+#![tactic(auto)]
+
 use libc::STDOUT_FILENO;
 use settings::{Changed, Created, Parameters};
 use settings_watchdog::{Factored, MOST_UNITS, Timeout, WatchdogFactors};
 
 // A time that an argument names.
-#[derive(Drop)]
+#[derive(Clone, Copy)]
 enum Named {
     Time(u64),
     Nothing,

@@ -3,6 +3,8 @@
 // document 01 ("Settings", refusals 1 to 8 and 10 of a header), from profirust's parameters.rs: ParametersBuilder::build.
 // It leans on settings for the record and its rules, on settings_watchdog for the
 // factors and on bit_times for the baud code.
+#![tactic(auto)]
+
 ghost use Rattle.std.specs.Prelude.{◌≡◌};
 ghost use Rattle.settings_build.specs.Build.{early_refusal, first_refusal, pair_of, build_of, factors_pair, plain_of, finish_of};
 
@@ -16,7 +18,7 @@ use settings_watchdog::WatchdogFactors;
 
 // The nine settings as ten plain numbers, unchecked: what a trace header carries. Both factors zero says that there
 // are none.
-#[derive(Drop)]
+#[derive(Clone, Copy)]
 pub struct PlainSettings {
     pub token_rotation_bits: u32,
     pub slot_bits: u16,
@@ -31,6 +33,7 @@ pub struct PlainSettings {
 }
 
 // Two factors as a record keeps them.
+#[tactic(auto, unfolding(crate::specs::Build::pair_of))]
 fn pair(factor_1: u8, factor_2: u8) -> WatchdogFactors
     ensures { result ≡ pair_of factor_1 factor_2 }
 {
@@ -63,6 +66,7 @@ fn factor_2_of(w: WatchdogFactors) -> u8
 // The settings as plain numbers, and the check of a whole record.
 impl PlainSettings {
     // The settings as plain numbers.
+    #[tactic(auto, unfolding(crate::specs::Build::plain_of))]
     pub fn of_parameters(p: Parameters) -> PlainSettings
         ensures { result ≡ plain_of p }
     {
@@ -84,6 +88,7 @@ impl PlainSettings {
 
     // The first refusal up to min Tsdr, in document 01's header order with 25 directly after 4: 1, 10, 2, 3, 4, 25, 5, 6,
     // 7; 0 for none.
+    #[tactic(auto, unfolding(crate::specs::Build::early_refusal))]
     pub fn early_refusal(self) -> u8
         ensures { result ≡ early_refusal self }
     {
@@ -128,6 +133,7 @@ impl PlainSettings {
     }
 
     // The one check of a whole record: its first refusal in this order, then 8; 0 for none.
+    #[tactic(auto, unfolding(crate::specs::Build::first_refusal))]
     pub fn first_refusal(self) -> u8
         ensures { result ≡ first_refusal self }
     {
@@ -143,6 +149,7 @@ impl PlainSettings {
     }
 
     // ParametersBuilder::build: the settings, each field as given, or the record's first refusal.
+    #[tactic(auto, unfolding(crate::specs::Build::build_of, crate::specs::Build::built_at))]
     pub fn build(self) -> Created
         ensures { result ≡ build_of self }
     {
@@ -170,6 +177,7 @@ impl PlainSettings {
 
 // Settings are finished by the check of a whole record: the settings, or its number and the settings as they were. Settings
 // that `new` and accepted setters made are refused with 25 alone, where the rotation has no room for a gap poll.
+#[tactic(auto, unfolding(settings::specs::Settings::unless, crate::specs::Build::finish_of))]
 pub fn finish(p: Parameters) -> Changed
     ensures { result ≡ finish_of p }
 {

@@ -1,6 +1,8 @@
 // A header of edition 1 as a settings record in the caller's memory: 16 bytes that a host makes with the defaults, changes setting by
 // setting, and has checked as a whole. What is refused and what a setter sets is said by settings, settings_build and trace_headers,
 // and not again here. It leans on trace_headers to read a header and on trace_headers_written to write it.
+#![tactic(auto)]
+
 ghost use Rattle.std.specs.Prelude.{◌≡◌, length};
 ghost use Rattle.settings.specs.Settings.{changed_number, slot_bits_of, hsa_of, rotation_of, gap_wait_of, retry_of, min_tsdr_of, watchdog_of};
 ghost use Rattle.trace_headers.specs.Finished.{header_with};
@@ -23,6 +25,7 @@ fn header_with(p: Parameters, applications: u8) -> Header
 }
 
 // A header with another rotation.
+#[tactic(auto, unfolding(crate::specs::SettingsHeader::with_header_rotation))]
 fn with_header_rotation(mut header: Header, rotation: u32) -> Header
     ensures { result ≡ with_header_rotation header rotation }
 {
@@ -33,6 +36,7 @@ fn with_header_rotation(mut header: Header, rotation: u32) -> Header
 }
 
 // A header with room for a gap poll, where its rotation is one that the rotation's own rule takes.
+#[tactic(auto, unfolding(crate::specs::SettingsHeader::loosened))]
 fn loosen(header: Header) -> Header
     ensures { result ≡ loosened header }
 {
@@ -45,6 +49,7 @@ fn loosen(header: Header) -> Header
 }
 
 // Settings with another rotation, where there are settings.
+#[tactic(auto, unfolding(crate::specs::SettingsHeader::with_settings_rotation))]
 fn with_settings_rotation(created: Created, rotation: u32) -> Created
     ensures { result ≡ with_settings_rotation created rotation }
 {
@@ -59,6 +64,7 @@ fn with_settings_rotation(created: Created, rotation: u32) -> Created
 }
 
 // The settings of a header, with or without room for a gap poll, or its first refusal for another reason than 25.
+#[tactic(auto, unfolding(crate::specs::SettingsHeader::settings_in))]
 fn settings_in(header: Header) -> Created
     ensures { result ≡ settings_in header }
 {
@@ -73,6 +79,7 @@ fn settings_in(header: Header) -> Created
 }
 
 // 1 for edition 2, whose first byte is no address.
+#[tactic(auto, unfolding(crate::specs::SettingsHeader::edition_refusal))]
 fn edition_refusal(edition: Edition) -> u8
     ensures { result ≡ edition_refusal edition }
 {
@@ -83,6 +90,7 @@ fn edition_refusal(edition: Edition) -> u8
 }
 
 // Why bytes are no settings record: 17 where they are too few, then 1 for edition 2; else 0.
+#[tactic(auto, unfolding(trace_headers::specs::Headers::length_of, crate::specs::SettingsHeader::lent_refusal))]
 fn lent_refusal(header: &[u8]) -> u8
     ensures { result ≡ lent_refusal header.now }
 {
@@ -93,6 +101,7 @@ fn lent_refusal(header: &[u8]) -> u8
 }
 
 // The settings that a setter finds in the record, or the number that it is refused with.
+#[tactic(auto, unfolding(crate::specs::SettingsHeader::settings_at))]
 fn settings_at(header: &[u8]) -> Created
     ensures { result ≡ settings_at header.now }
 {
@@ -105,6 +114,7 @@ fn settings_at(header: &[u8]) -> Created
 
 // Writes what a setter accepted over the record, whose applications stay, and returns the setter's number. What it refused writes
 // nothing.
+#[tactic(auto, using(crate::specs::Calls::stored_accepted, crate::specs::Calls::stored_refused))]
 fn store_changed(header: &mut [u8], changed: Changed) -> u64
     ensures value { result ≡ changed_number changed }
     ensures header_after { header.new ≡ stored_after header.old changed }
@@ -123,6 +133,7 @@ fn store_changed(header: &mut [u8], changed: Changed) -> u64
 // The setters: each is the setter of `settings` on the settings that the record holds. A refused call leaves the bytes as they were.
 
 // The slot time in bits.
+#[tactic(auto, using(crate::specs::Calls::set_accepted, crate::specs::Calls::set_refused))]
 pub fn set_slot_bits(header: &mut [u8], slot_bits: u16) -> u64
     ensures value { result ≡ set_number (λ p. slot_bits_of p slot_bits) header.old }
     ensures header_after { header.new ≡ set_into (λ p. slot_bits_of p slot_bits) header.old }
@@ -138,6 +149,7 @@ pub fn set_slot_bits(header: &mut [u8], slot_bits: u16) -> u64
 }
 
 // The highest station address; it also sets the rotation.
+#[tactic(auto, using(crate::specs::Calls::set_accepted, crate::specs::Calls::set_refused))]
 pub fn set_highest_station_address(header: &mut [u8], hsa: u8) -> u64
     ensures value { result ≡ set_number (λ p. hsa_of p hsa) header.old }
     ensures header_after { header.new ≡ set_into (λ p. hsa_of p hsa) header.old }
@@ -153,6 +165,7 @@ pub fn set_highest_station_address(header: &mut [u8], hsa: u8) -> u64
 }
 
 // The target token rotation time in bits.
+#[tactic(auto, using(crate::specs::Calls::set_accepted, crate::specs::Calls::set_refused))]
 pub fn set_token_rotation_bits(header: &mut [u8], ttr: u32) -> u64
     ensures value { result ≡ set_number (λ p. rotation_of p ttr) header.old }
     ensures header_after { header.new ≡ set_into (λ p. rotation_of p ttr) header.old }
@@ -168,6 +181,7 @@ pub fn set_token_rotation_bits(header: &mut [u8], ttr: u32) -> u64
 }
 
 // How many token rotations to wait before the gap is polled again.
+#[tactic(auto, using(crate::specs::Calls::set_accepted, crate::specs::Calls::set_refused))]
 pub fn set_gap_wait_rotations(header: &mut [u8], gap_wait: u8) -> u64
     ensures value { result ≡ set_number (λ p. gap_wait_of p gap_wait) header.old }
     ensures header_after { header.new ≡ set_into (λ p. gap_wait_of p gap_wait) header.old }
@@ -183,6 +197,7 @@ pub fn set_gap_wait_rotations(header: &mut [u8], gap_wait: u8) -> u64
 }
 
 // How often a telegram is retried.
+#[tactic(auto, using(crate::specs::Calls::set_accepted, crate::specs::Calls::set_refused))]
 pub fn set_max_retry_limit(header: &mut [u8], max_retry_limit: u8) -> u64
     ensures value { result ≡ set_number (λ p. retry_of p max_retry_limit) header.old }
     ensures header_after { header.new ≡ set_into (λ p. retry_of p max_retry_limit) header.old }
@@ -198,6 +213,7 @@ pub fn set_max_retry_limit(header: &mut [u8], max_retry_limit: u8) -> u64
 }
 
 // The least time in bits before anyone responds.
+#[tactic(auto, using(crate::specs::Calls::set_accepted, crate::specs::Calls::set_refused))]
 pub fn set_min_tsdr_bits(header: &mut [u8], min_tsdr_bits: u8) -> u64
     ensures value { result ≡ set_number (λ p. min_tsdr_of p min_tsdr_bits) header.old }
     ensures header_after { header.new ≡ set_into (λ p. min_tsdr_of p min_tsdr_bits) header.old }
@@ -213,6 +229,7 @@ pub fn set_min_tsdr_bits(header: &mut [u8], min_tsdr_bits: u8) -> u64
 }
 
 // The watchdog timeout in milliseconds.
+#[tactic(auto, using(crate::specs::Calls::set_accepted, crate::specs::Calls::set_refused))]
 pub fn set_watchdog_timeout(header: &mut [u8], ms: u32) -> u64
     ensures value { result ≡ set_number (λ p. watchdog_of p ms) header.old }
     ensures header_after { header.new ≡ set_into (λ p. watchdog_of p ms) header.old }
@@ -229,6 +246,7 @@ pub fn set_watchdog_timeout(header: &mut [u8], ms: u32) -> u64
 
 // New settings in the first 16 bytes: an address, a baud code, the source's defaults, and so many applications. Refused with 1, 10, 11,
 // or 18 where the bytes are too few: then nothing is written.
+#[tactic(auto, using(crate::specs::Calls::new_no_applications, crate::specs::Calls::new_no_room, crate::specs::Calls::new_done, crate::specs::Calls::new_refused), unfolding(trace_headers::specs::Headers::length_of))]
 pub fn new_settings(address: u8, baud: u8, applications: u8, header: &mut [u8]) -> u64
     ensures value { result ≡ new_number address baud applications (length header.old) }
     ensures header_after { header.new ≡ new_into address baud applications header.old }
@@ -252,6 +270,7 @@ pub fn new_settings(address: u8, baud: u8, applications: u8, header: &mut [u8]) 
 }
 
 // Settings are finished by the check of the whole header: its number, 25 among them, or 0.
+#[tactic(auto, unfolding(crate::specs::SettingsHeader::finish_number))]
 pub fn finish_settings(header: &[u8]) -> u64
     ensures { result ≡ finish_number header.now }
 {

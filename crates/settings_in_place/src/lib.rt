@@ -1,6 +1,8 @@
 // The slot, HSA and rotation setters on the caller's own settings record.
 // Request P14 of document 02. Each is thin over the setter of `settings` that takes and gives the record by value: what is
 // refused, with which number, and what an accepted call sets, is said there and not again here.
+#![tactic(auto)]
+
 ghost use Rattle.std.specs.Prelude.{◌≡◌};
 ghost use Rattle.settings.specs.Settings.{slot_bits_of, hsa_of, rotation_of};
 ghost use Rattle.settings_in_place.specs.InPlace.{InPlace};

@@ -1,6 +1,8 @@
 // The rules of settings: for each limit a function that gives a refusal's number, or 0 where the value is taken. Part of layer 2
 // of document 01 ("Settings", refusals 1 to 8, 10 and 11) with document 02's 25, from the asserts of profirust's
 // ParametersBuilder. It leans on bit_times.
+#![tactic(auto)]
+
 ghost use Rattle.std.specs.Prelude.{◌≡◌};
 ghost use Rattle.settings_rules.specs.Rules.{refuse_below, refuse_outside, address_refusal, baud_refusal, least_of, slot_bits_refusal, hsa_refusal, rotation_refusal, room_refusal, gap_wait_refusal, retry_refusal, min_tsdr_refusal, watchdog_refusal, factors_refusal, applications_refusal};
 
@@ -10,6 +12,7 @@ use bit_times::Coded;
 pub const GAP_ALLOWANCE: u32 = 100;
 
 // The refusal `number` where a value lies below low, else 0.
+#[tactic(auto, unfolding(crate::specs::Rules::refuse_below))]
 fn refuse_below(low: u64, value: u64, number: u8) -> u8
     ensures { result ≡ refuse_below low value number }
 {
@@ -20,6 +23,7 @@ fn refuse_below(low: u64, value: u64, number: u8) -> u8
 }
 
 // The refusal `number` where a value lies outside low..high, else 0.
+#[tactic(auto, unfolding(crate::specs::Rules::refuse_outside))]
 fn refuse_outside(low: u64, value: u64, high: u64, number: u8) -> u8
     ensures { result ≡ refuse_outside low value high number }
 {
@@ -35,6 +39,7 @@ fn refuse_outside(low: u64, value: u64, high: u64, number: u8) -> u8
 // The rules: a refusal's number, or 0 where the value is taken.
 
 // 1: an address above 125.
+#[tactic(auto, unfolding(crate::specs::Rules::address_refusal))]
 pub fn address_refusal(address: u8) -> u8
     ensures { result ≡ address_refusal address }
 {
@@ -42,6 +47,7 @@ pub fn address_refusal(address: u8) -> u8
 }
 
 // 10: a baud code that has no rate.
+#[tactic(auto, unfolding(crate::specs::Rules::baud_refusal))]
 pub fn baud_refusal(coded: Coded) -> u8
     ensures { result ≡ baud_refusal coded }
 {
@@ -62,6 +68,7 @@ pub fn least_of(coded: Coded) -> u16
 }
 
 // 2: slot bits below the least.
+#[tactic(auto, unfolding(crate::specs::Rules::slot_bits_refusal))]
 pub fn slot_bits_refusal(least: u16, slot_bits: u16) -> u8
     ensures { result ≡ slot_bits_refusal least slot_bits }
 {
@@ -69,6 +76,7 @@ pub fn slot_bits_refusal(least: u16, slot_bits: u16) -> u8
 }
 
 // 3: a highest station address that is not above the address, or above 126.
+#[tactic(auto, unfolding(crate::specs::Rules::hsa_refusal))]
 pub fn hsa_refusal(address: u8, hsa: u8) -> u8
     ensures { result ≡ hsa_refusal address hsa }
 {
@@ -76,6 +84,7 @@ pub fn hsa_refusal(address: u8, hsa: u8) -> u8
 }
 
 // 4: a rotation outside 256..16,777,960 bits.
+#[tactic(auto, unfolding(crate::specs::Rules::rotation_refusal))]
 pub fn rotation_refusal(ttr: u32) -> u8
     ensures { result ≡ rotation_refusal ttr }
 {
@@ -83,6 +92,7 @@ pub fn rotation_refusal(ttr: u32) -> u8
 }
 
 // 25, in a whole record: a rotation below the slot bits + 100, which has no room for a gap poll.
+#[tactic(auto, unfolding(crate::specs::Rules::room_refusal))]
 pub fn room_refusal(slot_bits: u16, ttr: u32) -> u8
     ensures { result ≡ room_refusal slot_bits ttr }
 {
@@ -90,6 +100,7 @@ pub fn room_refusal(slot_bits: u16, ttr: u32) -> u8
 }
 
 // 5: a gap wait outside 1..100.
+#[tactic(auto, unfolding(crate::specs::Rules::gap_wait_refusal))]
 pub fn gap_wait_refusal(gap_wait: u8) -> u8
     ensures { result ≡ gap_wait_refusal gap_wait }
 {
@@ -97,6 +108,7 @@ pub fn gap_wait_refusal(gap_wait: u8) -> u8
 }
 
 // 6: a retry limit outside 1..15.
+#[tactic(auto, unfolding(crate::specs::Rules::retry_refusal))]
 pub fn retry_refusal(max_retry_limit: u8) -> u8
     ensures { result ≡ retry_refusal max_retry_limit }
 {
@@ -104,6 +116,7 @@ pub fn retry_refusal(max_retry_limit: u8) -> u8
 }
 
 // 7: a min Tsdr below 11 bits.
+#[tactic(auto, unfolding(crate::specs::Rules::min_tsdr_refusal))]
 pub fn min_tsdr_refusal(min_tsdr_bits: u8) -> u8
     ensures { result ≡ min_tsdr_refusal min_tsdr_bits }
 {
@@ -111,6 +124,7 @@ pub fn min_tsdr_refusal(min_tsdr_bits: u8) -> u8
 }
 
 // 8: a watchdog time outside 10..650,000 ms.
+#[tactic(auto, unfolding(crate::specs::Rules::watchdog_refusal))]
 pub fn watchdog_refusal(ms: u64) -> u8
     ensures { result ≡ watchdog_refusal ms }
 {
@@ -118,6 +132,7 @@ pub fn watchdog_refusal(ms: u64) -> u8
 }
 
 // 8, in a whole record: one factor is zero and the other is not.
+#[tactic(auto, unfolding(crate::specs::Rules::factors_refusal))]
 pub fn factors_refusal(factor_1: u8, factor_2: u8) -> u8
     ensures { result ≡ factors_refusal factor_1 factor_2 }
 {
@@ -134,6 +149,7 @@ pub fn factors_refusal(factor_1: u8, factor_2: u8) -> u8
 }
 
 // 11: applications outside 1..8.
+#[tactic(auto, unfolding(crate::specs::Rules::applications_refusal))]
 pub fn applications_refusal(applications: u8) -> u8
     ensures { result ≡ applications_refusal applications }
 {

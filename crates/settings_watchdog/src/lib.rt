@@ -2,20 +2,22 @@
 // ("Settings", refusal 9), from profirust's parameters.rs: watchdog_factors, and the product that
 // Parameters::watchdog_timeout gives. The factors are worked out by the rule of document 02, P2, in place of the Rust's
 // trial. It leans on bit_times.
+#![tactic(auto)]
+
 ghost use Rattle.std.specs.Prelude.{◌≡◌, ◌≤◌, ◌<◌, ◌^◌};
 ghost use Rattle.settings_watchdog.specs.Watchdog.{ceil_of, units_of, most_units, first_factor, factors_of, watchdog_time_of};
 
 use bit_times::Micros;
 
 // Option<(u8, u8)> of the watchdog factors.
-#[derive(Drop)]
+#[derive(Clone, Copy)]
 pub enum WatchdogFactors {
     None,
     Some(u8, u8),
 }
 
 // The watchdog factors of a time: none of no time, two factors, or a refusal's number and no factors.
-#[derive(Drop)]
+#[derive(Clone, Copy)]
 pub enum Factored {
     None,
     Factors(u8, u8),
@@ -23,7 +25,7 @@ pub enum Factored {
 }
 
 // A watchdog timeout, or that there is none.
-#[derive(Drop)]
+#[derive(Clone, Copy)]
 pub enum Timeout {
     None,
     After(Micros),
@@ -61,6 +63,7 @@ fn first_factor(units: u64) -> u64
 
 // watchdog_factors: the two factors of a time in milliseconds, by the rule of document 02, P2. Each answer is that of
 // document 01's trial, refusals included.
+#[tactic(auto, using(crate::specs::Watchdog::ceil_of, crate::specs::Laws::ceil_low, crate::specs::Laws::factors_refused, crate::specs::Laws::factors_ruled), unfolding(crate::specs::Watchdog::factors_of))]
 pub fn watchdog_factors(ms: u64) -> Factored
     ensures { result ≡ factors_of ms }
 {
@@ -77,6 +80,7 @@ pub fn watchdog_factors(ms: u64) -> Factored
 }
 
 // The time that the factors make, f1 × f2 × 10 ms; none where there are no factors.
+#[tactic(auto, unfolding(crate::specs::Watchdog::watchdog_time_of))]
 pub fn watchdog_time(w: WatchdogFactors) -> Timeout
     ensures { result ≡ watchdog_time_of w }
 {

@@ -8,6 +8,8 @@
 //
 // Of the ring only its head travels so; its tables, `links`, are lent beside it. A contract joins the two again: `ring_of ring
 // links`, and `ring_step_at`, `heard_at`, `station_at` of what holds a ring. A function that touches no table promises for all tables.
+#![tactic(auto)]
+
 ghost use Rattle.std.specs.Prelude.{◌≡◌, ℕ, ◌<◌, ◌^◌, List};
 ghost use Rattle.ring.specs.Ring.{ring_of};
 ghost use Rattle.station.specs.Whole.{started_at, ring_step_at, heard_at};
@@ -20,28 +22,28 @@ use ring::{GapState, Head};
 use settings::Parameters;
 
 // Option<Address>: a station that asked for our status, or one whose token was seen once.
-#[derive(Drop)]
+#[derive(Clone, Copy)]
 pub enum OptionAddress {
     None,
     Some(u8),
 }
 
 // Option<usize>: the first application that declined since the token came, which is the one asked first; none before.
-#[derive(Drop)]
+#[derive(Clone, Copy)]
 pub enum OptionApplication {
     None,
     Some(u8),
 }
 
 // Option<Instant>: the last time the bus was found active, or until when we know it to be.
-#[derive(Drop)]
+#[derive(Clone, Copy)]
 pub enum Activity {
     Unknown,
     At(Micros),
 }
 
 // PassTokenAttempt.
-#[derive(Drop)]
+#[derive(Clone, Copy)]
 pub enum PassTokenAttempt {
     First,
     Second,
@@ -49,14 +51,14 @@ pub enum PassTokenAttempt {
 }
 
 // UseTokenData.
-#[derive(Drop)]
+#[derive(Clone, Copy)]
 pub struct UseTokenData {
     pub token_time: Micros,
     pub first_app: OptionApplication,
 }
 
 // ConnectivityState.
-#[derive(Drop)]
+#[derive(Clone, Copy)]
 pub enum ConnectivityState {
     Offline,
     Passive,
@@ -64,7 +66,7 @@ pub enum ConnectivityState {
 }
 
 // State. PassiveIdle, which the Rust has without a request, is document 02's; it comes last, as its number does.
-#[derive(Drop)]
+#[derive(Clone, Copy)]
 pub enum State {
     Offline,
     ListenToken {
@@ -104,7 +106,7 @@ pub enum State {
 }
 
 // What a poll may change besides the state and the ring, with FdlActiveStation's names.
-#[derive(Drop)]
+#[derive(Clone, Copy)]
 pub struct Core {
     pub last_token_time: Micros,
     pub end_token_hold_time: Micros,
@@ -117,7 +119,7 @@ pub struct Core {
 
 // How often, since the station was made, it claimed the token, removed a neighbour after a third attempt, and met its own address on
 // the bus (document 02). Each stops at its largest value. They stand beside the core: no step takes or makes them.
-#[derive(Drop)]
+#[derive(Clone, Copy)]
 pub struct Counts {
     pub claims: u32,
     pub removals: u32,
@@ -126,7 +128,7 @@ pub struct Counts {
 
 // What happened in a step that is counted, of which a poll has one kind at most: the entry to ClaimToken, the removal after a third
 // attempt, or so many collisions among the poll's telegrams.
-#[derive(Drop)]
+#[derive(Clone, Copy)]
 pub enum Event {
     Nothing,
     Claim,
@@ -135,7 +137,7 @@ pub enum Event {
 }
 
 // FdlActiveStation but for the ring's tables, and the number of applications, which is fixed for life.
-#[derive(Drop)]
+#[derive(Clone, Copy)]
 pub struct Station {
     pub state: State,
     pub core: Core,
@@ -146,7 +148,7 @@ pub struct Station {
 }
 
 // A new station, or the refusal's number: 0 where there is none. Of a refused one the station is not to be used.
-#[derive(Drop)]
+#[derive(Clone, Copy)]
 pub struct Started {
     pub station: Station,
     pub refusal: u8,
@@ -154,14 +156,14 @@ pub struct Started {
 
 // What asking for a time of quiet came to: the core, whose last activity is now where none was known, and whether the time
 // has passed since the last activity.
-#[derive(Drop)]
+#[derive(Clone, Copy)]
 pub struct Waited {
     pub core: Core,
     pub over: bool,
 }
 
 // What a step came to: the new state, the part that it changed, what it sent and told, how the poll ended, and what is counted of it.
-#[derive(Drop)]
+#[derive(Clone, Copy)]
 pub struct Step {
     pub state: State,
     pub core: Core,
@@ -173,7 +175,7 @@ pub struct Step {
 }
 
 // A step that may change the ring too, but for the ring's tables.
-#[derive(Drop)]
+#[derive(Clone, Copy)]
 pub struct RingStep {
     pub step: Step,
     pub ring: Head,
@@ -181,7 +183,7 @@ pub struct RingStep {
 
 // What one telegram of a poll has led to, or all of them, but for the ring's tables; `met` counts the collisions: of one telegram
 // there is one or none.
-#[derive(Drop)]
+#[derive(Clone, Copy)]
 pub struct Heard {
     pub state: State,
     pub core: Core,
@@ -193,6 +195,7 @@ pub struct Heard {
 // One part changed.
 
 // The same but for the last bus activity.
+#[tactic(auto, unfolding(crate::specs::Parts::with_activity))]
 pub fn with_activity(core: Core, activity: Activity) -> Core
     ensures { result ≡ with_activity core activity }
 {
@@ -212,6 +215,7 @@ pub fn with_activity(core: Core, activity: Activity) -> Core
 }
 
 // The same but for the gap state.
+#[tactic(auto, unfolding(crate::specs::Parts::with_gap))]
 pub fn with_gap(core: Core, gap: GapState) -> Core
     ensures { result ≡ with_gap core gap }
 {
@@ -231,6 +235,7 @@ pub fn with_gap(core: Core, gap: GapState) -> Core
 }
 
 // The same but for the pending bytes.
+#[tactic(auto, unfolding(crate::specs::Parts::with_pending))]
 fn with_pending(mut core: Core, pending: u16) -> Core
     ensures { result ≡ with_pending core pending }
 {
@@ -239,6 +244,7 @@ fn with_pending(mut core: Core, pending: u16) -> Core
 }
 
 // The same but for the last token time and the end of the hold time.
+#[tactic(auto, unfolding(crate::specs::Parts::with_token_times))]
 pub fn with_token_times(mut core: Core, token: Micros, hold: Micros) -> Core
     ensures { result ≡ with_token_times core token hold }
 {
@@ -248,6 +254,7 @@ pub fn with_token_times(mut core: Core, token: Micros, hold: Micros) -> Core
 }
 
 // The same but for the application that is asked next.
+#[tactic(auto, unfolding(crate::specs::Parts::with_next_application))]
 pub fn with_next_application(mut core: Core, application: u8) -> Core
     ensures { result ≡ with_next_application core application }
 {
@@ -256,6 +263,7 @@ pub fn with_next_application(mut core: Core, application: u8) -> Core
 }
 
 // The same but for the connectivity state.
+#[tactic(auto, unfolding(crate::specs::Parts::with_connectivity))]
 pub fn with_connectivity(core: Core, connectivity: ConnectivityState) -> Core
     ensures { result ≡ with_connectivity core connectivity }
 {
@@ -275,6 +283,7 @@ pub fn with_connectivity(core: Core, connectivity: ConnectivityState) -> Core
 }
 
 // ConnectivityState::is_offline.
+#[tactic(auto, unfolding(crate::specs::Parts::is_offline))]
 pub fn is_offline(connectivity: ConnectivityState) -> bool
     ensures { result ≡ is_offline connectivity }
 {
@@ -308,6 +317,7 @@ pub fn state_number(state: State) -> u8
 // transition_await_status_response) is the state itself, written where it is entered.
 
 // UseTokenData::with_token_time.
+#[tactic(auto, unfolding(crate::specs::Steps::with_token_time))]
 fn with_token_time(now: Micros) -> UseTokenData
     ensures { result ≡ with_token_time now }
 {
@@ -360,6 +370,7 @@ pub fn transition_use_token(now: Micros) -> State
 // The station.
 
 // FdlActiveStation::new but for the state, the settings and the ring, as document 01 has it: nothing known, the gap waiting.
+#[tactic(auto, unfolding(crate::specs::Parts::fresh_core))]
 pub fn fresh_core() -> Core
     ensures { result ≡ fresh_core }
 {
@@ -376,6 +387,7 @@ pub fn fresh_core() -> Core
 
 impl Station {
     // FdlActiveStation::new, for 1 to 8 applications: offline, its ring's tables in what is lent. Refusal 11.
+    #[tactic(auto, unfolding(crate::specs::Parts::new_station, crate::specs::Parts::fresh_station))]
     pub fn new(p: Parameters, applications: u8, links: &mut [u8; 252]) -> Started
         ensures { started_at result links.new ≡ new_station p applications }
     {
@@ -400,6 +412,7 @@ impl Station {
 // Times and bus activity.
 
 // last_bus_activity.get_or_insert(now).
+#[tactic(auto, unfolding(crate::specs::Steps::known_at))]
 fn known(activity: Activity, now: Micros) -> Micros
     ensures { result ≡ known_at activity now }
 {
@@ -410,6 +423,7 @@ fn known(activity: Activity, now: Micros) -> Micros
 }
 
 // Has this time passed since the last activity? The clock may have gone back.
+#[tactic(auto, using(crate::specs::Laws::leb_minus, crate::specs::Laws::leb_before), unfolding(crate::specs::Steps::elapsed_of))]
 fn elapsed(now: Micros, last: Micros, time: Micros) -> bool
     ensures { result ≡ elapsed_of now last time }
 {
@@ -420,6 +434,7 @@ fn elapsed(now: Micros, last: Micros, time: Micros) -> bool
 }
 
 // mark_bus_activity.
+#[tactic(auto, unfolding(crate::specs::Steps::marked_at))]
 pub fn mark_bus_activity(activity: Activity, now: Micros) -> Activity
     ensures { result ≡ marked_at activity now }
 {
@@ -431,6 +446,7 @@ pub fn mark_bus_activity(activity: Activity, now: Micros) -> Activity
 }
 
 // check_for_ongoing_transmision: is a transmission going on, by the port or by what we know?
+#[tactic(auto, unfolding(crate::specs::Steps::ongoing_of, crate::specs::Steps::busy_of))]
 pub fn check_for_ongoing_transmission(activity: Activity, now: Micros, transmitting: bool) -> bool
     ensures { result ≡ ongoing_of activity now transmitting }
 {
@@ -444,6 +460,7 @@ pub fn check_for_ongoing_transmission(activity: Activity, now: Micros, transmitt
 }
 
 // The last activity, known from now on, and whether this time has passed since.
+#[tactic(auto, unfolding(crate::specs::Steps::waited_of))]
 fn wait_for(core: Core, now: Micros, time: Micros) -> Waited
     ensures { result ≡ waited_of core now time }
 {
@@ -456,6 +473,7 @@ fn wait_for(core: Core, now: Micros, time: Micros) -> Waited
 }
 
 // wait_synchronization_pause: 33 bits since the last activity.
+#[tactic(auto, unfolding(crate::specs::Steps::pause_of))]
 pub fn wait_synchronization_pause(p: Parameters, core: Core, now: Micros) -> Waited
     ensures { result ≡ pause_of p core now }
 {
@@ -464,6 +482,7 @@ pub fn wait_synchronization_pause(p: Parameters, core: Core, now: Micros) -> Wai
 }
 
 // mark_tx: the bus is busy until the bytes are sent.
+#[tactic(auto, using(bit_times::specs::Times::time_of, bit_times::specs::Laws::time_bound), unfolding(crate::specs::Steps::sent_at))]
 fn mark_tx(p: Parameters, now: Micros, bytes: u8) -> Activity
     requires { now.0 < 2 ^ 48 }
     ensures { result ≡ sent_at p now bytes }
@@ -474,6 +493,7 @@ fn mark_tx(p: Parameters, now: Micros, bytes: u8) -> Activity
 }
 
 // check_for_bus_activity: more pending bytes than were known.
+#[tactic(auto, unfolding(crate::specs::Steps::bus_activity_of))]
 pub fn check_for_bus_activity(core: Core, now: Micros, pending: u16) -> Core
     ensures { result ≡ bus_activity_of core now pending }
 {
@@ -488,6 +508,7 @@ pub fn check_for_bus_activity(core: Core, now: Micros, pending: u16) -> Core
 }
 
 // mark_rx: a telegram was received.
+#[tactic(auto, unfolding(crate::specs::Steps::rx_of))]
 pub fn mark_rx(core: Core, now: Micros) -> Core
     ensures { result ≡ rx_of core now }
 {
@@ -496,6 +517,7 @@ pub fn mark_rx(core: Core, now: Micros) -> Core
 }
 
 // check_slot_expired: the slot time since the last activity.
+#[tactic(auto, unfolding(crate::specs::Steps::slot_expired_of))]
 pub fn check_slot_expired(p: Parameters, core: Core, now: Micros) -> Waited
     ensures { result ≡ slot_expired_of p core now }
 {
@@ -503,6 +525,7 @@ pub fn check_slot_expired(p: Parameters, core: Core, now: Micros) -> Waited
 }
 
 // The test of handle_lost_token: the lost-token timeout since the last activity.
+#[tactic(auto, unfolding(crate::specs::Steps::token_lost_wait_of))]
 pub fn token_lost(p: Parameters, core: Core, now: Micros) -> Waited
     ensures { result ≡ token_lost_wait_of p core now }
 {
@@ -512,6 +535,7 @@ pub fn token_lost(p: Parameters, core: Core, now: Micros) -> Waited
 // How a poll ends.
 
 // PollDone: nothing was sent, told or consumed.
+#[tactic(auto, unfolding(crate::specs::Steps::done_of))]
 pub fn done(state: State, core: Core, outcome: Outcome) -> Step
     ensures { result ≡ done_of state core outcome }
 {
@@ -527,6 +551,7 @@ pub fn done(state: State, core: Core, outcome: Outcome) -> Step
 }
 
 // mark_tx after a send: the bus is busy until its bytes are out.
+#[tactic(auto, unfolding(crate::specs::Steps::transmit_of))]
 pub fn transmit(p: Parameters, state: State, core: Core, now: Micros, sent: Sent) -> Step
     requires { now.0 < 2 ^ 48 }
     ensures { result ≡ transmit_of p state core now sent }
@@ -544,6 +569,7 @@ pub fn transmit(p: Parameters, state: State, core: Core, now: Micros, sent: Sent
 }
 
 // A step in which this happened: all else of it stays.
+#[tactic(auto, unfolding(crate::specs::Steps::with_event))]
 pub fn with_event(stepped: RingStep, event: Event) -> RingStep
     ensures { (l : List ℕ) → ring_step_at result l ≡ with_event (ring_step_at stepped l) event }
 {
@@ -569,6 +595,7 @@ pub fn with_event(stepped: RingStep, event: Event) -> RingStep
 }
 
 // What one telegram leads to that is no collision, made of its parts; and what a poll begins with before its telegrams.
+#[tactic(auto, unfolding(crate::specs::Steps::heard_of))]
 pub fn hearing(state: State, core: Core, ring: Head, outcome: Outcome) -> Heard
     ensures { (l : List ℕ) → heard_at result l ≡ heard_of state core (ring_of ring l) outcome }
 {
@@ -582,6 +609,7 @@ pub fn hearing(state: State, core: Core, ring: Head, outcome: Outcome) -> Heard
 }
 
 // What one telegram leads to that is counted as a collision: the poll waits for the bus.
+#[tactic(auto, unfolding(crate::specs::Steps::collision_of))]
 pub fn colliding(state: State, core: Core, ring: Head) -> Heard
     ensures { (l : List ℕ) → heard_at result l ≡ collision_of state core (ring_of ring l) }
 {
@@ -595,6 +623,7 @@ pub fn colliding(state: State, core: Core, ring: Head) -> Heard
 }
 
 // Is this a status request to us, and the last telegram of its poll?
+#[tactic(auto, unfolding(crate::specs::Steps::last_request_to_us))]
 pub fn is_last_request_to_us(destination: u8, own: u8, status_request: bool, last: bool) -> bool
     ensures { result ≡ last_request_to_us destination own status_request last }
 {

@@ -1,5 +1,7 @@
 // What any call on the station hands back: the station after it and its answer. The answer is document 01's; profirust's
 // PollDone is its outcome. It leans on station, codec_answers and ring.
+#![tactic(auto)]
+
 ghost use Rattle.std.specs.Prelude.{◌≡◌};
 ghost use Rattle.station.specs.Whole.{ring_step_at, station_at};
 ghost use Rattle.station_answer.specs.Counted.{raised_by, counted_of};
@@ -10,13 +12,14 @@ use settings::Parameters;
 use station::{Counts, Event, RingStep, Station};
 
 // What a call hands back: the station after it, but for its ring's tables, and the answer.
-#[derive(Drop)]
+#[derive(Clone, Copy)]
 pub struct Polled {
     pub station: Station,
     pub answer: Answer,
 }
 
 // The answer of an entry that is not refused.
+#[tactic(auto, unfolding(crate::specs::Answer::step_answer))]
 fn answer_of(stepped: RingStep, links: &[u8; 252]) -> Answer
     ensures { result ≡ step_answer (ring_step_at stepped links.now) }
 {
@@ -40,6 +43,7 @@ fn answer_of(stepped: RingStep, links: &[u8; 252]) -> Answer
 }
 
 // A count, so many higher. It stops at its largest value.
+#[tactic(auto, unfolding(crate::specs::Counted::raised_by))]
 fn raised(count: u32, more: u8) -> u32
     ensures { result ≡ raised_by count more }
 {
@@ -51,6 +55,7 @@ fn raised(count: u32, more: u8) -> u32
 }
 
 // The counts after a step: what happened in it is counted.
+#[tactic(auto, unfolding(crate::specs::Counted::counted_of))]
 fn counted(counts: Counts, event: Event) -> Counts
     ensures { result ≡ counted_of counts event }
 {
@@ -75,6 +80,7 @@ fn counted(counts: Counts, event: Event) -> Counts
 }
 
 // The station after a step, with the step's answer. What happened in the step is counted here and nowhere else.
+#[tactic(auto, unfolding(crate::specs::Answer::polled_of))]
 pub fn poll_done(
     p: Parameters,
     applications: u8,
@@ -103,6 +109,7 @@ pub fn poll_done(
 }
 
 // A refused entry leaves the station as it was.
+#[tactic(auto, unfolding(crate::specs::Answer::refused_poll))]
 pub fn refused(station: Station, links: &[u8; 252], refusal: u8) -> Polled
     ensures { polled_at result links.now ≡ refused_poll (station_at station links.now) refusal }
 {

@@ -1,6 +1,8 @@
 // AwaitStatusResponse: a gap question is answered, or its slot passes. From profirust's active.rs: do_await_status_response. It
 // leans on station_pass, since the token is passed on where nobody answers, on station and ring, and on codec_records for
 // what was received.
+#![tactic(auto)]
+
 ghost use Rattle.std.specs.Prelude.{◌≡◌, ℕ, ◌<◌, ◌^◌, List};
 ghost use Rattle.ring.specs.Ring.{ring_of};
 ghost use Rattle.station.specs.Whole.{ring_step_at};
@@ -14,6 +16,7 @@ use settings::Parameters;
 use station::{Core, Event, PassTokenAttempt, RingStep, State, Step};
 
 // do_await_status_response: a master that is ready for the token, or has it at times, is the next station from now on.
+#[tactic(auto, unfolding(crate::specs::AwaitStatus::status_ring, crate::specs::AwaitStatus::status_ring_on))]
 fn do_await_status_response_ring(
     ring: Head,
     links: &mut [u8; 252],
@@ -35,6 +38,7 @@ fn do_await_status_response_ring(
 }
 
 // do_await_status_response: the station that was asked has answered: to PassToken, and the pass is the next poll's.
+#[tactic(auto, unfolding(crate::specs::AwaitStatus::status_answered))]
 fn do_await_status_response_answered(core: Core, ring: Head) -> RingStep
     ensures { (l : List ℕ) → ring_step_at result l ≡ status_answered core (ring_of ring l) }
 {
@@ -56,6 +60,7 @@ fn do_await_status_response_answered(core: Core, ring: Head) -> RingStep
 }
 
 // do_await_status_response: anything else is unexpected.
+#[tactic(auto, unfolding(crate::specs::AwaitStatus::status_unexpected))]
 fn do_await_status_response_unexpected(core: Core, ring: Head) -> RingStep
     ensures { (l : List ℕ) → ring_step_at result l ≡ status_unexpected core (ring_of ring l) }
 {
@@ -74,6 +79,7 @@ fn do_await_status_response_unexpected(core: Core, ring: Head) -> RingStep
 }
 
 // do_await_status_response: a telegram came.
+#[tactic(auto, unfolding(crate::specs::AwaitStatus::status_received))]
 fn do_await_status_response_received(
     p: Parameters,
     core: Core,
@@ -111,6 +117,7 @@ fn do_await_status_response_received(
 
 // do_await_status_response: only the first telegram is looked at. With no answer in time the bus is free, and the token is passed on
 // at once.
+#[tactic(auto, unfolding(crate::specs::AwaitStatus::await_status_of))]
 pub fn do_await_status_response(
     p: Parameters,
     core: Core,

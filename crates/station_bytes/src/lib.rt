@@ -1,6 +1,8 @@
 // A station as 96 bytes in the caller's memory: ten words, and the set of its ring's members. Written, and read again where a station
 // wrote them. It leans on station_words and ring_members for what the bytes hold, on station_lines for what no station has, on trace for
 // the settings.
+#![tactic(auto)]
+
 ghost use Rattle.std.specs.Prelude.{◌≡◌, false, cond, [], ◌∷◌, ◌+◌, ◌<◌, ◌≤◌, length, take, drop, ltb};
 ghost use Rattle.codec_fields.specs.Fields.{be, load_of};
 ghost use Rattle.station.specs.Whole.{station_at};
@@ -16,7 +18,7 @@ use station::Station;
 use station_words::Words;
 
 // What bytes are: a station, but for its ring's tables, or none.
-#[derive(Drop)]
+#[derive(Clone, Copy)]
 pub enum Reading {
     Is(Station),
     Nothing,
@@ -30,6 +32,7 @@ fn wide(b: u8) -> u64
 }
 
 // The number that four bytes from `at` on are, the first the highest.
+#[tactic(auto, using(crate::specs::Laws::four_is))]
 fn four(bytes: &[u8], at: usize) -> u64
     requires { at + 4 ≤ length bytes.now }
     ensures { (result ≡ be (take 4 (drop at bytes.now))) × (result < 4294967296) }
@@ -41,6 +44,7 @@ fn four(bytes: &[u8], at: usize) -> u64
 }
 
 // The word of the eight bytes from `at` on. In halves, each a sum: so the compiler makes one load of it.
+#[tactic(auto, using(crate::specs::Laws::word_is))]
 fn word_at(bytes: &[u8], at: usize) -> u64
     requires { at + 8 ≤ length bytes.now }
     ensures { result ≡ load_of bytes.now at 8 }
@@ -49,7 +53,7 @@ fn word_at(bytes: &[u8], at: usize) -> u64
 }
 
 // Five words one after the other.
-#[derive(Drop)]
+#[derive(Clone, Copy)]
 struct Five {
     a: u64,
     b: u64,
@@ -59,6 +63,7 @@ struct Five {
 }
 
 // The five words from `at` on.
+#[tactic(auto, unfolding(crate::specs::Bytes::five_in))]
 fn read_five(bytes: &[u8], at: usize) -> Five
     requires { at + 40 ≤ length bytes.now }
     ensures { result ≡ five_in bytes.now at }
@@ -73,6 +78,7 @@ fn read_five(bytes: &[u8], at: usize) -> Five
 }
 
 // The ten words.
+#[tactic(auto, unfolding(crate::specs::Bytes::five_in, crate::specs::Bytes::words_in))]
 fn read_words(bytes: &[u8]) -> Words
     requires { 80 ≤ length bytes.now }
     ensures { result ≡ words_in bytes.now }
@@ -94,6 +100,7 @@ fn read_words(bytes: &[u8]) -> Words
 }
 
 // The station that words say, with these settings and so many applications, unchecked.
+#[tactic(auto, unfolding(crate::specs::Bytes::head_station))]
 fn head_station(p: Parameters, applications: u8, words: Words) -> Station
     ensures { result ≡ head_station p applications words }
 {
@@ -108,6 +115,7 @@ fn head_station(p: Parameters, applications: u8, words: Words) -> Station
 }
 
 // Whether a station can be this one, and writes these words.
+#[tactic(auto, unfolding(crate::specs::Bytes::words_fit))]
 fn words_fit(station: Station, words: Words) -> bool
     ensures { result ≡ words_fit station words }
 {
@@ -122,6 +130,7 @@ fn words_fit(station: Station, words: Words) -> bool
 }
 
 // Whether a station with this address writes this set: its own address is in it, and the two that are none are not.
+#[tactic(auto, unfolding(crate::specs::Bytes::set_fits))]
 fn set_fits(set: &[u8], own: u8) -> bool
     ensures { result ≡ set_fits set.now own }
 {
@@ -138,6 +147,7 @@ fn set_fits(set: &[u8], own: u8) -> bool
 }
 
 // The station that words say, where a station writes them.
+#[tactic(auto, unfolding(crate::specs::Bytes::checked_in))]
 fn checked_in(station: Station, words: Words) -> Reading
     ensures { result ≡ checked_in station words }
 {
@@ -148,6 +158,7 @@ fn checked_in(station: Station, words: Words) -> Reading
 }
 
 // The same, and the set of its members.
+#[tactic(auto, unfolding(crate::specs::Bytes::found_with))]
 fn found_with(p: Parameters, applications: u8, words: Words, set: &[u8]) -> Reading
     ensures { result ≡ found_with p applications words set.now }
 {
@@ -158,6 +169,7 @@ fn found_with(p: Parameters, applications: u8, words: Words, set: &[u8]) -> Read
 }
 
 // What words and a set of members are.
+#[tactic(auto, unfolding(crate::specs::Bytes::found_in, crate::specs::Bytes::found_on))]
 fn found_in(words: Words, set: &[u8]) -> Reading
     ensures { result ≡ found_in words set.now }
 {
@@ -170,6 +182,7 @@ fn found_in(words: Words, set: &[u8]) -> Reading
 }
 
 // The station that bytes are, but for its ring's tables; or none.
+#[tactic(auto, unfolding(crate::specs::Bytes::found_at))]
 pub fn read_station(bytes: &[u8]) -> Reading
     ensures { result ≡ found_at bytes.now }
 {
@@ -180,6 +193,7 @@ pub fn read_station(bytes: &[u8]) -> Reading
 }
 
 // Makes the tables of a ring one by one: own alone, and then the set of its members.
+#[tactic(auto, using(ring_members::specs::Members::set_added, crate::specs::Laws::fresh_tables), unfolding(crate::specs::Bytes::ring_in))]
 fn add_all(head: Head, links: &mut [u8; 252], set: &[u8])
     ensures { ring_of head links.new ≡ ring_in head set.now }
 {
@@ -199,6 +213,7 @@ fn own_in(set: &[u8], own: u8) -> bool
 
 // Makes the tables of a ring: own alone, and then the set of its members. A set that own is in, as it is in what a station writes, is
 // linked in one pass.
+#[tactic(auto, using(crate::specs::Laws::ring_linked))]
 pub fn make_ring(head: Head, links: &mut [u8; 252], set: &[u8])
     ensures { ring_of head links.new ≡ ring_in head set.now }
 {
@@ -210,6 +225,7 @@ pub fn make_ring(head: Head, links: &mut [u8; 252], set: &[u8])
 }
 
 // Writes five words one after the other from `at` on.
+#[tactic(auto, using(crate::specs::Laws::five_stores))]
 fn write_five(out: &mut [u8], at: usize, a: u64, b: u64, c: u64, d: u64, e: u64)
     requires { at ≤ 40 }
     ensures { out.new ≡ stores_from at (a ∷ b ∷ c ∷ d ∷ e ∷ []) out.old }
@@ -226,6 +242,7 @@ fn write_five(out: &mut [u8], at: usize, a: u64, b: u64, c: u64, d: u64, e: u64)
 }
 
 // Writes the ten words.
+#[tactic(auto, unfolding(crate::specs::Bytes::words_stored))]
 fn write_words(out: &mut [u8], words: Words)
     ensures { out.new ≡ words_stored out.old words }
 {
@@ -250,6 +267,7 @@ fn write_words(out: &mut [u8], words: Words)
 }
 
 // Writes a station into the first 96 bytes; every other byte stays, and all do where there are fewer.
+#[tactic(auto, using(station::specs::Whole::station_at, crate::specs::Laws::station_stands, crate::specs::Laws::station_too_long))]
 pub fn write_station(station: Station, links: &[u8; 252], out: &mut [u8])
     ensures { out.new ≡ station_into out.old (station_at station links.now) }
 {

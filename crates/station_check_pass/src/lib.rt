@@ -1,6 +1,8 @@
 // CheckTokenPass: a passed token is heard of, or its slot passes and it is sent again, to the next station three times. From
 // profirust's active.rs: do_check_token_pass. It leans on station_pass, on station_listen for what is heard, and on station
 // and ring.
+#![tactic(auto)]
+
 ghost use Rattle.std.specs.Prelude.{◌≡◌, ◌<◌, ◌^◌};
 ghost use Rattle.ring.specs.Ring.{ring_of};
 ghost use Rattle.station.specs.Whole.{ring_step_at};
@@ -13,6 +15,7 @@ use settings::Parameters;
 use station::{Core, Event, PassTokenAttempt, RingStep, State};
 
 // What is counted where the next station is taken out of the ring: a removal, and nothing where there is nobody.
+#[tactic(auto, unfolding(crate::specs::CheckPass::removal_of))]
 fn removal(next: NextStation) -> Event
     ensures { result ≡ removal_of next }
 {
@@ -24,6 +27,7 @@ fn removal(next: NextStation) -> Event
 
 // do_check_token_pass: the token was not taken up. It is sent again at once; after the third attempt the station that it
 // went to is taken out of the ring, and the one behind it is tried. Own is never taken out.
+#[tactic(auto, unfolding(crate::specs::CheckPass::resend_of))]
 fn do_check_token_pass_resend(
     p: Parameters,
     core: Core,
@@ -75,6 +79,7 @@ fn do_check_token_pass_resend(
 }
 
 // do_check_token_pass: any telegram ends the check, whoever sent it. They are handled as in ActiveIdle.
+#[tactic(auto, unfolding(crate::specs::CheckPass::check_received))]
 fn do_check_token_pass_received(
     p: Parameters,
     core: Core,
@@ -111,6 +116,7 @@ fn do_check_token_pass_received(
 }
 
 // do_check_token_pass: the slot is asked first.
+#[tactic(auto, unfolding(crate::specs::CheckPass::check_token_pass_of))]
 pub fn do_check_token_pass(
     p: Parameters,
     core: Core,

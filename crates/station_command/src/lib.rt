@@ -1,5 +1,7 @@
 // The three commands, online, offline and passive, each with its answer. From profirust's active.rs: set_online, set_offline,
 // set_passive. It leans on station, station_answer and ring.
+#![tactic(auto)]
+
 ghost use Rattle.std.specs.Prelude.{◌≡◌};
 ghost use Rattle.station.specs.Whole.{station_at};
 ghost use Rattle.station_answer.specs.Answer.{polled_at};
@@ -10,6 +12,7 @@ use station::{ConnectivityState, RingStep, State, Station};
 use station_answer::{Polled, poll_done};
 
 // set_state, but for offline: all but the connectivity state stays.
+#[tactic(auto, unfolding(crate::specs::Command::connect_of))]
 fn connected(station: Station, links: &[u8; 252], connectivity: ConnectivityState) -> Polled
     ensures { polled_at result links.now ≡ connect_of (station_at station links.now) connectivity }
 {
@@ -30,6 +33,7 @@ fn connected(station: Station, links: &[u8; 252], connectivity: ConnectivityStat
 }
 
 // set_online.
+#[tactic(auto, unfolding(crate::specs::Command::online_of))]
 pub fn set_online(station: Station, links: &[u8; 252]) -> Polled
     ensures { polled_at result links.now ≡ online_of (station_at station links.now) }
 {
@@ -37,6 +41,7 @@ pub fn set_online(station: Station, links: &[u8; 252]) -> Polled
 }
 
 // set_offline: a fresh station with the same settings and applications. What was counted stays counted.
+#[tactic(auto, unfolding(crate::specs::Command::offline_of))]
 pub fn set_offline(station: Station, links: &mut [u8; 252]) -> Polled
     ensures { polled_at result links.new ≡ offline_of (station_at station links.old) }
 {
@@ -50,6 +55,7 @@ pub fn set_offline(station: Station, links: &mut [u8; 252]) -> Polled
 }
 
 // set_passive: the state changes with the next accepted poll.
+#[tactic(auto, unfolding(crate::specs::Command::passive_of))]
 pub fn set_passive(station: Station, links: &[u8; 252]) -> Polled
     ensures { polled_at result links.now ≡ passive_of (station_at station links.now) }
 {

@@ -1,5 +1,7 @@
 // One telegram heard in ActiveIdle, and while a passed token is checked: handle_telegram of profirust's active.rs. It leans
 // on station and ring.
+#![tactic(auto)]
+
 ghost use Rattle.std.specs.Prelude.{◌≡◌, ℕ, List};
 ghost use Rattle.ring.specs.Ring.{ring_of};
 ghost use Rattle.station.specs.Whole.{heard_at};
@@ -14,6 +16,7 @@ use station::{Core, Heard, OptionAddress, State};
 
 // handle_telegram: a token with our own source. The first is counted, the second back to back leads to ListenToken. Each is a
 // meeting of our own address.
+#[tactic(auto, unfolding(crate::specs::HearActive::active_collided))]
 fn handle_telegram_collision(
     core: Core,
     ring: Head,
@@ -38,6 +41,7 @@ fn handle_telegram_collision(
 }
 
 // Is this the remembered address?
+#[tactic(auto, unfolding(crate::specs::HearActive::remembers))]
 fn is_remembered(remembered: OptionAddress, address: u8) -> bool
     ensures { result ≡ remembers remembered address }
 {
@@ -48,6 +52,7 @@ fn is_remembered(remembered: OptionAddress, address: u8) -> bool
 }
 
 // handle_telegram: the token is ours to use.
+#[tactic(auto, unfolding(crate::specs::HearActive::accepted_of))]
 fn handle_telegram_accept(core: Core, ring: Head, now: Micros) -> Heard
     ensures { (l : List ℕ) → heard_at result l ≡ accepted_of core (ring_of ring l) now }
 {
@@ -61,6 +66,7 @@ fn handle_telegram_accept(core: Core, ring: Head, now: Micros) -> Heard
 
 // handle_telegram: a token to us, last of its poll and not by us: from the previous station or from the remembered one
 // it is accepted, from any other its sender is remembered.
+#[tactic(auto, unfolding(crate::specs::HearActive::token_to_us))]
 fn handle_telegram_to_us(
     core: Core,
     ring: Head,
@@ -96,6 +102,7 @@ fn handle_telegram_to_us(
 }
 
 // handle_telegram: another station's token is witnessed; collisions are counted only back to back.
+#[tactic(auto, unfolding(crate::specs::HearActive::token_witnessed))]
 fn handle_telegram_witness(
     core: Core,
     ring: Head,
@@ -120,6 +127,7 @@ fn handle_telegram_witness(
 }
 
 // handle_telegram: a token telegram.
+#[tactic(auto, unfolding(crate::specs::HearActive::token_heard))]
 fn handle_telegram_token(
     p: Parameters,
     core: Core,
@@ -179,6 +187,7 @@ fn handle_telegram_token(
 }
 
 // handle_telegram: a status request to us that is last of its poll is noted.
+#[tactic(auto, unfolding(crate::specs::HearActive::active_requested))]
 fn handle_telegram_request(
     core: Core,
     ring: Head,
@@ -215,6 +224,7 @@ fn handle_telegram_request(
 }
 
 // handle_telegram: one telegram, while in ActiveIdle.
+#[tactic(auto, unfolding(crate::specs::HearActive::active_heard))]
 fn handle_telegram_active(
     p: Parameters,
     core: Core,
@@ -283,6 +293,7 @@ fn handle_telegram_active(
 }
 
 // handle_telegram: one telegram. Once a collision has led to ListenToken, the rest of the poll only marks activity.
+#[tactic(auto, unfolding(crate::specs::HearActive::handle_telegram))]
 pub fn handle_telegram(
     p: Parameters,
     state: State,

@@ -1,6 +1,8 @@
 // One telegram heard in ListenToken: the closure of do_listen_token in profirust's active.rs, which receive_all_telegrams
 // hands each telegram to. And one heard in PassiveIdle, which document 02 has as ListenToken but for collisions: what a telegram
 // of another station does is the same in both (`noted`, `witnessed`, `overheard`). It leans on station and ring.
+#![tactic(auto)]
+
 ghost use Rattle.std.specs.Prelude.{◌≡◌};
 ghost use Rattle.ring.specs.Ring.{ring_of};
 ghost use Rattle.station.specs.Whole.{heard_at};
@@ -14,6 +16,7 @@ use station::{Core, Heard, OptionAddress, State};
 
 // do_listen_token: a telegram with our own source. The first collision is counted, the second leads offline. Each is a meeting of
 // our own address.
+#[tactic(auto, unfolding(crate::specs::HearListen::collided))]
 fn do_listen_token_collision(
     p: Parameters,
     core: Core,
@@ -42,6 +45,7 @@ fn do_listen_token_collision(
 }
 
 // Is the telegram's source our own address? A short confirmation has none.
+#[tactic(auto, unfolding(crate::specs::HearListen::sent_by_us))]
 fn sent_by_us(own: u8, telegram: Telegram) -> bool
     ensures { result ≡ sent_by_us own telegram }
 {
@@ -57,6 +61,7 @@ fn sent_by_us(own: u8, telegram: Telegram) -> bool
 // outcome.
 
 // A status request to us that is last of its poll is noted.
+#[tactic(auto, unfolding(crate::specs::HearListen::noted_of))]
 fn noted(own: u8, status_request: OptionAddress, telegram: Telegram, last: bool) -> OptionAddress
     ensures { result ≡ noted_of own status_request telegram last }
 {
@@ -79,6 +84,7 @@ fn noted(own: u8, status_request: OptionAddress, telegram: Telegram, last: bool)
 }
 
 // A token is witnessed.
+#[tactic(auto, unfolding(crate::specs::HearListen::witnessed_of))]
 fn witnessed(ring: Head, links: &mut [u8; 252], telegram: Telegram) -> Head
     ensures { ring_of result links.new ≡ witnessed_of (ring_of ring links.old) telegram }
 {
@@ -94,6 +100,7 @@ fn witnessed(ring: Head, links: &mut [u8; 252], telegram: Telegram) -> Head
 }
 
 // A request that is noted is answered after a delay; else the poll waits for the bus.
+#[tactic(auto, unfolding(crate::specs::HearListen::overheard_of))]
 fn overheard(own: u8, telegram: Telegram, last: bool) -> Outcome
     ensures { result ≡ overheard_of own telegram last }
 {
@@ -116,6 +123,7 @@ fn overheard(own: u8, telegram: Telegram, last: bool) -> Outcome
 }
 
 // do_listen_token: one telegram, while in ListenToken.
+#[tactic(auto, unfolding(crate::specs::HearListen::listen_heard))]
 fn do_listen_token_heard(
     p: Parameters,
     core: Core,
@@ -146,6 +154,7 @@ fn do_listen_token_heard(
 }
 
 // PassiveIdle: one telegram. Our own address as source changes nothing.
+#[tactic(auto, unfolding(crate::specs::HearListen::passive_heard))]
 fn do_passive_idle_heard(
     p: Parameters,
     core: Core,
@@ -179,6 +188,7 @@ fn do_passive_idle_heard(
 }
 
 // do_listen_token, do_passive_idle: one telegram. Once a collision has led offline, the rest of the poll only marks activity.
+#[tactic(auto, unfolding(crate::specs::HearListen::listen_telegram))]
 pub fn do_listen_token_telegram(
     p: Parameters,
     state: State,

@@ -2,6 +2,8 @@
 // its order: app_transmit_telegram, schedule_next_application, apps_transmit_telegram, do_use_token,
 // do_await_data_response. It leans on station, and on codec_records for what the applications decide and what was
 // received.
+#![tactic(auto)]
+
 ghost use Rattle.std.specs.Prelude.{◌≡◌, ◌<◌, ◌^◌};
 ghost use Rattle.station_hold.specs.Hold.{declines_at, first_or, turn_of, asked_of, app_transmit_of, end_of, hold_end_of, holds_of, use_pass_of, use_apps_of, use_token_of, valid_response, received_of, with_notice, timeout_of, await_data_of};
 
@@ -16,7 +18,7 @@ use station::{Core, Event, OptionApplication, PassTokenAttempt, State, Step, Use
 
 // What asking the applications came to: the one that is asked next, the first that declined since the token came, and
 // whether the one that is asked next sends.
-#[derive(Drop)]
+#[derive(Clone, Copy)]
 pub struct Asked {
     pub application: u8,
     pub first_app: OptionApplication,
@@ -24,6 +26,7 @@ pub struct Asked {
 }
 
 // Does this application decline to send?
+#[tactic(auto, unfolding(crate::specs::Hold::declines_at, crate::specs::Hold::declines_on))]
 fn declines(bytes: &[u8], applications: u8, application: u8, high: bool) -> bool
     ensures { result ≡ declines_at bytes.now applications application high }
 {
@@ -36,6 +39,7 @@ fn declines(bytes: &[u8], applications: u8, application: u8, high: bool) -> bool
 }
 
 // app_transmit_telegram, of an application that was found to send; Decline cannot be here, and its arm is filled.
+#[tactic(auto, unfolding(crate::specs::Hold::app_transmit_of))]
 fn app_transmit_telegram(
     p: Parameters,
     core: Core,
@@ -81,6 +85,7 @@ fn app_transmit_telegram(
 }
 
 // schedule_next_application: first_app.get_or_insert(next_application).
+#[tactic(auto, unfolding(crate::specs::Hold::first_or))]
 fn schedule_next_application_first(first_app: OptionApplication, application: u8) -> u8
     ensures { result ≡ first_or first_app application }
 {
@@ -91,6 +96,7 @@ fn schedule_next_application_first(first_app: OptionApplication, application: u8
 }
 
 // schedule_next_application: the application after this one, the last followed by the first.
+#[tactic(auto, unfolding(crate::specs::Hold::turn_of))]
 fn schedule_next_application_turn(application: u8, applications: u8) -> u8
     ensures { result ≡ turn_of application applications }
 {
@@ -143,6 +149,7 @@ fn apps_transmit_telegram(
 }
 
 // The end of the hold time, from + span - less: 0 if it lies below, the largest number if it lies above.
+#[tactic(auto, using(crate::specs::Laws::end_fits, crate::specs::Laws::end_high, crate::specs::Laws::end_over, crate::specs::Laws::end_below), unfolding(crate::specs::Hold::end_of))]
 fn hold_end(from: Micros, span: Micros, less: Micros) -> Micros
     ensures { result ≡ end_of from span less }
 {
@@ -161,6 +168,7 @@ fn hold_end(from: Micros, span: Micros, less: Micros) -> Micros
 }
 
 // do_use_token: a new token sets the end of the hold time, less the time of a gap poll while the gap is polled.
+#[tactic(auto, unfolding(crate::specs::Hold::hold_end_of, crate::specs::Hold::hold_less))]
 fn do_use_token_hold(p: Parameters, core: Core, token_time: Micros) -> Core
     ensures { result ≡ hold_end_of p core token_time }
 {
@@ -183,6 +191,7 @@ fn do_use_token_hold(p: Parameters, core: Core, token_time: Micros) -> Core
 }
 
 // now < end_token_hold_time.
+#[tactic(auto, unfolding(crate::specs::Hold::holds_of))]
 fn holds(now: Micros, end: Micros) -> bool
     ensures { result ≡ holds_of now end }
 {
@@ -190,6 +199,7 @@ fn holds(now: Micros, end: Micros) -> bool
 }
 
 // do_use_token: to PassToken, with the gap question and the first attempt; the pass itself is the next poll's.
+#[tactic(auto, unfolding(crate::specs::Hold::use_pass_of))]
 fn do_use_token_pass(core: Core) -> Step
     ensures { result ≡ use_pass_of core }
 {
@@ -204,6 +214,7 @@ fn do_use_token_pass(core: Core) -> Step
 }
 
 // do_use_token: one cycle of the applications; if none sends, to PassToken.
+#[tactic(auto, unfolding(crate::specs::Hold::use_apps_of, crate::specs::Hold::use_apps_after))]
 fn do_use_token_apps(
     p: Parameters,
     core: Core,
@@ -234,6 +245,7 @@ fn do_use_token_apps(
 
 // do_use_token: within the hold time normal telegrams; after it one cycle of high priority, only if no cycle was begun
 // with this token.
+#[tactic(auto, unfolding(crate::specs::Hold::use_token_of, crate::specs::Hold::use_token_timed))]
 pub fn do_use_token(
     p: Parameters,
     core: Core,
@@ -271,6 +283,7 @@ pub fn do_use_token(
 }
 
 // do_await_data_response: a short confirmation, or a response to us from the station that was asked.
+#[tactic(auto, unfolding(crate::specs::Hold::valid_response))]
 fn is_valid_response(telegram: Telegram, address: u8, own: u8) -> bool
     ensures { result ≡ valid_response telegram address own }
 {
@@ -293,6 +306,7 @@ fn is_valid_response(telegram: Telegram, address: u8, own: u8) -> bool
 }
 
 // do_await_data_response: a telegram came. A reply is told to the application; anything else ends the cycle.
+#[tactic(auto, unfolding(crate::specs::Hold::received_of))]
 fn do_await_data_response_received(
     p: Parameters,
     core: Core,
@@ -334,6 +348,7 @@ fn do_await_data_response_received(
 }
 
 // The same step with a notice.
+#[tactic(auto, unfolding(crate::specs::Hold::with_notice))]
 fn with_notice(step: Step, notice: Notice) -> Step
     ensures { result ≡ with_notice step notice }
 {
@@ -354,6 +369,7 @@ fn with_notice(step: Step, notice: Notice) -> Step
 }
 
 // do_await_data_response: no reply came in time. It is told to the application, and the token is used at once.
+#[tactic(auto, unfolding(crate::specs::Hold::timeout_of))]
 fn do_await_data_response_timeout(
     p: Parameters,
     core: Core,
@@ -378,6 +394,7 @@ fn do_await_data_response_timeout(
 }
 
 // do_await_data_response: only the first telegram is looked at.
+#[tactic(auto, unfolding(crate::specs::Hold::await_data_of))]
 pub fn do_await_data_response(
     p: Parameters,
     core: Core,

@@ -1,6 +1,8 @@
 // Which states, cores and laps a station has, asked line by line: what a poll or a command never makes is refused. theorem_live shows
 // that these lines are those of a sound station. It leans on station and settings for what is asked, and on station_words for whether
 // the last bus activity is known.
+#![tactic(auto)]
+
 ghost use Rattle.std.specs.Prelude.{◌≡◌};
 ghost use Rattle.station_lines.specs.Lines.{low_line, apart_line, other_line, one_line, held_line, listens_line, idles_line, unasked_line, uses_line, claims_line, awaits_line, passes_line, polled_line, asks_line, noted_line, rests_line, state_line, in_gap_line, gap_line, within_line, activity_line, no_token, counts_from, gap_time, hold_line, core_line, offline_line, resting_line, fresh_line, starts_line, sound_line};
 
@@ -15,6 +17,7 @@ use station::{
 use station_words::activity_known;
 
 // No address, or one below 128.
+#[tactic(auto, unfolding(crate::specs::Lines::low_line))]
 fn low_line(address: OptionAddress) -> bool
     ensures { result ≡ low_line address }
 {
@@ -25,6 +28,7 @@ fn low_line(address: OptionAddress) -> bool
 }
 
 // An address below 128 that is not our own.
+#[tactic(auto, unfolding(crate::specs::Lines::apart_line))]
 fn apart_line(address: u8, own: u8) -> bool
     ensures { result ≡ apart_line address own }
 {
@@ -35,6 +39,7 @@ fn apart_line(address: u8, own: u8) -> bool
 }
 
 // No address, or such a one.
+#[tactic(auto, unfolding(crate::specs::Lines::other_line))]
 fn other_line(address: OptionAddress, own: u8) -> bool
     ensures { result ≡ other_line address own }
 {
@@ -45,6 +50,7 @@ fn other_line(address: OptionAddress, own: u8) -> bool
 }
 
 // No application, or one of so many.
+#[tactic(auto, unfolding(crate::specs::Lines::one_line))]
 fn one_line(application: OptionApplication, applications: u8) -> bool
     ensures { result ≡ one_line application applications }
 {
@@ -55,6 +61,7 @@ fn one_line(application: OptionApplication, applications: u8) -> bool
 }
 
 // A token in hand came at a time of a clock, and its first application is one of so many.
+#[tactic(auto, unfolding(crate::specs::Lines::held_line))]
 fn held_line(token: UseTokenData, applications: u8) -> bool
     ensures { result ≡ held_line token applications }
 {
@@ -67,6 +74,7 @@ fn held_line(token: UseTokenData, applications: u8) -> bool
 }
 
 // ListenToken: another station's address, and at most one collision.
+#[tactic(auto, unfolding(crate::specs::Lines::listens_line))]
 fn listens_line(request: OptionAddress, collisions: u8, own: u8) -> bool
     ensures { result ≡ listens_line request collisions own }
 {
@@ -77,6 +85,7 @@ fn listens_line(request: OptionAddress, collisions: u8, own: u8) -> bool
 }
 
 // ActiveIdle: the remembered station is another one, who asked may be any, and the last bus activity is known.
+#[tactic(auto, unfolding(crate::specs::Lines::idles_line))]
 fn idles_line(
     request: OptionAddress,
     previous: OptionAddress,
@@ -96,6 +105,7 @@ fn idles_line(
 }
 
 // With a token no application was asked yet.
+#[tactic(auto, unfolding(crate::specs::Lines::unasked_line))]
 fn unasked_line(first: OptionApplication) -> bool
     ensures { result ≡ unasked_line first }
 {
@@ -106,6 +116,7 @@ fn unasked_line(first: OptionApplication) -> bool
 }
 
 // UseToken: the token in hand is the last token, once its first cycle is done; before that it is a new one.
+#[tactic(auto, unfolding(crate::specs::Lines::uses_line))]
 fn uses_line(cycled: bool, token: UseTokenData, applications: u8, known: bool, last: Micros) -> bool
     ensures { result ≡ uses_line cycled token applications known last }
 {
@@ -124,6 +135,7 @@ fn uses_line(cycled: bool, token: UseTokenData, applications: u8, known: bool, l
 }
 
 // AwaitDataResponse: and an address below 128 is to answer.
+#[tactic(auto, unfolding(crate::specs::Lines::awaits_line))]
 fn awaits_line(
     address: u8,
     token: UseTokenData,
@@ -140,6 +152,7 @@ fn awaits_line(
 }
 
 // ClaimToken: the first token is sent.
+#[tactic(auto, unfolding(crate::specs::Lines::claims_line))]
 fn claims_line(first: bool, known: bool) -> bool
     ensures { result ≡ claims_line first known }
 {
@@ -150,6 +163,7 @@ fn claims_line(first: bool, known: bool) -> bool
 }
 
 // PassToken: at its first attempt.
+#[tactic(auto, unfolding(crate::specs::Lines::passes_line))]
 fn passes_line(attempt: PassTokenAttempt, known: bool) -> bool
     ensures { result ≡ passes_line attempt known }
 {
@@ -161,6 +175,7 @@ fn passes_line(attempt: PassTokenAttempt, known: bool) -> bool
 }
 
 // Whether this is the address that the gap state polls.
+#[tactic(auto, unfolding(crate::specs::Lines::polled_line))]
 fn polled_line(gap: GapState, address: u8) -> bool
     ensures { result ≡ polled_line gap address }
 {
@@ -171,6 +186,7 @@ fn polled_line(gap: GapState, address: u8) -> bool
 }
 
 // AwaitStatusResponse: the status of the address that the gap state polls.
+#[tactic(auto, unfolding(crate::specs::Lines::asks_line))]
 fn asks_line(address: u8, gap: GapState, known: bool) -> bool
     ensures { result ≡ asks_line address gap known }
 {
@@ -181,6 +197,7 @@ fn asks_line(address: u8, gap: GapState, known: bool) -> bool
 }
 
 // Another station's request that is noted: the last bus activity is known.
+#[tactic(auto, unfolding(crate::specs::Lines::noted_line))]
 fn noted_line(source: u8, own: u8, known: bool) -> bool
     ensures { result ≡ noted_line source own known }
 {
@@ -191,6 +208,7 @@ fn noted_line(source: u8, own: u8, known: bool) -> bool
 }
 
 // PassiveIdle, with a request or with none.
+#[tactic(auto, unfolding(crate::specs::Lines::rests_line))]
 fn rests_line(request: OptionAddress, own: u8, known: bool) -> bool
     ensures { result ≡ rests_line request own known }
 {
@@ -201,6 +219,7 @@ fn rests_line(request: OptionAddress, own: u8, known: bool) -> bool
 }
 
 // What a state holds, by our own address, by the gap state, by whether the last bus activity is known and by the last token time.
+#[tactic(auto, unfolding(crate::specs::Lines::state_line))]
 fn state_line(
     state: State,
     own: u8,
@@ -244,6 +263,7 @@ fn state_line(
 }
 
 // An address that is asked in the gap.
+#[tactic(auto, unfolding(crate::specs::Lines::in_gap_line))]
 fn in_gap_line(p: Parameters, address: u8) -> bool
     ensures { result ≡ in_gap_line p address }
 {
@@ -254,6 +274,7 @@ fn in_gap_line(p: Parameters, address: u8) -> bool
 }
 
 // The gap's count is at most one above the settings' gap wait, the address it polls is one that is asked.
+#[tactic(auto, unfolding(crate::specs::Lines::gap_line))]
 fn gap_line(p: Parameters, gap: GapState) -> bool
     ensures { result ≡ gap_line p gap }
 {
@@ -266,6 +287,7 @@ fn gap_line(p: Parameters, gap: GapState) -> bool
 }
 
 // Whether a time is less than so much after the end of the clock.
+#[tactic(auto, using(crate::specs::Laws::ltb_minus, crate::specs::Laws::ltb_low), unfolding(crate::specs::Lines::within_line))]
 fn within(last: u64, time: u64) -> bool
     ensures { result ≡ within_line last time }
 {
@@ -276,6 +298,7 @@ fn within(last: u64, time: u64) -> bool
 }
 
 // The last bus activity is at most the time of 255 bytes after a time of a clock.
+#[tactic(auto, unfolding(crate::specs::Lines::activity_line))]
 fn activity_line(p: Parameters, activity: Activity) -> bool
     ensures { result ≡ activity_line p activity }
 {
@@ -290,6 +313,7 @@ fn activity_line(p: Parameters, activity: Activity) -> bool
 }
 
 // No token was used yet.
+#[tactic(auto, unfolding(crate::specs::Lines::no_token))]
 fn no_token(last: Micros, end: Micros) -> bool
     ensures { result ≡ no_token last end }
 {
@@ -300,6 +324,7 @@ fn no_token(last: Micros, end: Micros) -> bool
 }
 
 // Whether the end of hold comes so much after a time of a clock that is not the last token time.
+#[tactic(auto, unfolding(crate::specs::Lines::counts_from))]
 fn counts_from(end: u64, more: u64, last: u64) -> bool
     ensures { result ≡ counts_from end more last }
 {
@@ -313,6 +338,7 @@ fn counts_from(end: u64, more: u64, last: u64) -> bool
 }
 
 // What a gap poll takes off.
+#[tactic(auto, unfolding(crate::specs::Lines::gap_time))]
 fn gap_time(p: Parameters) -> Micros
     ensures { result ≡ gap_time p }
 {
@@ -321,6 +347,7 @@ fn gap_time(p: Parameters) -> Micros
 }
 
 // The end of hold is a fresh station's, or was set with the last token time.
+#[tactic(auto, unfolding(crate::specs::Lines::hold_line))]
 fn hold_line(p: Parameters, last: Micros, end: Micros) -> bool
     ensures { result ≡ hold_line p last end }
 {
@@ -339,6 +366,7 @@ fn hold_line(p: Parameters, last: Micros, end: Micros) -> bool
 }
 
 // A core, with so many applications.
+#[tactic(auto, unfolding(crate::specs::Lines::core_line))]
 fn core_line(p: Parameters, applications: u8, core: Core) -> bool
     ensures { result ≡ core_line p applications core }
 {
@@ -365,6 +393,7 @@ fn core_line(p: Parameters, applications: u8, core: Core) -> bool
 }
 
 // A station that is put offline is in Offline.
+#[tactic(auto, unfolding(crate::specs::Lines::offline_line))]
 fn offline_line(connectivity: ConnectivityState, state: State) -> bool
     ensures { result ≡ offline_line connectivity state }
 {
@@ -376,6 +405,7 @@ fn offline_line(connectivity: ConnectivityState, state: State) -> bool
 }
 
 // The gap state of a fresh station.
+#[tactic(auto, unfolding(crate::specs::Lines::resting_line))]
 fn resting_line(gap: GapState) -> bool
     ensures { result ≡ resting_line gap }
 {
@@ -386,6 +416,7 @@ fn resting_line(gap: GapState) -> bool
 }
 
 // A core as a fresh station's, but for the last bus activity and the connectivity state.
+#[tactic(auto, unfolding(crate::specs::Lines::fresh_line))]
 fn fresh_line(core: Core) -> bool
     ensures { result ≡ fresh_line core }
 {
@@ -405,6 +436,7 @@ fn fresh_line(core: Core) -> bool
 }
 
 // In Offline the core is such a one.
+#[tactic(auto, unfolding(crate::specs::Lines::starts_line))]
 fn starts_line(state: State, core: Core) -> bool
     ensures { result ≡ starts_line state core }
 {
@@ -415,6 +447,7 @@ fn starts_line(state: State, core: Core) -> bool
 }
 
 // Whether a station can have this state, this core and these laps.
+#[tactic(auto, unfolding(crate::specs::Lines::sound_line))]
 pub fn sound_line(p: Parameters, applications: u8, state: State, core: Core, laps: u16) -> bool
     ensures { result ≡ sound_line p applications state core laps }
 {

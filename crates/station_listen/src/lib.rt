@@ -1,6 +1,8 @@
 // Listening: what a station without the token does. From profirust's active.rs, in its order: do_listen_token and do_active_idle,
 // each of which begins with handle_lost_token. It leans on station_hear_listen and station_hear_active for one telegram heard, on
 // station_claim for a lost token, on codec_records for what was received, on station and ring.
+#![tactic(auto)]
+
 ghost use Rattle.std.specs.Prelude.{◌≡◌, ℕ, ◌<◌, ◌^◌, List};
 ghost use Rattle.ring.specs.Ring.{ring_of};
 ghost use Rattle.station.specs.Whole.{ring_step_at, heard_at};
@@ -14,6 +16,7 @@ use settings::Parameters;
 use station::{Core, Event, Heard, OptionAddress, RingStep, State, Step};
 
 // do_listen_token: without token exactly if ready and asked by the previous station.
+#[tactic(auto, unfolding(crate::specs::Listen::response_state))]
 fn do_listen_token_state(ring: Head, links: &[u8; 252], source: u8) -> ResponseState
     ensures { result ≡ response_state (ring_of ring links.now) source }
 {
@@ -27,6 +30,7 @@ fn do_listen_token_state(ring: Head, links: &[u8; 252], source: u8) -> ResponseS
 }
 
 // do_listen_token: after the response a ready station goes to ActiveIdle, whoever asked.
+#[tactic(auto, unfolding(crate::specs::Listen::listen_answered))]
 fn do_listen_token_answered(ring: Head, collision_count: u8) -> State
     ensures { (l : List ℕ) → result ≡ listen_answered (ring_of ring l) collision_count }
 {
@@ -40,6 +44,7 @@ fn do_listen_token_answered(ring: Head, collision_count: u8) -> State
 }
 
 // A status request is answered after the pause, with this type: `waiting` is the state until then, `answered` the one from then on.
+#[tactic(auto, unfolding(crate::specs::Listen::respond_of))]
 pub fn respond(
     p: Parameters,
     waiting: State,
@@ -77,6 +82,7 @@ pub fn respond(
 }
 
 // do_listen_token: a status request is answered.
+#[tactic(auto, unfolding(crate::specs::Listen::listen_response))]
 fn do_listen_token_respond(
     p: Parameters,
     core: Core,
@@ -107,6 +113,7 @@ fn do_listen_token_respond(
 }
 
 // One telegram of receive_all_telegrams, while listening (in ListenToken or PassiveIdle) or in ActiveIdle.
+#[tactic(auto, unfolding(crate::specs::Listen::heard_telegram))]
 fn receive_telegram(
     p: Parameters,
     before: Heard,
@@ -131,6 +138,7 @@ fn receive_telegram(
 }
 
 // The collisions of a poll, with one telegram more, which is one or none.
+#[tactic(auto, unfolding(crate::specs::Listen::met_too))]
 fn met_too(met: u8, here: u8) -> u8
     requires { met < 255 }
     ensures { result ≡ met_too met here }
@@ -170,6 +178,7 @@ pub fn receive_all_telegrams(
 }
 
 // What is counted of a poll with so many collisions.
+#[tactic(auto, unfolding(crate::specs::Listen::meetings_of))]
 fn meetings(met: u8) -> Event
     ensures { result ≡ meetings_of met }
 {
@@ -180,6 +189,7 @@ fn meetings(met: u8) -> Event
 }
 
 // The step that the telegrams of a poll led to; all of them are consumed, and the collisions among them are counted.
+#[tactic(auto, unfolding(crate::specs::Listen::consumed_all))]
 pub fn consumed_all(all: Heard, telegrams: u8) -> RingStep
     ensures { (l : List ℕ) → ring_step_at result l ≡ consumed_all (heard_at all l) telegrams }
 {
@@ -203,6 +213,7 @@ pub fn consumed_all(all: Heard, telegrams: u8) -> RingStep
 
 // The step that the telegrams of a poll lead to, where there are some. A function of its own: what a function is handed is laid out
 // in memory where its caller begins, and a poll without telegrams is spared that.
+#[tactic(auto, unfolding(crate::specs::Listen::consumed_all))]
 fn received_some(
     p: Parameters,
     state: State,
@@ -235,6 +246,7 @@ fn received_some(
 }
 
 // The step that the telegrams of a poll lead to. Most polls have none.
+#[tactic(auto, unfolding(station::specs::Steps::done_of, station::specs::Steps::heard_of, crate::specs::Listen::heard_all, crate::specs::Listen::met_in, crate::specs::Listen::received_all, crate::specs::Listen::consumed_all, crate::specs::Listen::meetings_of))]
 pub fn received(
     p: Parameters,
     state: State,
@@ -270,6 +282,7 @@ pub fn received(
 }
 
 // do_listen_token.
+#[tactic(auto, unfolding(crate::specs::Listen::listen_token_of, crate::specs::Listen::handle_lost_token, crate::specs::Listen::listen_token_on))]
 pub fn do_listen_token(
     p: Parameters,
     core: Core,
@@ -322,6 +335,7 @@ pub fn do_listen_token(
 }
 
 // do_active_idle: a status request is answered.
+#[tactic(auto, unfolding(crate::specs::Listen::active_response))]
 fn do_active_idle_respond(
     p: Parameters,
     core: Core,
@@ -355,6 +369,7 @@ fn do_active_idle_respond(
 }
 
 // do_active_idle.
+#[tactic(auto, unfolding(crate::specs::Listen::active_idle_of, crate::specs::Listen::handle_lost_token, crate::specs::Listen::active_idle_on))]
 pub fn do_active_idle(
     p: Parameters,
     core: Core,

@@ -1,5 +1,7 @@
 // A state as plain numbers, and these as two words: what a station's bytes hold of its state. It leans on station for the states and
 // on codec_fields for the fields.
+#![tactic(auto)]
+
 ghost use Rattle.std.specs.Prelude.{◌≡◌};
 ghost use Rattle.station_numbers.specs.Numbers.{address_number, address_of, application_number, application_of, attempt_number, attempt_of, plain_numbers, held_numbers, state_numbers, held_of, state_from, state_word, numbers_in};
 
@@ -8,7 +10,7 @@ use codec_fields::{bit, field_byte, put, put_bit, put_byte};
 use station::{OptionAddress, OptionApplication, PassTokenAttempt, State, UseTokenData};
 
 // A state's number and what it holds; what a state does not hold is 0.
-#[derive(Drop)]
+#[derive(Clone, Copy)]
 pub struct StateNumbers {
     pub token_time: u64,
     pub kind: u8,
@@ -32,6 +34,7 @@ fn address_number(address: OptionAddress) -> u8
 }
 
 // The address of a number.
+#[tactic(auto, unfolding(crate::specs::Numbers::address_of))]
 fn address_of(number: u8) -> OptionAddress
     ensures { result ≡ address_of number }
 {
@@ -52,6 +55,7 @@ fn application_number(application: OptionApplication) -> u8
 }
 
 // The application of a number.
+#[tactic(auto, unfolding(crate::specs::Numbers::application_of))]
 fn application_of(number: u8) -> OptionApplication
     ensures { result ≡ application_of number }
 {
@@ -73,6 +77,7 @@ fn attempt_number(attempt: PassTokenAttempt) -> u8
 }
 
 // The attempt of a number.
+#[tactic(auto, unfolding(crate::specs::Numbers::attempt_of))]
 fn attempt_of(number: u8) -> PassTokenAttempt
     ensures { result ≡ attempt_of number }
 {
@@ -86,6 +91,7 @@ fn attempt_of(number: u8) -> PassTokenAttempt
 }
 
 // A state without a token, as plain numbers.
+#[tactic(auto, unfolding(crate::specs::Numbers::plain_numbers))]
 fn plain(
     kind: u8,
     flag: bool,
@@ -111,6 +117,7 @@ fn plain(
 }
 
 // A state with a token in hand, as plain numbers.
+#[tactic(auto, unfolding(crate::specs::Numbers::held_numbers))]
 fn holding(kind: u8, flag: bool, address: u8, token: UseTokenData) -> StateNumbers
     ensures { result ≡ held_numbers kind flag address token }
 {
@@ -130,6 +137,7 @@ fn holding(kind: u8, flag: bool, address: u8, token: UseTokenData) -> StateNumbe
 }
 
 // A state as plain numbers.
+#[tactic(auto, unfolding(crate::specs::Numbers::state_numbers))]
 pub fn state_numbers(state: State) -> StateNumbers
     ensures { result ≡ state_numbers state }
 {
@@ -190,6 +198,7 @@ pub fn state_numbers(state: State) -> StateNumbers
 }
 
 // The token that plain numbers hold.
+#[tactic(auto, unfolding(crate::specs::Numbers::held_of))]
 fn held(numbers: StateNumbers) -> UseTokenData
     ensures { result ≡ held_of numbers }
 {
@@ -200,6 +209,7 @@ fn held(numbers: StateNumbers) -> UseTokenData
 }
 
 // The state that plain numbers are; Offline where there is no state with such a number.
+#[tactic(auto, unfolding(crate::specs::Numbers::state_from))]
 pub fn state_from(numbers: StateNumbers) -> State
     ensures { result ≡ state_from numbers }
 {
@@ -259,6 +269,7 @@ pub fn state_from(numbers: StateNumbers) -> State
 }
 
 // The word of plain numbers but for the token's time, which is a word of its own.
+#[tactic(auto, unfolding(crate::specs::Numbers::state_word))]
 pub fn state_word(numbers: StateNumbers) -> u64
     ensures { result ≡ state_word numbers }
 {
@@ -274,6 +285,7 @@ pub fn state_word(numbers: StateNumbers) -> u64
 }
 
 // The plain numbers that two words hold.
+#[tactic(auto, unfolding(crate::specs::Numbers::numbers_in))]
 pub fn numbers_in(word: u64, token_time: u64) -> StateNumbers
     ensures { result ≡ numbers_in word token_time }
 {

@@ -1,5 +1,7 @@
 // PassToken: the token is passed on, after a gap question if one is due. From profirust's active.rs: do_pass_token. It leans on
 // station and ring.
+#![tactic(auto)]
+
 ghost use Rattle.std.specs.Prelude.{◌≡◌, ◌<◌, ◌^◌};
 ghost use Rattle.ring.specs.Ring.{ring_of};
 ghost use Rattle.station.specs.Whole.{ring_step_at};
@@ -12,6 +14,7 @@ use settings::Parameters;
 use station::{Core, PassTokenAttempt, RingStep, State};
 
 // do_pass_token: the gap's turn. Waiting goes on until more rotations were counted than the settings ask for.
+#[tactic(auto, unfolding(crate::specs::Pass::gap_advanced))]
 fn do_pass_token_gap(p: Parameters, ring: Head, links: &[u8; 252], gap: GapState) -> GapState
     ensures { result ≡ gap_advanced p (ring_of ring links.now) gap }
 {
@@ -43,6 +46,7 @@ pub fn token_destination(own: u8, next: NextStation) -> u8
 
 // do_pass_token: the token is sent to the next station. If there is nobody it is ours again and is used, else the pass is
 // checked.
+#[tactic(auto, unfolding(crate::specs::Pass::pass_send, crate::specs::Pass::pass_sent_on))]
 fn do_pass_token_send(
     p: Parameters,
     core: Core,
@@ -82,6 +86,7 @@ fn do_pass_token_send(
 }
 
 // do_pass_token: a gap question, if one is due, else the token.
+#[tactic(auto, unfolding(crate::specs::Pass::pass_poll, crate::specs::Pass::pass_poll_on))]
 fn do_pass_token_poll(
     p: Parameters,
     core: Core,
@@ -114,6 +119,7 @@ fn do_pass_token_poll(
 }
 
 // do_pass_token: after the pause, a gap question or the token.
+#[tactic(auto, unfolding(crate::specs::Pass::pass_token_of))]
 pub fn do_pass_token(
     p: Parameters,
     core: Core,

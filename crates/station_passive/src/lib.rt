@@ -1,6 +1,8 @@
 // PassiveIdle: a station that answers status requests and witnesses tokens, and neither claims nor passes one. It is document 02's
 // (P10): profirust's poll_inner stops there with todo!. What it does is what do_listen_token does but for the lost token, the
 // collisions and the station type: it leans on station_listen for the telegrams and the response.
+#![tactic(auto)]
+
 ghost use Rattle.std.specs.Prelude.{◌≡◌, ◌<◌, ◌^◌};
 ghost use Rattle.ring.specs.Ring.{ring_of};
 ghost use Rattle.station.specs.Whole.{ring_step_at};
@@ -13,6 +15,7 @@ use settings::Parameters;
 use station::{Core, OptionAddress, RingStep, State};
 
 // do_passive_idle.
+#[tactic(auto, unfolding(crate::specs::Passive::passive_idle_of))]
 pub fn do_passive_idle(
     p: Parameters,
     core: Core,

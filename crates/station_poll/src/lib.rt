@@ -1,6 +1,8 @@
 // A poll of the station with its answer. From profirust's active.rs: poll_inner and poll_multi; the answer is document 01's.
 // It leans on all of the station's crates: on those of its states for what a poll does, on station_answer for what it hands
 // back.
+#![tactic(auto)]
+
 ghost use Rattle.std.specs.Prelude.{◌≡◌, ℕ, ◌<◌, ◌^◌, List};
 ghost use Rattle.ring.specs.Ring.{ring_of};
 ghost use Rattle.station.specs.Whole.{station_at, ring_step_at};
@@ -18,6 +20,7 @@ use station::{ConnectivityState, Core, PassTokenAttempt, RingStep, State, Statio
 use station_answer::Polled;
 
 // poll_inner: a station that was put online starts listening, from Offline or from PassiveIdle.
+#[tactic(auto, unfolding(crate::specs::Poll::connected_of))]
 fn poll_inner_connected(state: State) -> State
     ensures { result ≡ connected_of state }
 {
@@ -37,6 +40,7 @@ fn poll_inner_connected(state: State) -> State
 
 // poll_inner: a station that was put passive, or is back in ListenToken or ActiveIdle while it is passive, leaves the ring. In any
 // other state it goes on.
+#[tactic(auto, unfolding(crate::specs::Poll::passivated_of))]
 fn poll_inner_passive(state: State) -> State
     ensures { result ≡ passivated_of state }
 {
@@ -55,6 +59,7 @@ fn poll_inner_passive(state: State) -> State
 }
 
 // poll_inner: the state that the connectivity state leads to, first thing in a poll.
+#[tactic(auto, unfolding(crate::specs::Poll::entered_of))]
 fn poll_inner_entered(connectivity: ConnectivityState, state: State) -> State
     ensures { result ≡ entered_of connectivity state }
 {
@@ -103,6 +108,7 @@ fn poll_inner_pass_token(
 }
 
 // poll_inner: what the state asks for. Offline cannot be: poll_inner_entered comes first.
+#[tactic(auto, unfolding(crate::specs::Poll::dispatch_of))]
 fn poll_inner_dispatch(
     p: Parameters,
     state: State,
@@ -221,6 +227,7 @@ fn poll_inner_dispatch(
 }
 
 // poll_inner: while a transmission goes on nothing else is done; then the bus is looked at, then the state.
+#[tactic(auto, unfolding(crate::specs::Poll::poll_online))]
 fn poll_inner_online(
     p: Parameters,
     state: State,
@@ -264,6 +271,7 @@ fn poll_inner_online(
 }
 
 // poll_inner: an offline station does nothing.
+#[tactic(auto, unfolding(crate::specs::Poll::poll_inner))]
 fn poll_inner(
     p: Parameters,
     state: State,
@@ -303,6 +311,7 @@ fn poll_inner(
 }
 
 // A poll whose record is not refused.
+#[tactic(auto, using(codec_records::specs::Records::head_of, codec_records::specs::Laws::clock_below), unfolding(crate::specs::Poll::accepted_poll, crate::specs::Poll::accepted_after))]
 fn poll_accepted(station: Station, links: &mut [u8; 252], bytes: &[u8]) -> Polled
     ensures { polled_at result links.new ≡ accepted_poll (station_at station links.old) bytes.now }
 {
@@ -330,6 +339,7 @@ fn poll_accepted(station: Station, links: &mut [u8; 252], bytes: &[u8]) -> Polle
 }
 
 // poll_multi, on a poll record. Refusals 12 to 15.
+#[tactic(auto, unfolding(crate::specs::Poll::poll_of))]
 pub fn poll(station: Station, links: &mut [u8; 252], bytes: &[u8]) -> Polled
     ensures { polled_at result links.new ≡ poll_of (station_at station links.old) bytes.now }
 {

@@ -1,5 +1,7 @@
 // What a station's bytes hold besides its ring's members, as ten words: written from a station, and its parts read from them. It
 // leans on station_numbers for the state, on settings_build and trace_headers for the settings, on codec_fields for the fields.
+#![tactic(auto)]
+
 ghost use Rattle.std.specs.Prelude.{◌≡◌};
 ghost use Rattle.station_words.specs.Words.{connectivity_number, connectivity_of, activity_known, activity_time, activity_of, gap_polls, gap_number, gap_of, first_word, settings_word, limits_word, counts_word, numbers_word, words_of, state_in, core_in, counts_in, head_in, header_in, same_five, same_words};
 
@@ -12,7 +14,7 @@ use station_numbers::{numbers_in, state_from, state_numbers, state_word};
 use trace_headers::Header;
 
 // The words, in the order of their bytes.
-#[derive(Drop)]
+#[derive(Clone, Copy)]
 pub struct Words {
     pub first: u64,
     pub settings: u64,
@@ -40,6 +42,7 @@ fn connectivity_number(connectivity: ConnectivityState) -> u8
 }
 
 // The connectivity state of a number; offline where there is none.
+#[tactic(auto, unfolding(crate::specs::Words::connectivity_of))]
 fn connectivity_of(number: u8) -> ConnectivityState
     ensures { result ≡ connectivity_of number }
 {
@@ -73,6 +76,7 @@ fn activity_time(activity: Activity) -> u64
 }
 
 // The last bus activity, by whether it is known and its time.
+#[tactic(auto, unfolding(crate::specs::Words::activity_of))]
 fn activity_of(known: bool, time: u64) -> Activity
     ensures { result ≡ activity_of known time }
 {
@@ -103,6 +107,7 @@ fn gap_number(gap: GapState) -> u16
 }
 
 // The gap state, by whether the gap is polled and its number.
+#[tactic(auto, unfolding(crate::specs::Words::gap_of))]
 fn gap_of(polls: bool, number: u8) -> GapState
     ensures { result ≡ gap_of polls number }
 {
@@ -126,6 +131,7 @@ fn wide_long(n: u32) -> u64
 }
 
 // The first word: the edition, and the small parts of the core and of the ring's head.
+#[tactic(auto, unfolding(crate::specs::Words::first_word))]
 fn first_word(core: Core, head: Head) -> u64
     ensures { result ≡ first_word core head.laps head.ready }
 {
@@ -143,6 +149,7 @@ fn first_word(core: Core, head: Head) -> u64
 }
 
 // The first half of the settings, as in a header of edition 1.
+#[tactic(auto, unfolding(crate::specs::Words::settings_word))]
 fn settings_word(plain: PlainSettings) -> u64
     ensures { result ≡ settings_word plain }
 {
@@ -153,6 +160,7 @@ fn settings_word(plain: PlainSettings) -> u64
 }
 
 // The second half.
+#[tactic(auto, unfolding(crate::specs::Words::limits_word))]
 fn limits_word(plain: PlainSettings, applications: u8) -> u64
     ensures { result ≡ limits_word plain applications }
 {
@@ -167,6 +175,7 @@ fn limits_word(plain: PlainSettings, applications: u8) -> u64
 }
 
 // Two of the counts.
+#[tactic(auto, unfolding(crate::specs::Words::counts_word))]
 fn counts_word(counts: Counts) -> u64
     ensures { result ≡ counts_word counts }
 {
@@ -178,6 +187,7 @@ fn counts_word(counts: Counts) -> u64
 }
 
 // The third count, the pending bytes and the gap state's number.
+#[tactic(auto, unfolding(crate::specs::Words::numbers_word))]
 fn numbers_word(counts: Counts, core: Core) -> u64
     ensures { result ≡ numbers_word counts core }
 {
@@ -189,6 +199,7 @@ fn numbers_word(counts: Counts, core: Core) -> u64
 }
 
 // The words of a station.
+#[tactic(auto, unfolding(crate::specs::Words::words_of))]
 pub fn words_of(station: Station) -> Words
     ensures { result ≡ words_of station.state station.core station.token_ring.laps station.token_ring.ready station.p station.applications station.counts }
 {
@@ -219,6 +230,7 @@ pub fn words_of(station: Station) -> Words
 // A station's parts, read from its words.
 
 // The state.
+#[tactic(auto, unfolding(crate::specs::Words::state_in))]
 pub fn state_in(words: Words) -> State
     ensures { result ≡ state_in words }
 {
@@ -226,6 +238,7 @@ pub fn state_in(words: Words) -> State
 }
 
 // The core.
+#[tactic(auto, unfolding(crate::specs::Words::core_in))]
 pub fn core_in(words: Words) -> Core
     ensures { result ≡ core_in words }
 {
@@ -243,6 +256,7 @@ pub fn core_in(words: Words) -> Core
 }
 
 // The counts.
+#[tactic(auto, unfolding(crate::specs::Words::counts_in))]
 pub fn counts_in(words: Words) -> Counts
     ensures { result ≡ counts_in words }
 {
@@ -254,6 +268,7 @@ pub fn counts_in(words: Words) -> Counts
 }
 
 // The head of the ring of a station with this address.
+#[tactic(auto, unfolding(crate::specs::Words::head_in))]
 pub fn head_in(words: Words, own: u8) -> Head
     ensures { result ≡ head_in words own }
 {
@@ -265,6 +280,7 @@ pub fn head_in(words: Words, own: u8) -> Head
 }
 
 // The header, unchecked.
+#[tactic(auto, unfolding(crate::specs::Words::header_in))]
 pub fn header_in(words: Words) -> Header
     ensures { result ≡ header_in words }
 {
@@ -289,6 +305,7 @@ pub fn header_in(words: Words) -> Header
 }
 
 // Whether two times five words are the same.
+#[tactic(auto, unfolding(crate::specs::Words::same_five))]
 fn same_five(a: u64, b: u64, c: u64, d: u64, e: u64, f: u64, g: u64, h: u64, i: u64, j: u64) -> bool
     ensures { result ≡ same_five a b c d e f g h i j }
 {
@@ -308,6 +325,7 @@ fn same_five(a: u64, b: u64, c: u64, d: u64, e: u64, f: u64, g: u64, h: u64, i: 
 }
 
 // Whether two are the same, word by word.
+#[tactic(auto, unfolding(crate::specs::Words::same_words))]
 pub fn same_words(a: Words, b: Words) -> bool
     ensures { result ≡ same_words a b }
 {

@@ -2,3 +2,4 @@
 // gives a capture's lines again, in lower case; an import gives exported entries back, where P1 can write their telegrams and the
 // times rise. No code stands here: the statements are in specs/Accepted.antt, specs/Exported.antt, specs/Again.antt, specs/Lower.antt
 // and specs/Back.antt. It leans on capture_import, capture_export and theorem_frames.
+#![tactic(auto)]

@@ -1,6 +1,8 @@
 // A trace of document 01, replayed: a header of either edition, then entries, each a command or a poll record, and each entry's
 // answer into the next eight bytes of the caller's buffer. It leans on trace_headers and settings_build for the header, on
 // station_command and station_poll for the entries, on codec_answers and codec_fields for the bytes.
+#![tactic(auto)]
+
 ghost use Rattle.std.specs.Prelude.{◌≡◌, ◌+◌, ◌*◌, ◌≤◌, ◌^◌, length};
 ghost use Rattle.station.specs.Whole.{station_at};
 ghost use Rattle.station_answer.specs.Answer.{polled_at};
@@ -15,6 +17,7 @@ use station_answer::Polled;
 use trace_headers::Header;
 
 // The settings that a header gives, or its first refusal.
+#[tactic(auto, unfolding(crate::specs::Trace::settings_of))]
 pub fn header_settings(header: Header) -> Created
     ensures { result ≡ settings_of header }
 {
@@ -27,6 +30,7 @@ pub fn header_settings(header: Header) -> Created
 }
 
 // The settings of a trace. Refusal 17 where it has fewer bytes than its edition's header or more than 2 to the 32.
+#[tactic(auto, unfolding(crate::specs::Trace::settings_at))]
 pub fn trace_settings(trace: &[u8]) -> Created
     ensures { result ≡ settings_at trace.now }
 {
@@ -40,6 +44,7 @@ pub fn trace_settings(trace: &[u8]) -> Created
 }
 
 // How many bytes of record follow an entry's first byte.
+#[tactic(auto, unfolding(crate::specs::Entries::record_length))]
 pub fn record_length(kind: u8) -> usize
     ensures { (result ≡ record_length kind) × (result ≤ 255) }
 {
@@ -50,6 +55,7 @@ pub fn record_length(kind: u8) -> usize
 }
 
 // An entry: online, offline, passive, or a poll of the record.
+#[tactic(auto, unfolding(crate::specs::Entries::entry_of))]
 pub fn answer_entry(station: Station, links: &mut [u8; 252], kind: u8, bytes: &[u8]) -> Polled
     ensures { polled_at result links.new ≡ entry_of (station_at station links.old) kind bytes.now }
 {
@@ -104,6 +110,7 @@ fn run(fresh: Station, links: &mut [u8; 252], trace: &[u8], answers: &mut [u8]) 
 
 // Replays a trace and returns the entries answered × 256 + the ending number. Each entry's answer stands in the next eight
 // bytes of `answers`; the bytes past them stay as they were.
+#[tactic(auto, using(crate::specs::Laws::settings_long, crate::specs::Laws::start_refused, crate::specs::Laws::replay_settings, crate::specs::Laws::replay_refused))]
 pub fn replay_trace(trace: &[u8], answers: &mut [u8]) -> u64
     ensures value { result ≡ number_of (replay_of trace.now (length answers.old)) }
     ensures answers_after { answers.new ≡ buffer_of (replay_of trace.now (length answers.old)) answers.old }

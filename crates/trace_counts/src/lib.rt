@@ -1,6 +1,8 @@
 // The counts of a station after a trace (request P6): how often it claimed the token, removed a neighbour and met its own address. The
 // run over the trace's entries needs no room for answers. It leans on trace for the entries, on trace_headers and station for the start
 // and the counts, on codec_fields for the bytes.
+#![tactic(auto)]
+
 ghost use Rattle.std.specs.Prelude.{◌≡◌, ◌≤◌, ◌^◌, length};
 ghost use Rattle.station.specs.Whole.{station_at};
 ghost use Rattle.trace_headers.specs.Headers.{header_length};
@@ -15,13 +17,14 @@ use station::{Counts, Station};
 pub const COUNTS_LENGTH: usize = 12;
 
 // What a run over a trace's entries comes to: the number that the call returns, and the counts of the station after it.
-#[derive(Drop)]
+#[derive(Clone, Copy)]
 pub struct Counted {
     pub number: u64,
     pub counts: Counts,
 }
 
 // Writes the counts into the first 12 bytes, each of 32 bits; every other byte stays. A shorter slice stays as it is.
+#[tactic(auto, using(crate::specs::Laws::counts_stored), unfolding(crate::specs::TraceCounts::counts_over))]
 pub fn write_counts(bytes: &mut [u8], counts: Counts)
     ensures { bytes.new ≡ counts_over bytes.old counts }
 {
@@ -68,6 +71,7 @@ fn count(fresh: Station, links: &mut [u8; 252], trace: &[u8]) -> Counted
 // Runs over a whole trace, and writes the counts of its station into the first 12 bytes of `counts`: claims, removals, meetings of its
 // own address. Returns the entries answered × 256 + the ending number. Refused with the header's numbers, or 18 where `counts` is too
 // short: then the number is returned and nothing is written.
+#[tactic(auto, using(trace::specs::Laws::settings_long, crate::specs::Laws::ends_header, crate::specs::Laws::ends_no_room, crate::specs::Laws::ends_run))]
 pub fn trace_counts(trace: &[u8], counts: &mut [u8]) -> u64
     ensures value { result ≡ counts_number trace.now (length counts.old) }
     ensures counts_after { counts.new ≡ counts_into trace.now counts.old }

@@ -1,5 +1,7 @@
 // A trace's header moved from either edition to the other (request P9). It leans on trace_headers, which reads and refuses it, and
 // on trace_headers_written.
+#![tactic(auto)]
+
 ghost use Rattle.std.specs.Prelude.{◌≡◌, length};
 ghost use Rattle.trace_editions.specs.Editions.{other_than, lent_refusal, move_number, move_into};
 
@@ -7,6 +9,7 @@ use trace_headers::{Edition, edition_of, header_length, header_refusal, length_o
 use trace_headers_written::write_header;
 
 // The other edition.
+#[tactic(auto, unfolding(crate::specs::Editions::other_than))]
 fn other_than(edition: Edition) -> Edition
     ensures { result ≡ other_than edition }
 {
@@ -17,6 +20,7 @@ fn other_than(edition: Edition) -> Edition
 }
 
 // Why a lent header is not taken: 17 where the bytes end inside it, then its first refusal; 0 for none.
+#[tactic(auto, unfolding(crate::specs::Editions::lent_refusal))]
 fn lent_refusal(header: &[u8]) -> u8
     ensures { result ≡ lent_refusal header.now }
 {
@@ -29,6 +33,7 @@ fn lent_refusal(header: &[u8]) -> u8
 // Writes the header that `header` begins with in the other edition into the first bytes of `out`, and returns the bytes written
 // × 256. Refused with 17, the header's numbers, or 18 where `out` is too short: then the number is returned and nothing is
 // written.
+#[tactic(auto, using(crate::specs::Laws::move_refused, crate::specs::Laws::move_no_room, crate::specs::Laws::move_done))]
 pub fn other_edition(header: &[u8], out: &mut [u8]) -> u64
     ensures value { result ≡ move_number header.now (length out.old) }
     ensures out_after { out.new ≡ move_into header.now out.old }

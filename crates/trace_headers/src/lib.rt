@@ -1,6 +1,8 @@
 // A trace's header in its two editions (document 01, "Trace", and request P9): 16 bytes, and 14 bytes that begin with 82h. Both are
 // read as the same plain numbers and refused by the same rules. It leans on settings_build and settings_rules for what they are
 // refused by, on codec_slices for the fields and on codec_fields for the zero bits.
+#![tactic(auto)]
+
 ghost use Rattle.std.specs.Prelude.{◌≡◌, ◌+◌, ◌≤◌, length};
 ghost use Rattle.codec_slices.specs.Slices.{field_at};
 ghost use Rattle.trace_headers.specs.declared.Edition.TheVariants as edition;
@@ -11,7 +13,7 @@ use codec_slices::field_at;
 use settings_build::PlainSettings;
 
 // A header as plain numbers, unchecked: the same in both editions.
-#[derive(Drop)]
+#[derive(Clone, Copy)]
 pub struct Header {
     pub settings: PlainSettings,
     pub applications: u8,
@@ -19,13 +21,14 @@ pub struct Header {
 }
 
 // The two editions of a header.
-#[derive(Drop)]
+#[derive(Clone, Copy)]
 pub enum Edition {
     First,
     Second,
 }
 
 // The edition of what begins with these bytes: 82h says edition 2.
+#[tactic(auto, using(crate::specs::Laws::first_of_none), unfolding(crate::specs::Headers::edition_of))]
 pub fn edition_of(trace: &[u8]) -> Edition
     ensures { result ≡ edition_of trace.now }
 {
@@ -39,6 +42,7 @@ pub fn edition_of(trace: &[u8]) -> Edition
 }
 
 // The bytes of a header of an edition.
+#[tactic(auto, unfolding(crate::specs::Headers::length_of))]
 pub fn length_of(edition: Edition) -> usize
     ensures { (result ≡ length_of edition) × (result ≤ 16) }
 {
@@ -56,6 +60,7 @@ pub fn header_length(trace: &[u8]) -> usize
 }
 
 // A field of at most 8 bits as a byte.
+#[tactic(auto, using(codec_slices::specs::Parts::field_small))]
 fn byte(bytes: &[u8], at: usize, width: usize) -> u8
     requires { width ≤ 8 }
     ensures { result ≡ field_at bytes.now at width }
@@ -64,6 +69,7 @@ fn byte(bytes: &[u8], at: usize, width: usize) -> u8
 }
 
 // A field of at most 16 bits.
+#[tactic(auto, using(codec_slices::specs::Parts::field_small))]
 fn short(bytes: &[u8], at: usize, width: usize) -> u16
     requires { width ≤ 16 }
     ensures { result ≡ field_at bytes.now at width }
@@ -72,6 +78,7 @@ fn short(bytes: &[u8], at: usize, width: usize) -> u16
 }
 
 // A field of at most 32 bits.
+#[tactic(auto, using(codec_slices::specs::Parts::field_small))]
 fn long(bytes: &[u8], at: usize, width: usize) -> u32
     requires { width ≤ 32 }
     ensures { result ≡ field_at bytes.now at width }
@@ -80,6 +87,7 @@ fn long(bytes: &[u8], at: usize, width: usize) -> u32
 }
 
 // What the 16 bytes of an edition 1 header say.
+#[tactic(auto, using(codec_slices::specs::Parts::bytes_known, crate::specs::Laws::read_in), unfolding(crate::specs::Laws::made_in, crate::specs::Headers::length_of))]
 fn read_first(bytes: &[u8]) -> Header
     requires { length bytes.now ≡ 16 }
     ensures { result ≡ header_in edition.First bytes.now }
@@ -103,6 +111,7 @@ fn read_first(bytes: &[u8]) -> Header
 }
 
 // The applications of edition 2, which holds one less in 3 bits.
+#[tactic(auto, using(codec_slices::specs::Parts::field_small))]
 fn applications(bytes: &[u8]) -> u8
     ensures { result ≡ field_at bytes.now 86 3 + 1 }
 {
@@ -110,6 +119,7 @@ fn applications(bytes: &[u8]) -> u8
 }
 
 // What the 14 bytes of an edition 2 header say.
+#[tactic(auto, using(codec_slices::specs::Parts::bytes_known, crate::specs::Laws::read_in), unfolding(crate::specs::Laws::made_in, crate::specs::Headers::length_of))]
 fn read_second(bytes: &[u8]) -> Header
     requires { length bytes.now ≡ 14 }
     ensures { result ≡ header_in edition.Second bytes.now }
@@ -133,6 +143,7 @@ fn read_second(bytes: &[u8]) -> Header
 }
 
 // A header all of whose numbers are zero.
+#[tactic(auto, unfolding(crate::specs::Headers::no_header))]
 fn no_header() -> Header
     ensures { result ≡ no_header }
 {
@@ -155,6 +166,7 @@ fn no_header() -> Header
 }
 
 // The header that these bytes begin with, in either edition; all numbers zero where they end inside it.
+#[tactic(auto, unfolding(crate::specs::Headers::header_of, crate::specs::Headers::length_of))]
 pub fn read_header(trace: &[u8]) -> Header
     ensures { result ≡ header_of trace.now }
 {
@@ -177,6 +189,7 @@ pub fn read_header(trace: &[u8]) -> Header
 
 // A header's first refusal, in document 01's order with 25 directly after 4: 1, 10, 2, 3, 4, 25, 5, 6, 7, 11, 8, 14; 0 for
 // none.
+#[tactic(auto, unfolding(crate::specs::Headers::header_refusal))]
 pub fn header_refusal(header: Header) -> u8
     ensures { result ≡ header_refusal header }
 {

@@ -1,5 +1,7 @@
 // A trace's header written in either edition (document 01, "Trace", and request P9). It leans on trace_headers for what a header
 // is and on codec_slices for the fields.
+#![tactic(auto)]
+
 ghost use Rattle.std.specs.Prelude.{◌≡◌, ◌-◌, length};
 ghost use Rattle.codec_slices.specs.Slices.{put_at};
 ghost use Rattle.trace_headers.specs.declared.Edition.TheVariants as edition;
@@ -30,6 +32,7 @@ fn put_long(out: &mut [u8], at: usize, width: usize, value: u32)
 }
 
 // Writes a header into the 16 bytes of edition 1.
+#[tactic(auto, using(codec_slices::specs::Parts::bytes_known, crate::specs::Laws::written_in, crate::specs::Laws::header_bytes_length), unfolding(trace_headers::specs::Headers::length_of))]
 fn write_first(out: &mut [u8], header: Header)
     requires { length out.old ≡ 16 }
     ensures { out.new ≡ header_bytes edition.First header }
@@ -60,6 +63,7 @@ fn less_one(n: u8) -> u8
 }
 
 // Writes a header into the 14 bytes of edition 2.
+#[tactic(auto, using(codec_slices::specs::Parts::bytes_known, crate::specs::Laws::written_in, crate::specs::Laws::header_bytes_length), unfolding(trace_headers::specs::Headers::length_of))]
 fn write_second(out: &mut [u8], header: Header)
     requires { length out.old ≡ 14 }
     ensures { out.new ≡ header_bytes edition.Second header }
@@ -82,6 +86,7 @@ fn write_second(out: &mut [u8], header: Header)
 
 // Writes a header in an edition into the first bytes of `out`; every other byte stays. Where `out` is too short all of it stays. Of
 // a number that does not fit its field the lowest bits are taken.
+#[tactic(auto, unfolding(trace_headers::specs::Headers::length_of, crate::specs::HeaderBytes::header_into))]
 pub fn write_header(out: &mut [u8], edition: Edition, header: Header)
     ensures { out.new ≡ header_into out.old edition header }
 {

@@ -1,6 +1,8 @@
 // Who was heard in a trace (request P7): the run over its entries with a table beside the station, fed with what each poll consumed.
 // It needs no room for answers. It leans on trace for the entries, on heard_telegrams and heard_shown for the table, on
 // trace_headers and station for the start.
+#![tactic(auto)]
+
 ghost use Rattle.std.specs.Prelude.{◌≡◌, ◌≤◌, ◌^◌, length, drop};
 ghost use Rattle.heard.specs.Heard.{hear_all};
 ghost use Rattle.station.specs.Whole.{station_at};
@@ -48,6 +50,7 @@ fn listen(
 // Runs over a whole trace, and writes what is then said of an address into the first 17 bytes of `entry`: times heard, first and last
 // clock, station type; 17 zero bytes for one that was never heard. Returns the entries answered × 256 + the ending number. Refused
 // with 26, the header's numbers, or 18 where `entry` is too short: then the number is returned and nothing is written.
+#[tactic(auto, using(trace::specs::Laws::settings_long, crate::specs::Laws::ends_refused, crate::specs::Laws::ends_header, crate::specs::Laws::ends_no_room, crate::specs::Laws::ends_run))]
 pub fn trace_heard(trace: &[u8], address: u8, entry: &mut [u8]) -> u64
     ensures value { result ≡ heard_number trace.now address (length entry.old) }
     ensures after { entry.new ≡ heard_into trace.now address entry.old }
