@@ -1,5 +1,5 @@
 -- The run over the ticks and the report that it writes. Assumes nothing.
-use Prim.Native.Nat.{ℕ, zero, suc, ◌+◌, ◌-◌, ◌*◌, ◌<◌, ◌≤◌}
+use Prim.Native.Nat.{ℕ, zero, suc, ◌+◌, ◌*◌, ◌<◌, ◌≤◌}
 use Rattle.std.specs.Prelude.{◌≡◌, refl, List, ◌++◌, length, get_or}
 use Rattle.std.proofs.Common.{ap, ◌∙◌, subst, append_assoc, append-nil, add-one, mul-suc, mul-le-mul_left, mul-le-mul, mul-zero}
 use Rattle.std.proofs.Math.Bool.{false}
@@ -9,8 +9,8 @@ use borrow.Author.Tests.{eq-eqb, ne_eqb, lt-ltb, le-ltb}
 use Rattle.std.proofs.Math.ListN.{drop, length-append}
 use Rattle.std.proofs.Math.Dec.{eqb}
 use Rattle.codec_fields.specs.Fields.{bytes_of, stored_of}
-use Rattle.codec_fields.specs.Laws.{low_length}
-use Rattle.codec_fields.specs.Stores.{store_next}
+use Rattle.codec_fields.proofs.Laws.{low_length}
+use Rattle.codec_fields.proofs.Stores.{store_next}
 use Rattle.codec_answers.specs.Answers.{answer_word}
 use Rattle.bus_setup.specs.Setup.{stations_of, tick_of, ticks_of, setup_refusal}
 use Rattle.bus_ticks.specs.declared.Bus.{Bus as BusKept}

@@ -10,6 +10,7 @@ use bus_ticks::{Bus, open_bus, tick};
 use codec_fields::store;
 
 // Writes the answers of a tick, 8 bytes each, from a place on; where there is no room for one it is left out.
+#[tactic(auto, using(crate::specs::Reports::answers_none, crate::specs::Reports::answers_more))]
 fn write_answers(report: &mut [u8], at: usize, words: [u64; 8], n: u8)
     requires { (n ≤ 8) × (at ≤ 2 ^ 32) }
     ensures { report.new ≡ answers_stored report.old at words n }
@@ -23,6 +24,7 @@ fn write_answers(report: &mut [u8], at: usize, words: [u64; 8], n: u8)
 }
 
 // Runs the ticks and writes the report.
+#[tactic(auto, using(crate::specs::Reports::running_done))]
 fn run_report(opened: Bus, n: u8, step: u64, ticks: u64, report: &mut [u8])
     requires { (n ≤ 8) × (step ≤ 1000000) × (ticks ≤ 1000000) }
     ensures { Reported opened n step ticks report.old report.new }

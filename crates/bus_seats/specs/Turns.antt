@@ -12,7 +12,7 @@ use Rattle.std.proofs.Math.ListN.{length, take, get_or, get_or-map}
 use Rattle.std.proofs.lemmas.List.{length-replicate}
 use Rattle.std.proofs.Math.Seq.{length-take-le}
 use Rattle.bit_times.specs.declared.Baud.{Baud}
-use Rattle.bit_times.specs.Laws.{time_bound}
+use Rattle.bit_times.proofs.Laws.{time_bound}
 use Rattle.codec_fields.specs.Fields.{stored_of}
 use Rattle.codec_telegrams.specs.Words.{telegram_word}
 use Rattle.codec_telegrams.specs.declared.Telegram.{Telegram}
@@ -21,7 +21,7 @@ use Rattle.codec_decisions.specs.declared.Decision.TheVariants.{Decline}
 use Rattle.codec_records.specs.declared.Head.{Head}
 use Rattle.codec_records_written.specs.Stored.{head_stored, decision_stored, telegram_stored}
 use Rattle.codec_records_written.specs.Whole.{record_bytes, decisions_stored, telegrams_stored, record_stored}
-use Rattle.codec_records_written.specs.Written.{round_trip}
+use Rattle.codec_records_written.proofs.Written.{round_trip}
 use Rattle.station.specs.Whole.{Station, station_at}
 use Rattle.station_answer.specs.Answer.{Polled}
 use Rattle.station_poll.specs.Poll.{poll_of}
@@ -29,8 +29,10 @@ use Rattle.bus_wire.specs.declared.Waiting.{Waiting}
 use Rattle.bus_wire.specs.declared.Wire.{Wire}
 use Rattle.bus_wire.specs.Wire.{bytes_time, heard_at, transmitting_at, newest}
 use Rattle.bus_wire.specs.Kept.{listed, arrives_at, left_of}
-use Rattle.bus_wire.specs.Waits.{Waits, waits_count, waits_few, waits_joined, waits_left}
-use Rattle.bus_wire.specs.Arrives.{OnWire, Arrival, arrival, own_latest, transmitting_is}
+use Rattle.bus_wire.specs.Waits.{Waits}
+use Rattle.bus_wire.proofs.Waits.{waits_count, waits_few, waits_joined, waits_left}
+use Rattle.bus_wire.specs.Arrives.{OnWire, Arrival, own_latest}
+use Rattle.bus_wire.proofs.ArrivesLaws.{arrival, transmitting_is}
 use Rattle.bus_seats.specs.declared.Seat.{Seat as SeatKept}
 use Rattle.codec_answers.specs.declared.Answer.{Answer}
 use Rattle.station.specs.declared.Station.{Station as StationKept}

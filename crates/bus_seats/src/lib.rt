@@ -94,6 +94,7 @@ fn word(waiting: Waiting, j: u8) -> u64
 }
 
 // Writes the telegrams into a record.
+#[tactic(auto, using(crate::specs::Turns::words_none, crate::specs::Turns::words_more, crate::specs::Turns::words_all))]
 fn write_words(bytes: &mut [u8], waiting: Waiting)
     ensures { bytes.new ≡ words_stored bytes.old waiting waiting.count }
 {
@@ -125,7 +126,6 @@ fn write_record(bytes: &mut [u8], clock: u64, transmitting: bool, waiting: Waiti
 }
 
 // A whole record.
-#[tactic(auto, using(crate::specs::Turns::record_made))]
 fn make_record(clock: u64, transmitting: bool, waiting: Waiting) -> Record
     ensures { RecordIs clock transmitting waiting result }
 {

@@ -58,7 +58,6 @@ fn code(setup: &[u8], j: u8) -> u64
 }
 
 // Writes the header of a station's trace, edition 1.
-#[tactic(auto, using(crate::specs::Laws::header_made))]
 pub fn write_header(setup: &[u8], j: u8, header: &mut [u8; 16])
     ensures { header.new ≡ station_header setup.now j }
 {
@@ -105,6 +104,7 @@ fn other(setup: &[u8], j: u8) -> u64
 }
 
 // The place of a station by rising address: how many of the n stations have a lower one.
+#[tactic(auto, using(crate::specs::Laws::sum_none, crate::specs::Laws::sum_more), unfolding(crate::specs::Setup::rank_of))]
 fn rank(setup: &[u8], n: u8, j: u8) -> u8
     ensures { result ≡ rank_of setup.now n j }
 {
@@ -118,6 +118,7 @@ fn rank(setup: &[u8], n: u8, j: u8) -> u8
 }
 
 // How many of the stations given before have the address of station j.
+#[tactic(auto, using(crate::specs::Laws::sum_none, crate::specs::Laws::sum_more, crate::specs::Laws::twins_all))]
 fn twins(setup: &[u8], j: u8) -> u64
     ensures { (result ≡ twins_of setup.now j) × (result ≤ 255) }
 {
@@ -131,6 +132,7 @@ fn twins(setup: &[u8], j: u8) -> u64
 }
 
 // How many pairs of the first n stations have equal addresses.
+#[tactic(auto, using(crate::specs::Laws::sum_none, crate::specs::Laws::sum_more), unfolding(crate::specs::Setup::pairs_of))]
 fn pairs(setup: &[u8], n: u8) -> u64
     ensures { result ≡ pairs_of setup.now n }
 {
@@ -144,6 +146,7 @@ fn pairs(setup: &[u8], n: u8) -> u64
 }
 
 // How many of the first n stations have a code other than the first station's.
+#[tactic(auto, using(crate::specs::Laws::sum_none, crate::specs::Laws::sum_more), unfolding(crate::specs::Setup::others_of))]
 fn others(setup: &[u8], n: u8) -> u64
     ensures { result ≡ others_of setup.now n }
 {
@@ -167,6 +170,7 @@ fn found_at(setup: &[u8], n: u8, i: u8, j: u8, found: u8) -> u8
 }
 
 // The station at a place by rising address, as given.
+#[tactic(auto, using(crate::specs::Laws::placed_none, crate::specs::Laws::placed_more, crate::specs::Laws::placed_all))]
 pub fn placed(setup: &[u8], n: u8, i: u8) -> u8
     ensures { result ≡ placed_of setup.now n i }
 {
@@ -207,6 +211,7 @@ fn earlier(first: u8, second: u8) -> u8
 }
 
 // The first refusal of the stations' settings, in the order given, or 0.
+#[tactic(auto, using(crate::specs::Laws::first_none, crate::specs::Laws::first_more), unfolding(crate::specs::Setup::settings_refusal))]
 fn settings_refusal(setup: &[u8], n: u8) -> u8
     ensures { result ≡ settings_refusal setup.now n }
 {

@@ -11,8 +11,9 @@ use Rattle.station_command.specs.Command.{online_of}
 use Rattle.trace.specs.Trace.{settings_at}
 use Rattle.bus_setup.specs.Setup.{stations_of, tick_of, ticks_of, station_header, placed_of}
 use Rattle.bus_wire.specs.Kept.{quiet, nothing_waits}
-use Rattle.bus_wire.specs.Waits.{waits_none}
-use Rattle.bus_wire.specs.Arrives.{wire_quiet, own_latest}
+use Rattle.bus_wire.proofs.Waits.{waits_none}
+use Rattle.bus_wire.specs.Arrives.{own_latest}
+use Rattle.bus_wire.proofs.ArrivesLaws.{wire_quiet}
 use Rattle.bus_run.specs.Run.{settings_in, start_seat, bus_at}
 use Rattle.bus_seats.specs.declared.Seat.{Seat as SeatKept}
 use Rattle.bus_seats.specs.Turns.{SeatIs}

@@ -1,5 +1,5 @@
 -- A tick of the code is a tick of the bus: where the loop over its stations stands, and what it leaves. Assumes nothing.
-use Prim.Native.Nat.{ℕ, zero, suc, ◌+◌, ◌-◌, ◌*◌, ◌<◌, ◌≤◌}
+use Prim.Native.Nat.{ℕ, zero, suc, ◌+◌, ◌*◌, ◌<◌, ◌≤◌}
 use Rattle.std.specs.Prelude.{◌≡◌, List, ◌∷◌, cond, ◌⊎◌, length, take, get_or, set}
 use Rattle.std.proofs.Math.Path.{refl, subst}
 use Rattle.std.proofs.Common.{sym, ap, ◌∙◌, inl, inr, ⊎_elim, add-one, eq-or-lt_of_le, length-set, get_or-set_same, get_or-set_other}
@@ -9,7 +9,7 @@ use borrow.Author.Tests.{eq-eqb, ne_eqb, lt-ltb, le-ltb, eqb-true, eqb-false}
 use borrow.Table.Steps.{cases}
 use Rattle.std.proofs.Math.Dec.{eqb}
 use Rattle.bit_times.specs.declared.Baud.{Baud}
-use Rattle.bit_times.specs.Laws.{time_some}
+use Rattle.bit_times.proofs.Laws.{time_some}
 use Rattle.codec_telegrams.specs.Words.{telegram_word}
 use Rattle.codec_answers.specs.declared.Answer.{Answer}
 use Rattle.codec_answers.specs.Answers.{sent_bytes, answer_word}
@@ -17,7 +17,8 @@ use Rattle.station.specs.Whole.{Station}
 use Rattle.bus_wire.specs.declared.Wire.{Wire}
 use Rattle.bus_wire.specs.Wire.{Transmission, bytes_time, sent_telegram}
 use Rattle.bus_wire.specs.Kept.{later_of, sent_on, cleared_at}
-use Rattle.bus_wire.specs.Arrives.{all_map, OnWire, wire_cleared, Before, wire_sent, own_latest}
+use Rattle.bus_wire.specs.Arrives.{OnWire, Before, own_latest}
+use Rattle.bus_wire.proofs.ArrivesLaws.{all_map, wire_cleared, wire_sent}
 use Rattle.bus_seats.specs.declared.Seat.{Seat as SeatKept}
 use Rattle.bus_seats.specs.declared.Record.{Record}
 use Rattle.bus_seats.specs.declared.Place.{Place}
@@ -214,8 +215,8 @@ module _ {tick n : ℕ} {b : Bus} {now chosen i : ℕ} {heard : Wire} {seats : L
   either : AfterTurn
   either = cases (eqb (bytes_for tick b now i) 0) (λ e. silent (eqb-true _ _ e)) (λ e. sends (eqb-false _ _ e))
 
-  seat_after : SeatIs (seat_after tick b now i) (own_latest (sent_after tick b now (suc i)) i) r.seat
-  seat_after =
+  seat_after_lem : SeatIs (seat_after tick b now i) (own_latest (sent_after tick b now (suc i)) i) r.seat
+  seat_after_lem =
       let s = turn_seat tick now i b heard (get_or seats i d) p.turn heard_is seat_before p.is in
       rw p.seat (record { station = s.station; waits = s.waits; until_is = either.2 })
 
@@ -238,7 +239,7 @@ module _ {tick n : ℕ} {b : Bus} {now chosen i : ℕ} {heard : Wire} {seats : L
       })
     where
       done_here : (d' : SeatKept) (k : ℕ) → k ≡ i → SeatIs (seat_after tick b now k) (own_latest (sent_after tick b now (suc i)) k) (get_or (set seats i r.seat) k d')
-      done_here d' k s = rw (s, get_or-set_same seats i r.seat d' (let long = g.long in omega arith)) seat_after
+      done_here d' k s = rw (s, get_or-set_same seats i r.seat d' (let long = g.long in omega arith)) seat_after_lem
 
       done_there : (d' : SeatKept) (k : ℕ) → k < i → SeatIs (seat_after tick b now k) (own_latest (sent_after tick b now (suc i)) k) (get_or (set seats i r.seat) k d')
       done_there d' k l = rw (get_or-set_other seats i k r.seat d' (λ s. omega arith), own_step tick now b i k (λ s. omega arith)) (g.done d' k l)

@@ -156,6 +156,7 @@ fn open_seat(setup: &[u8], n: u8, place: u8) -> Seat
 }
 
 // The bus at the start: a fresh station at each place, online, and nothing was sent.
+#[tactic(auto, using(crate::specs::Starts::filled_none))]
 pub fn open_bus(setup: &[u8], n: u8) -> Bus
     requires { n ≤ 8 }
     ensures { BusStarts setup.now n result }

@@ -22,6 +22,7 @@ fn put_byte(trace: &mut [u8], at: usize, byte: u8)
 }
 
 // Writes bytes from a place on; those that there is no room for are left out.
+#[tactic(auto, using(crate::specs::Traces::copying_none, crate::specs::Traces::copying_more, crate::specs::Traces::copying_all))]
 fn put_bytes(trace: &mut [u8], at: usize, bytes: &[u8])
     requires { at + length bytes.now < 2 ^ 64 }
     ensures { trace.new ≡ bytes_in trace.old at bytes.now }
@@ -46,6 +47,7 @@ fn put_entry(trace: &mut [u8], at: usize, given: Record)
 }
 
 // Runs the ticks and writes the chosen station's entries from a place on; gives the place behind them.
+#[tactic(auto, using(crate::specs::Traces::tracing_first, crate::specs::Traces::tracing_next, crate::specs::Traces::tracing_done))]
 fn put_entries(
     opened: Bus,
     n: u8,

@@ -169,6 +169,7 @@ pub fn joined(waiting: Waiting, word: u64) -> Waiting
 }
 
 // The telegrams without the k oldest.
+#[tactic(auto, using(crate::proofs::Waits::left_none, crate::proofs::Waits::left_more))]
 pub fn without(waiting: Waiting, k: u8) -> Waiting
     ensures { result ≡ left_of waiting k }
 {

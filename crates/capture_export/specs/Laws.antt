@@ -12,7 +12,7 @@ use borrow.Table.Steps.{cases}
 use borrow.Rule.Slice.PartMut.{put_mid}
 use Rattle.std.proofs.Math.ListN.{length, take}
 use Rattle.std.proofs.Math.Dec.{eqb, ltb}
-use Rattle.codec_fields.specs.Laws.{never}
+use Rattle.codec_fields.proofs.Laws.{never}
 use Rattle.codec_telegrams.specs.declared.Telegram.{Telegram}
 use Rattle.codec_telegrams.specs.Words.{telegram_of, telegram_refusal}
 use Rattle.codec_frames.specs.Frames.{Written, not_written, fitted, write_of, write_number, written_over, frame_bytes, is_other_request}

@@ -49,6 +49,7 @@ fn write_word(text: &mut [u8], time: u64, word: u64) -> LineWritten
 }
 
 // Writes the lines of a record's telegrams, one behind the other; 18 before the first that has no room.
+#[tactic(auto, using(codec_records::specs::Records::head_of, crate::specs::Laws::over_length, crate::specs::Laws::lined_none, crate::specs::Laws::lined_all, crate::specs::Laws::lined_full, crate::specs::Laws::lined_long, crate::specs::Laws::lined_room, crate::specs::Laws::lined_more))]
 fn write_lines(text: &mut [u8], bytes: &[u8]) -> LineWritten
     ensures value { result ≡ line_written (lines_fitted (record_lines bytes.now) (length text.old)) }
     ensures text_after { text.new ≡ written_over (lines_fitted (record_lines bytes.now) (length text.old)) text.old }
@@ -118,6 +119,7 @@ fn write_entry(entries: &[u8], text: &mut [u8]) -> EntryWritten
 
 // Exports entries: the lines stand at the start of `text`, and the bytes past them stay. The first bad entry decides; an export
 // without room keeps the earlier lines of the same entry.
+#[tactic(auto, using(crate::specs::Laws::goes_first, crate::specs::Laws::goes_length, crate::specs::Laws::goes_done, crate::specs::Laws::goes_room, crate::specs::Laws::goes_long, crate::specs::Laws::goes_refused, crate::specs::Laws::goes_next))]
 pub fn export_capture(entries: &[u8], text: &mut [u8]) -> Exported
     ensures value { result ≡ exported_of (export_of entries.now (length text.old)) }
     ensures text_after { text.new ≡ buffer_of (export_of entries.now (length text.old)) text.old }

@@ -76,7 +76,7 @@ fn write_record(bytes: &mut [u8], time: u64, heard: Telegram)
 }
 
 // Writes an entry with one telegram into its bytes.
-#[tactic(auto, using(crate::specs::Import::new_poll, crate::specs::Laws::entry_written_lem, crate::specs::Laws::entry_length_lem))]
+#[tactic(auto, using(crate::specs::Import::new_poll, crate::proofs::Laws::entry_written_lem, crate::proofs::Laws::entry_length_lem))]
 fn write_entry(entry: &mut [u8], time: u64, heard: Telegram)
     requires { length entry.old ≡ 19 }
     ensures { entry.new ≡ entry_bytes (new_poll time heard) }
@@ -95,7 +95,7 @@ fn extend_record(bytes: &mut [u8], time: u64, telegrams: u8, heard: Telegram)
 }
 
 // Makes one telegram more of an entry: its length, and its record.
-#[tactic(auto, using(crate::specs::Laws::extended_written, crate::specs::Laws::extended_length))]
+#[tactic(auto, using(crate::proofs::Laws::extended_written, crate::proofs::Laws::extended_length))]
 fn extend(entry: &mut [u8], time: u64, telegrams: u8, heard: Telegram)
     requires { (1 ≤ length entry.old) × (telegrams ≤ 8) }
     ensures { entry.new ≡ extended_bytes entry.old time telegrams heard }
@@ -105,7 +105,7 @@ fn extend(entry: &mut [u8], time: u64, telegrams: u8, heard: Telegram)
 }
 
 // A new entry behind the newest, or 18 where there is no room for it.
-#[tactic(auto, using(crate::specs::Laws::added_written), unfolding(crate::specs::Turns::added_taken, crate::specs::Turns::added_left))]
+#[tactic(auto, using(crate::proofs::Laws::added_written), unfolding(crate::specs::Turns::added_taken, crate::specs::Turns::added_left))]
 fn add_entry(entries: &mut [u8], newest: Newest, time: u64, heard: Telegram, used: usize) -> Taken
     requires { Fits newest (length entries.old) }
     ensures value { result ≡ added_taken newest time used (length entries.old) }
@@ -130,7 +130,7 @@ fn add_entry(entries: &mut [u8], newest: Newest, time: u64, heard: Telegram, use
 }
 
 // One telegram more in the newest entry, or 18 where there is no room for it.
-#[tactic(auto, using(crate::specs::Laws::newest_written), unfolding(crate::specs::Turns::extended_taken, crate::specs::Turns::extended_left))]
+#[tactic(auto, using(crate::proofs::Laws::newest_written), unfolding(crate::specs::Turns::extended_taken, crate::specs::Turns::extended_left))]
 fn extend_newest(entries: &mut [u8], newest: Newest, heard: Telegram, used: usize) -> Taken
     requires { Fits newest (length entries.old) }
     ensures value { result ≡ extended_taken newest used (length entries.old) }
@@ -229,6 +229,7 @@ fn take_line(text: &[u8], entries: &mut [u8], newest: Newest) -> Taken
 
 // Imports a capture: the entries stand at the start of `entries`, and the bytes past them stay. The first bad line decides; nothing
 // of it or after it is written.
+#[tactic(auto, using(crate::proofs::Laws::goes_first, crate::proofs::Laws::goes_fit, crate::proofs::Laws::goes_length, crate::proofs::Laws::goes_done, crate::proofs::Laws::goes_kept, crate::proofs::Laws::goes_refused, crate::proofs::Laws::goes_next))]
 pub fn import_capture(text: &[u8], entries: &mut [u8]) -> Imported
     ensures value { result ≡ imported_of (import_of text.now (length entries.old)) }
     ensures entries_after { entries.new ≡ buffer_of (import_of text.now (length entries.old)) entries.old }

@@ -1,6 +1,6 @@
 -- The lines of a capture (document 02, P13): a decimal time in microseconds, one space, the frame as one or more pairs of hex
 -- digits, lower or upper case, one per line, ended by a line feed. Assumes nothing.
-use Rattle.std.specs.Prelude.{ℕ, ◌+◌, ◌-◌, ◌*◌, ◌^◌, List, [], ◌∷◌, Bool, true, false, cond, not, ◌&&◌, length, get_or, drop, eqb, ltb, leb}
+use Rattle.std.specs.Prelude.{ℕ, ◌+◌, ◌-◌, ◌*◌, ◌^◌, List, [], ◌∷◌, Bool, true, false, cond, not, ◌&&◌, length, drop, eqb, ltb, leb}
 use Rattle.codec_frames.specs.declared.FrameRead.{FrameRead}
 use Rattle.codec_frames.specs.declared.FrameRead.TheVariants as frame
 use Rattle.codec_frames.specs.Frames.{frame_of}

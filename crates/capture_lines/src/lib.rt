@@ -58,7 +58,7 @@ fn is_between(byte: u8, low: u8, high: u8) -> bool
 }
 
 // The value of a hex digit, lower or upper case; 16 for any other byte.
-#[tactic(auto, using(crate::specs::Laws::between_is), unfolding(crate::specs::Lines::digit_of))]
+#[tactic(auto, using(crate::proofs::Laws::between_is), unfolding(crate::specs::Lines::digit_of))]
 fn digit_of(byte: u8) -> u8
     ensures { result ≡ digit_of byte }
 {
@@ -90,6 +90,7 @@ fn with_digit(value: u64, digit: u8) -> u64
 }
 
 // The decimal digits at the start of a slice.
+#[tactic(auto, using(crate::specs::Ways::digits_from, crate::proofs::Laws::digits_end, crate::proofs::Laws::digits_stop, crate::proofs::Laws::digits_go))]
 fn read_digits(text: &[u8]) -> Digits
     ensures { result ≡ digits_from 0 0 text.now }
 {
@@ -132,6 +133,7 @@ fn put_at(bytes: &mut [u8], at: usize, byte: u8)
 }
 
 // The pairs of hex digits at the start of a slice: how many there are, and their bytes into `frame`, as far as it goes.
+#[tactic(auto, using(crate::proofs::Laws::paired_none, crate::proofs::Laws::paired_end, crate::proofs::Laws::paired_high, crate::proofs::Laws::paired_low, crate::proofs::Laws::paired_more))]
 fn read_pairs(text: &[u8], frame: &mut [u8]) -> usize
     ensures value { result ≡ length (pairs_at text.now) }
     ensures frame_after { frame.new ≡ sets frame.old 0 (pairs_at text.now) }
@@ -195,7 +197,7 @@ fn line_said(time: u64, read: FrameRead, count: usize, used: usize) -> LineRead
 }
 
 // The rest of a line, after the `begun` bytes of its time and the space.
-#[tactic(auto, using(crate::specs::Laws::pairs_within, crate::specs::Laws::rest_none, crate::specs::Laws::rest_cut, crate::specs::Laws::rest_other, crate::specs::Laws::rest_ended))]
+#[tactic(auto, using(crate::proofs::Laws::pairs_within, crate::proofs::Laws::rest_none, crate::proofs::Laws::rest_cut, crate::proofs::Laws::rest_other, crate::proofs::Laws::rest_ended))]
 fn read_rest(text: &[u8], time: u64, begun: usize) -> LineRead
     requires { begun + length text.now < 2 ^ 64 }
     ensures { result ≡ rest_way text.now time begun }
@@ -216,7 +218,7 @@ fn read_rest(text: &[u8], time: u64, begun: usize) -> LineRead
 }
 
 // The line at the start of a slice. Bytes behind it are not looked at.
-#[tactic(auto, using(crate::specs::Laws::digits_within, crate::specs::Laws::line_none, crate::specs::Laws::line_late, crate::specs::Laws::line_led, crate::specs::Laws::line_cut, crate::specs::Laws::line_other, crate::specs::Laws::line_rest))]
+#[tactic(auto, using(crate::proofs::Laws::digits_within, crate::proofs::Laws::line_none, crate::proofs::Laws::line_late, crate::proofs::Laws::line_led, crate::proofs::Laws::line_cut, crate::proofs::Laws::line_other, crate::proofs::Laws::line_rest))]
 pub fn read_line(text: &[u8]) -> LineRead
     ensures { result ≡ line_at text.now }
 {

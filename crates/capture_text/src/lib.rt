@@ -23,6 +23,7 @@ pub struct LineWritten {
 }
 
 // How many decimal digits a number has, up to 15.
+#[tactic(auto, using(crate::specs::Text::most_digits, crate::specs::Laws::counted_none, crate::specs::Laws::counted_last, crate::specs::Laws::counted_more, crate::specs::Laws::counted_all))]
 fn digit_count(number: u64) -> usize
     ensures { (result ≡ digit_count most_digits number) × (result ≤ most_digits) }
 {
@@ -39,6 +40,7 @@ fn digit_count(number: u64) -> usize
 }
 
 // Fills a slice with the last decimal digits of a number.
+#[tactic(auto, using(crate::specs::Laws::filled_none, crate::specs::Laws::filled_more, crate::specs::Laws::filled_all))]
 fn write_digits(text: &mut [u8], number: u64)
     ensures { text.new ≡ last_digits (length text.old) number }
 {
@@ -64,6 +66,7 @@ fn hex_digit(number: u8) -> u8
 }
 
 // Writes bytes as hex digits at the start of a slice.
+#[tactic(auto, using(crate::specs::Laws::hexed_none, crate::specs::Laws::hexed_more, crate::specs::Laws::hexed_all))]
 fn write_hex(text: &mut [u8], bytes: &[u8])
     requires { 2 * length bytes.now ≤ length text.old }
     ensures { text.new ≡ sets text.old 0 (hex_text bytes.now) }

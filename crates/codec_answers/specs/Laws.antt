@@ -4,8 +4,8 @@ use Rattle.std.proofs.Common.{sym, ap, ◌∙◌, subst, arith, eq-eqb, ne_eqb, 
 use Rattle.std.proofs.lemmas.Bool.{eqb-false}
 use borrow.Table.Steps.{cases}
 use Rattle.codec_fields.specs.Fields.{field_of, bit_number, unpack, Within}
-use Rattle.codec_fields.specs.Widths.{field_below}
-use Rattle.codec_fields.specs.Laws.{unpack_put, bit_below, bit_read}
+use Rattle.codec_fields.proofs.Widths.{field_below}
+use Rattle.codec_fields.proofs.Laws.{unpack_put, bit_below, bit_read}
 use Rattle.codec_telegrams.specs.Laws.{state_read, state_below}
 use Rattle.codec_answers.specs.declared.Outcome.{Outcome}
 use Rattle.codec_answers.specs.declared.Outcome.TheVariants.{None, Offline, Transmission, Bus, Delay}

@@ -46,7 +46,7 @@ fn length_refusal(length: u8) -> u8
 }
 
 // 14 for a decision's word with a bit that should be zero, else 15 for one that sends 0 bytes, 0 for any other.
-#[tactic(auto, using(codec_fields::specs::Fields::zero_or14, codec_fields::specs::Laws::zeros_field), unfolding(crate::specs::Decisions::decision_refusal))]
+#[tactic(auto, using(codec_fields::specs::Fields::zero_or14, codec_fields::proofs::Laws::zeros_field), unfolding(crate::specs::Decisions::decision_refusal))]
 pub fn decision_refusal(word: u64) -> u8
     ensures { result ≡ decision_refusal word }
 {

@@ -7,7 +7,7 @@ ghost use Rattle.std.specs.Prelude.{◌≡◌, ◌+◌, ◌^◌, ◌<◌, ◌≤
 ghost use Rattle.codec_fields.specs.Fields.{field_of, bit_at, up_to, put_of, bit_number, zero_or14, be, has_room, load_of, over_of, stored_of};
 
 // The `width` bits of `word` that stand above its lowest `at`.
-#[tactic(auto, using(crate::specs::Widths::field_past, crate::specs::Widths::field_whole, crate::specs::Widths::mask_some, crate::specs::Widths::masked))]
+#[tactic(auto, using(crate::proofs::Widths::field_past, crate::proofs::Widths::field_whole, crate::proofs::Widths::mask_some, crate::proofs::Widths::masked))]
 pub fn field(word: u64, at: u64, width: u64) -> u64
     ensures { result ≡ field_of word at width }
 {
@@ -21,7 +21,7 @@ pub fn field(word: u64, at: u64, width: u64) -> u64
 }
 
 // A field of at most 8 bits as a byte: of a wider one the lowest 8.
-#[tactic(auto, using(crate::specs::Widths::field_below))]
+#[tactic(auto, using(crate::proofs::Widths::field_below))]
 pub fn field_byte(word: u64, at: u64, width: u64) -> u8
     ensures { result ≡ field_of word at (up_to 8 width) }
 {
@@ -32,7 +32,7 @@ pub fn field_byte(word: u64, at: u64, width: u64) -> u8
 }
 
 // A field of at most 16 bits: of a wider one the lowest 16.
-#[tactic(auto, using(crate::specs::Widths::field_below))]
+#[tactic(auto, using(crate::proofs::Widths::field_below))]
 pub fn field_short(word: u64, at: u64, width: u64) -> u16
     ensures { result ≡ field_of word at (up_to 16 width) }
 {
@@ -43,7 +43,7 @@ pub fn field_short(word: u64, at: u64, width: u64) -> u16
 }
 
 // A field of at most 32 bits: of a wider one the lowest 32.
-#[tactic(auto, using(crate::specs::Widths::field_below))]
+#[tactic(auto, using(crate::proofs::Widths::field_below))]
 pub fn field_long(word: u64, at: u64, width: u64) -> u32
     ensures { result ≡ field_of word at (up_to 32 width) }
 {
@@ -61,7 +61,7 @@ pub fn bit(word: u64, at: u64) -> bool
 }
 
 // `word` with the lowest `width` bits of `value` put below it; what stands above 64 bits falls away.
-#[tactic(auto, using(crate::specs::Widths::put_whole, crate::specs::Widths::placed))]
+#[tactic(auto, using(crate::proofs::Widths::put_whole, crate::proofs::Widths::placed))]
 pub fn put(word: u64, width: u64, value: u64) -> u64
     ensures { result ≡ put_of word width value }
 {
@@ -121,6 +121,7 @@ fn wide(b: u8) -> u64
 }
 
 // The number that `count` bytes of `s` from `at` are, the first the highest.
+#[tactic(auto, using(crate::specs::Fields::be, crate::proofs::Widths::grown, crate::proofs::Widths::put_plain, crate::proofs::Widths::be_suc), unfolding(crate::specs::Fields::be_from))]
 fn number(s: &[u8], at: usize, count: usize) -> u64
     requires { (count ≤ 8) × (at + count ≤ length s.now) }
     ensures { result ≡ be (take count (drop at s.now)) }
@@ -151,7 +152,7 @@ fn has_room(length: usize, at: usize, count: usize) -> bool
 }
 
 // The number that `count` bytes of `s` from `at` are, the first the highest; 0 where `s` ends before, and for more than 8 bytes.
-#[tactic(auto, using(crate::specs::Stores::room_of_lem), unfolding(crate::specs::Fields::load_of))]
+#[tactic(auto, using(crate::proofs::Stores::room_of_lem), unfolding(crate::specs::Fields::load_of))]
 pub fn load(s: &[u8], at: usize, count: usize) -> u64
     ensures { result ≡ load_of s.now at count }
 {
@@ -162,6 +163,7 @@ pub fn load(s: &[u8], at: usize, count: usize) -> u64
 }
 
 // Writes the lowest `count` bytes of `word` over those of `s` from `at`, the highest first.
+#[tactic(auto, using(crate::specs::Fields::over_of, crate::proofs::Stores::over_none, crate::proofs::Stores::over_all))]
 fn write_over(s: &mut [u8], at: usize, count: usize, word: u64)
     requires { (count ≤ 8) × (at + count ≤ length s.old) }
     ensures { s.new ≡ over_of s.old at count word }
@@ -175,7 +177,7 @@ fn write_over(s: &mut [u8], at: usize, count: usize, word: u64)
 
 // Writes the lowest `count` bytes of `word` into `s` from `at`, the highest first; every other byte stays. Where `s` ends before,
 // and for more than 8 bytes, all of `s` stays.
-#[tactic(auto, using(crate::specs::Stores::room_of_lem), unfolding(crate::specs::Fields::stored_of))]
+#[tactic(auto, using(crate::proofs::Stores::room_of_lem), unfolding(crate::specs::Fields::stored_of))]
 pub fn store(s: &mut [u8], at: usize, count: usize, word: u64)
     ensures { s.new ≡ stored_of s.old at count word }
 {

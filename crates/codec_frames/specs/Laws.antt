@@ -7,7 +7,7 @@ use borrow.Author.Tests.{eq-eqb, ne_eqb, lt-ltb, le-ltb, leb-true}
 use borrow.Table.Steps.{cases}
 use Rattle.std.proofs.lemmas.List.Edits.{sets, sets-eq}
 use Rattle.codec_fields.specs.Fields.{field_of, bit_at, put_of, put_all, total}
-use Rattle.codec_fields.specs.Widths.{grown}
+use Rattle.codec_fields.proofs.Widths.{grown}
 use Rattle.codec_telegrams.specs.declared.Telegram.{Telegram}
 use Rattle.codec_telegrams.specs.declared.Telegram.TheVariants.{ShortConfirmation, Request, Response}
 use Rattle.codec_telegrams.specs.declared.ResponseState.{ResponseState}

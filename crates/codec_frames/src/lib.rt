@@ -69,6 +69,7 @@ fn start_of(byte: u8) -> Start
 }
 
 // The check byte of bytes: their sum modulo 256.
+#[tactic(auto, using(crate::specs::Laws::check_more), unfolding(crate::specs::Frames::check_of))]
 pub fn check_byte(bytes: &[u8]) -> u8
     ensures { result ≡ check_of bytes.now }
 {

@@ -6,12 +6,12 @@ use Rattle.std.proofs.lemmas.Bool.{eqb-false}
 use borrow.Table.Steps.{cases}
 use Rattle.std.proofs.Math.ListN.{length}
 use Rattle.codec_fields.specs.Fields.{bit_number, load_of}
-use Rattle.codec_fields.specs.Widths.{field_below}
-use Rattle.codec_fields.specs.Laws.{never, bit_below}
+use Rattle.codec_fields.proofs.Widths.{field_below}
+use Rattle.codec_fields.proofs.Laws.{never, bit_below}
 use Rattle.codec_telegrams.specs.Words.{telegram_word, TelegramFits}
 use Rattle.codec_decisions.specs.Decisions.{decision_word, DecisionFits}
 use Rattle.codec_telegrams.specs.Laws.{telegram_fits, telegram_written}
-use Rattle.codec_decisions.specs.Laws.{decision_written}
+use Rattle.codec_decisions.proofs.Laws.{decision_written}
 use Rattle.codec_records.specs.Records.{head_of, count_of, decision_word_at, telegram_word_at, decision_at, telegram_at, entry_refusal, words_refusal, record_refusal}
 
 -- none of the first k, and that of k not either: none of the first k + 1

@@ -4,8 +4,8 @@ use Rattle.std.specs.Prelude.{ℕ, zero, suc, ◌+◌, ◌-◌, ◌*◌, ◌^◌
 use Rattle.std.proofs.Common.{sym, ap, ◌∙◌, ⊎_elim, add-one, arith, eq-or-lt_of_le, eq-eqb, ne_eqb, lt-ltb, le-ltb, eqb-true, lit≤}
 use borrow.Table.Steps.{cases}
 use Rattle.codec_fields.specs.Fields.{field_of, bit_number, zeros_or14, be, be_from, load_of}
-use Rattle.codec_fields.specs.Widths.{be_suc}
-use Rattle.codec_fields.specs.Stores.{load_room}
+use Rattle.codec_fields.proofs.Widths.{be_suc}
+use Rattle.codec_fields.proofs.Stores.{load_room}
 use Rattle.codec_telegrams.specs.Words.{telegram_refusal}
 use Rattle.codec_decisions.specs.Decisions.{decision_refusal}
 use Rattle.codec_records.specs.Records.{decision_word_at, telegram_word_at, entry_refusal, words_refusal}

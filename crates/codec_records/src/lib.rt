@@ -95,6 +95,7 @@ fn decisions_refusal(bytes: &[u8], application: u8) -> u8
 }
 
 // The first refusal among a record's entries from the left: the decisions, then the telegrams.
+#[tactic(auto, using(crate::specs::Laws::none_more, crate::specs::Laws::first_is, crate::specs::Shortcut::decisions_refusal, crate::specs::Shortcut::refused_decisions, crate::specs::Shortcut::refused_telegrams), unfolding(crate::specs::Records::words_refusal, crate::specs::Shortcut::telegram_refusal_at))]
 fn entries_refusal(bytes: &[u8], applications: u8, telegrams: u8) -> u8
     ensures { result ≡ entries_refusal bytes.now applications telegrams }
 {

@@ -26,7 +26,7 @@ fn bits_behind(at: usize, width: usize) -> u64
 
 // The `width` bits of `s` from bit `at` on, bit 0 the highest of the first byte; 0 where `s` ends before, and for a field that
 // touches more than 8 bytes.
-#[tactic(auto, using(crate::specs::Parts::bytes_known, crate::specs::Parts::field_by_word, crate::specs::Parts::field_too_wide))]
+#[tactic(auto, using(crate::proofs::Parts::bytes_known, crate::proofs::Parts::field_by_word, crate::proofs::Parts::field_too_wide))]
 pub fn field_at(s: &[u8], at: usize, width: usize) -> u64
     ensures { result ≡ field_at s.now at width }
 {
@@ -52,7 +52,7 @@ fn over_word(word: u64, after: u64, width: u64, value: u64) -> u64
 
 // Writes the lowest `width` bits of `value` into `s` from bit `at` on; every other bit stays. Where `s` ends before, and for a
 // field that touches more than 8 bytes, all of `s` stays.
-#[tactic(auto, using(crate::specs::Parts::bytes_known, crate::specs::Parts::put_by_word, crate::specs::Parts::put_too_wide))]
+#[tactic(auto, using(crate::proofs::Parts::bytes_known, crate::proofs::Parts::put_by_word, crate::proofs::Parts::put_too_wide))]
 pub fn put_at(s: &mut [u8], at: usize, width: usize, value: u64)
     ensures { s.new ≡ put_at s.old at width value }
 {

@@ -4,8 +4,8 @@ use Rattle.std.proofs.Common.{sym, ap, arith, leb-false, eqb-true, lit<, lit≤}
 use Rattle.std.proofs.lemmas.Bool.{lt-leb, eqb-false}
 use borrow.Table.Steps.{cases}
 use Rattle.codec_fields.specs.Fields.{field_of, bit_number, zeros_or14, unpack, Within}
-use Rattle.codec_fields.specs.Widths.{field_below}
-use Rattle.codec_fields.specs.Laws.{unpack_put, put_unpack, put_below, never, same_at, zero_fields, bit_below, bit_read, bit_written}
+use Rattle.codec_fields.proofs.Widths.{field_below}
+use Rattle.codec_fields.proofs.Laws.{unpack_put, put_unpack, put_below, never, same_at, zero_fields, bit_below, bit_read, bit_written}
 use Rattle.codec_telegrams.specs.declared.ResponseState.{ResponseState}
 use Rattle.codec_telegrams.specs.declared.ResponseState.TheVariants.{Slave, MasterNotReady, MasterWithoutToken, MasterInRing}
 use Rattle.codec_telegrams.specs.declared.Telegram.{Telegram}

@@ -101,7 +101,7 @@ pub fn read_telegram(word: u64) -> Telegram
 }
 
 // 14 for a word that no telegram has, 0 for any other.
-#[tactic(auto, using(codec_fields::specs::Fields::zero_or14, codec_fields::specs::Laws::zeros_field), unfolding(codec_fields::specs::Fields::zeros_or14, crate::specs::Words::telegram_refusal))]
+#[tactic(auto, using(codec_fields::specs::Fields::zero_or14, codec_fields::proofs::Laws::zeros_field), unfolding(codec_fields::specs::Fields::zeros_or14, crate::specs::Words::telegram_refusal))]
 pub fn telegram_refusal(word: u64) -> u8
     ensures { result ≡ telegram_refusal word }
 {

@@ -5,8 +5,8 @@ use Rattle.std.proofs.Math.Nat.{sub-zero}
 use borrow.Table.Steps.{cases}
 use Rattle.std.proofs.lemmas.List.{take-append-le, drop-append-le}
 use Rattle.codec_fields.specs.Fields.{has_room, load_of, be, be_from}
-use Rattle.codec_fields.specs.Laws.{be_low}
-use Rattle.codec_fields.specs.Stores.{load_room}
+use Rattle.codec_fields.proofs.Laws.{be_low}
+use Rattle.codec_fields.proofs.Stores.{load_room}
 use Rattle.codec_telegrams.specs.declared.ResponseState.TheVariants.{Slave, MasterNotReady, MasterWithoutToken, MasterInRing}
 use Rattle.codec_telegrams.specs.Words.{response_state_of}
 use Rattle.codec_telegrams.specs.Laws.{state_below}

@@ -8,7 +8,7 @@ use Rattle.codec_telegrams.specs.declared.ResponseState.{ResponseState}
 use Rattle.codec_telegrams.specs.Words.{response_number}
 use Rattle.codec_telegrams.specs.Laws.{state_below}
 use Rattle.codec_fields.specs.Fields.{has_room, load_of, low_bytes, stored_of, Bytes}
-use Rattle.codec_fields.specs.Stores.{room_of_lem, load_below, stored_room, store_next}
+use Rattle.codec_fields.proofs.Stores.{room_of_lem, load_below, stored_room, store_next}
 use Rattle.heard.specs.declared.LastType.{LastType}
 use Rattle.heard.specs.declared.LastType.TheVariants.{Seen}
 use Rattle.heard.specs.declared.AddressEntry.{AddressEntry}

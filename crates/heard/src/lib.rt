@@ -78,7 +78,7 @@ fn type_of(byte: u8) -> LastType
 }
 
 // The number that four bytes from a place are.
-#[tactic(auto, using(codec_slices::specs::Parts::bytes_known, crate::specs::Steps::load_small))]
+#[tactic(auto, using(codec_slices::proofs::Parts::bytes_known, crate::specs::Steps::load_small))]
 fn long(bytes: &[u8], at: usize) -> u32
     ensures { result ≡ load_of bytes.now at 4 }
 {
@@ -86,7 +86,7 @@ fn long(bytes: &[u8], at: usize) -> u32
 }
 
 // The byte at a place.
-#[tactic(auto, using(codec_slices::specs::Parts::bytes_known, crate::specs::Steps::load_small))]
+#[tactic(auto, using(codec_slices::proofs::Parts::bytes_known, crate::specs::Steps::load_small))]
 fn byte(bytes: &[u8], at: usize) -> u8
     ensures { result ≡ load_of bytes.now at 1 }
 {

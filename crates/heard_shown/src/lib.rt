@@ -21,7 +21,7 @@ fn no_entry() -> AddressEntry
 }
 
 // What the table says of an address.
-#[tactic(auto, using(heard::specs::Heard::lookup_on, heard::specs::Steps::lookup_past, heard::specs::Steps::lookup_there), unfolding(heard::specs::Heard::lookup_of))]
+#[tactic(auto, unfolding(heard::specs::Heard::lookup_of, heard::specs::Heard::lookup_on))]
 pub fn lookup(table: &[u8], address: u8) -> Found
     ensures { result ≡ lookup_of table.now address }
 {

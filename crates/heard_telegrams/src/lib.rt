@@ -101,6 +101,7 @@ pub fn hear(table: &mut [u8], clock: u64, telegram: Telegram)
 }
 
 // The telegrams of a poll record that its answer says are consumed, in their order.
+#[tactic(auto, using(heard::specs::Steps::hear_more), unfolding(heard::specs::Heard::hear_all, heard::specs::Heard::consumed_in))]
 pub fn hear_record(table: &mut [u8], bytes: &[u8], applications: u8, consumed: u8)
     ensures { table.new ≡ hear_all table.old (consumed_in bytes.now applications consumed) }
 {

@@ -33,7 +33,7 @@ pub struct Done {
 
 // Opens a station: a fresh one with the settings of the header that these bytes begin with, in either edition. Returns the bytes
 // written × 256, or the number that refuses: the header's as in a trace, then 18 where there is no room.
-#[tactic(auto, using(crate::specs::Laws::open_cut, crate::specs::Laws::open_refused, crate::specs::Laws::open_full, crate::specs::Laws::open_done))]
+#[tactic(auto, unfolding(crate::specs::Live::open_number, crate::specs::Live::open_into, crate::specs::Live::open_number_on, crate::specs::Live::open_into_on, crate::specs::Live::open_start, trace::specs::Trace::started_with, station_bytes::specs::Bytes::station_into, station::specs::Parts::new_station))]
 pub fn open_station(header: &[u8], station: &mut [u8]) -> u64
     ensures value { result ≡ open_number header.now (length station.old) }
     ensures station_after { station.new ≡ open_into header.now station.old }
@@ -74,7 +74,7 @@ fn refused(number: u64) -> Done
 }
 
 // Answers an entry, and writes its answer and the station after it. Says what it consumed.
-#[tactic(auto, using(crate::specs::Laws::answered_into))]
+#[tactic(auto, unfolding(crate::specs::Live::consumed_for))]
 fn answer_into(
     found: Station,
     links: &mut [u8; 252],
@@ -99,7 +99,7 @@ fn answer_into(
 }
 
 // Steps a station that was read by the entry that these bytes begin with.
-#[tactic(auto, using(station::specs::Whole::station_at, crate::specs::Laws::three_refused, crate::specs::Laws::three_answered, crate::specs::Laws::found_empty, crate::specs::Laws::found_cut, crate::specs::Laws::found_full, crate::specs::Laws::found_answered))]
+#[tactic(auto, unfolding(crate::specs::Live::step_found, crate::specs::Live::step_into, crate::specs::Live::step_answer, crate::specs::Live::done_of))]
 fn step_found(
     found: Station,
     links: &mut [u8; 252],
@@ -135,7 +135,7 @@ fn step_found(
 // `answer`, the station after it where it was. Says what it came to: the entry's bytes × 256 with what was consumed, or the number that
 // refuses, and then nothing is written: 36 where the bytes are no station, 17 where the entry is empty or cut, 18 where the answer has
 // no room.
-#[tactic(auto, using(crate::specs::Laws::three_refused, crate::specs::Laws::found_long, crate::specs::Laws::step_taken, crate::specs::Laws::step_none))]
+#[tactic(auto, using(crate::specs::Laws::found_long, crate::specs::Laws::step_taken), unfolding(crate::specs::Live::step_of, crate::specs::Live::step_on, crate::specs::Live::step_into, crate::specs::Live::step_answer, station_bytes::specs::Bytes::read_of, station_bytes::specs::Bytes::read_on))]
 pub fn step(station: &mut [u8], entry: &[u8], answer: &mut [u8]) -> Done
     ensures value { result ≡ done_of (step_of station.old entry.now (length answer.old)) }
     ensures station_after { station.new ≡ step_into (step_of station.old entry.now (length answer.old)) station.old }

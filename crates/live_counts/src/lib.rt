@@ -11,7 +11,7 @@ use trace_counts::COUNTS_LENGTH;
 
 // Writes what the station that bytes are has counted into the first 12 bytes of `counts`, as `trace_counts` writes it, and returns 0.
 // Refused with 36 where the bytes are no station, then 18 where `counts` is too short: then nothing is written.
-#[tactic(auto, using(crate::specs::Laws::ends_none, crate::specs::Laws::ends_no_room, crate::specs::Laws::ends_told))]
+#[tactic(auto, unfolding(crate::specs::LiveCounts::read_counts_number, crate::specs::LiveCounts::read_counts_into, station_bytes::specs::Bytes::read_of, station_bytes::specs::Bytes::read_on, trace_counts::specs::TraceCounts::counts_over))]
 pub fn station_counts(station: &[u8], counts: &mut [u8]) -> u64
     ensures value { result ≡ read_counts_number (read_of station.now) (length counts.old) }
     ensures counts_after { counts.new ≡ read_counts_into (read_of station.now) counts.old }

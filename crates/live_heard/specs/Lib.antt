@@ -1,3 +1,2 @@
 -- Definitions first, then what the proof uses.
 pub mod LiveHeard
-pub mod Laws

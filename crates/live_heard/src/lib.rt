@@ -11,7 +11,7 @@ use heard_telegrams::hear_record;
 
 // Steps a station by an entry as `step_station` does, and feeds the table with the telegrams that the entry's record consumed. A table
 // that is too short is refused as an answer without room is, with 18, after 36 and 17; then nothing is written.
-#[tactic(auto, using(crate::specs::Laws::ends_short, crate::specs::Laws::ends_within, crate::specs::Laws::ends_refused, crate::specs::Laws::ends_heard))]
+#[tactic(auto, using(crate::proofs::Laws::ends_short, crate::proofs::Laws::ends_within, crate::proofs::Laws::ends_refused, crate::proofs::Laws::ends_heard))]
 pub fn step_heard(station: &mut [u8], entry: &[u8], answer: &mut [u8], table: &mut [u8]) -> u64
     ensures value { result ≡ step_number (step_beside station.old entry.now (length answer.old) (length table.old)) }
     ensures station_after { station.new ≡ step_into (step_beside station.old entry.now (length answer.old) (length table.old)) station.old }

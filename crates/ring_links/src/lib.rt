@@ -58,6 +58,7 @@ fn one_down(x: u8) -> u8
 }
 
 // The first member going down from `a`; `a` if there is no other.
+#[tactic(auto, using(crate::specs::Loops::down_start, crate::specs::Loops::down_on, ring_addresses::specs::SetLaws::walk_stop, ring_addresses::specs::SetLaws::walk_pass, ring_addresses::specs::SetLaws::walk_end), unfolding(ring_addresses::specs::Set::nearest))]
 fn member_below(links: &[u8; 252], a: u8) -> u8
     requires { a < 126 }
     ensures { result ≡ nearest false (listed links.now) a }
@@ -114,6 +115,7 @@ fn sweep_one(links: &mut [u8; 252], own: u8, p: u8, met: u8) -> u8
 }
 
 // Takes out who stands between `s` and `d`, but for own. No way has more than 126 steps.
+#[tactic(auto, using(crate::specs::Loops::sweep_lost, crate::specs::Loops::sweep_met, crate::specs::Loops::sweep_none, crate::specs::Loops::sweep_on, crate::specs::Loops::sweep_place))]
 fn sweep(links: &mut [u8; 252], own: u8, s: u8, d: u8)
     requires { s < 126 }
     ensures { links.new ≡ sweep_of own d 126 s links.old }

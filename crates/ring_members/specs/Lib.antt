@@ -1,6 +1,4 @@
 -- Definitions first; then the ring that a set makes, its tables in one pass, the bytes of its members, and the ring back from the set of its members.
 pub mod Members
 pub mod Laws
-pub mod Linked
 pub mod Weights
-pub mod Back

@@ -42,6 +42,7 @@ fn add_bit(head: Head, links: &mut [u8; 252], byte: u8, at: u8, a: u8)
 }
 
 // Adds the addresses from `a` on whose bits in a byte are one, the highest bit the first. Most bytes of a set are 0.
+#[tactic(auto, using(ring::specs::Ring::ring_of, crate::specs::Members::bit_added), unfolding(crate::specs::Members::bits_added, crate::specs::Members::byte_added))]
 fn add_byte(head: Head, links: &mut [u8; 252], byte: u8, a: u8)
     requires { a ≤ 120 }
     ensures { ring_of head links.new ≡ byte_added (ring_of head links.old) byte a }
@@ -57,6 +58,7 @@ fn add_byte(head: Head, links: &mut [u8; 252], byte: u8, a: u8)
 }
 
 // Adds the addresses whose bits are one in the 16 bytes of a set; bytes that are not there are 0.
+#[tactic(auto, using(ring::specs::Ring::ring_of, crate::specs::Members::byte_at, crate::specs::Members::byte_added), unfolding(crate::specs::Members::set_added))]
 pub fn add_members(head: Head, links: &mut [u8; 252], set: &[u8])
     ensures { ring_of head links.new ≡ set_added (ring_of head links.old) set.now 16 }
 {
@@ -68,6 +70,7 @@ pub fn add_members(head: Head, links: &mut [u8; 252], set: &[u8])
 }
 
 // The last byte of a set that is not 0; the first where there is none.
+#[tactic(auto, using(crate::specs::Members::in_set, crate::proofs::Linked::nobody_from))]
 fn last_byte(set: &[u8]) -> u8
     ensures { (result ≤ 15) × ((x : ℕ) → 8 * result + 8 ≤ x → x < 128 → in_set set.now x ≡ false) }
 {
@@ -93,6 +96,7 @@ fn end_of(i: u8) -> u8
 }
 
 // The highest address in a set; 0 where there is none.
+#[tactic(auto, using(crate::specs::Members::in_set, crate::specs::Members::highest_below, crate::proofs::Linked::highest_down, crate::proofs::Linked::highest_at, crate::proofs::Linked::highest_less, crate::proofs::Linked::highest_none))]
 fn highest(set: &[u8]) -> u8
     ensures { (result ≡ highest_below (in_set set.now) 126) × (result < 126) }
 {
@@ -122,6 +126,7 @@ fn link_bit(links: &mut [u8; 252], byte: u8, at: u8, last: u8, a: u8) -> u8
 
 // Links the addresses from `a` on whose bits are one among the first `count` of a byte, each behind the one before it. Most bytes of a
 // set are 0.
+#[tactic(auto, using(crate::specs::Members::chain_of, crate::specs::Members::bit_linked), unfolding(crate::specs::Members::bits_linked, crate::specs::Members::byte_linked))]
 fn link_byte(links: &mut [u8; 252], byte: u8, a: u8, count: u8, before: u8) -> u8
     requires { (before < 126) × (a + count ≤ 126) × (count ≤ 8) }
     ensures { (chain_of links.new result ≡ byte_linked (chain_of links.old before) byte a count) × (result < 126) }
@@ -139,6 +144,7 @@ fn link_byte(links: &mut [u8; 252], byte: u8, a: u8, count: u8, before: u8) -> u
 }
 
 // Links the addresses of the first 15 bytes of a set.
+#[tactic(auto, using(crate::specs::Members::byte_at, crate::specs::Members::chain_of, crate::specs::Members::byte_linked), unfolding(crate::specs::Members::bytes_linked))]
 fn link_bytes(links: &mut [u8; 252], set: &[u8], before: u8) -> u8
     requires { before < 126 }
     ensures { (chain_of links.new result ≡ bytes_linked (chain_of links.old before) set.now 15) × (result < 126) }
@@ -160,7 +166,6 @@ fn nobody() -> [u8; 252]
 }
 
 // Makes the tables of the addresses in a set, whatever stood in them. The first comes behind the highest.
-#[tactic(auto, using(crate::specs::Linked::tables_stand))]
 pub fn link_members(links: &mut [u8; 252], set: &[u8])
     ensures { links.new ≡ links_of (in_set set.now) }
 {
@@ -195,6 +200,7 @@ fn weight(link: u8, bit: u8) -> u8
 }
 
 // The weights of the members, 0 for all others. In a loop by itself: so the compiler weighs sixteen at a time.
+#[tactic(auto, using(crate::proofs::WeightLaws::weighed_none, crate::proofs::WeightLaws::weighed_more, crate::proofs::WeightLaws::weighed_all))]
 fn weigh(links: &[u8; 252]) -> [u8; 128]
     ensures { result ≡ tab (weighed links.now) 128 0 }
 {
@@ -208,7 +214,7 @@ fn weigh(links: &[u8; 252]) -> [u8; 128]
 }
 
 // Eight weights of a byte added.
-#[tactic(auto, using(crate::specs::Weights::eight_fit), unfolding(crate::specs::Members::eight_added))]
+#[tactic(auto, using(crate::proofs::WeightLaws::eight_fit), unfolding(crate::specs::Members::eight_added))]
 fn add_eight(weighed: &[u8; 128], a: usize) -> u8
     requires { (a ≤ 120) × ((k : ℕ) → k < 8 → get_or weighed.now (a + k) 0 ≤ 2 ^ (7 - k)) }
     ensures { result ≡ eight_added weighed.now a }
@@ -224,6 +230,7 @@ fn add_eight(weighed: &[u8; 128], a: usize) -> u8
 }
 
 // Writes the set of the members into the first 16 bytes; every other byte stays, and all do where there are fewer.
+#[tactic(auto, using(ring_links::specs::Links::listed, crate::proofs::WeightLaws::weight_most, crate::proofs::WeightLaws::byte_added_up), unfolding(crate::specs::Members::set_written, crate::specs::Members::set_over))]
 pub fn write_members(links: &[u8; 252], out: &mut [u8])
     ensures { out.new ≡ set_over out.old (listed links.now) }
 {

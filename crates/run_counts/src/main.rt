@@ -3,18 +3,16 @@
 // hexadecimal digits: they stop at ffffffff, and offline keeps them. It leans on station_poll and what lies below it.
 #![tactic(auto)]
 
-use libc::STDOUT_FILENO;
 use settings::{Created, Parameters};
 use station::{Counts, Station};
+use std::io;
 
 // Prints claims, removals and meetings.
-fn print_counts(counts: Counts) {
-    io::print_hex(STDOUT_FILENO, counts.claims as u64, 8);
-    io::write_all(STDOUT_FILENO, b" ");
-    io::print_hex(STDOUT_FILENO, counts.removals as u64, 8);
-    io::write_all(STDOUT_FILENO, b" ");
-    io::print_hex(STDOUT_FILENO, counts.meetings as u64, 8);
-    io::write_all(STDOUT_FILENO, b"\n");
+fn print_counts(rt: &impl Print, counts: Counts) -> io::Result<()> {
+    let claims = counts.claims;
+    let removals = counts.removals;
+    let meetings = counts.meetings;
+    println!(rt; "{claims:08x} {removals:08x} {meetings:08x}")
 }
 
 // Online, and a poll at time 0: the station listens.
@@ -27,7 +25,7 @@ fn listens(start: Station, links: &mut [u8; 252]) -> Station {
 }
 
 // Nothing is heard until 7,000 µs: the token is lost and claimed. Then offline, by command.
-fn claims(start: Station, links: &mut [u8; 252]) -> Station {
+fn claims(rt: &impl Print, start: Station, links: &mut [u8; 252]) -> io::Result<Station> {
     let listening = listens(start, links);
     let mut record = [0u8; 14];
     record[4] = 27;
@@ -35,13 +33,13 @@ fn claims(start: Station, links: &mut [u8; 252]) -> Station {
     let polled = station_poll::poll(listening, links, &record);
     let claimed = polled.station;
     let counts = claimed.counts;
-    print_counts(counts);
+    print_counts(rt, counts)?;
     let left = station_command::set_offline(claimed, links);
-    left.station
+    Ok(left.station)
 }
 
 // At 100 µs two tokens from 5 to 3 are heard, and 5 is our own address: offline, by collision.
-fn meets(start: Station, links: &mut [u8; 252]) -> Station {
+fn meets(rt: &impl Print, start: Station, links: &mut [u8; 252]) -> io::Result<Station> {
     let listening = listens(start, links);
     let mut record = [0u8; 22];
     record[5] = 100;
@@ -53,15 +51,14 @@ fn meets(start: Station, links: &mut [u8; 252]) -> Station {
     let polled = station_poll::poll(listening, links, &record);
     let met = polled.station;
     let counts = met.counts;
-    print_counts(counts);
-    met
+    print_counts(rt, counts)?;
+    Ok(met)
 }
 
 // A station of address 5 at 500 kbit/s, which is code 6, with one application.
-fn main() {
+fn main(rt: HostRuntime) -> io::Result<()> {
     let Created::Accepted(p) = Parameters::new(5, 6) else {
-        io::write_all(STDOUT_FILENO, b"run_counts: no settings\n");
-        return;
+        return println!(rt; "run_counts: no settings");
     };
     let mut links = [127u8; 252];
     let started = Station::new(p, 1, &mut links);
@@ -72,7 +69,8 @@ fn main() {
         meetings: 4294967294,
     };
     station.counts = counts;
-    let first = claims(station, &mut links);
-    let second = meets(first, &mut links);
-    claims(second, &mut links);
+    let first = claims(&rt, station, &mut links)?;
+    let second = meets(&rt, first, &mut links)?;
+    claims(&rt, second, &mut links)?;
+    Ok(())
 }

@@ -4,7 +4,8 @@
 
 ghost use Rattle.std.specs.Prelude.{◌≤◌};
 
-use libc::{STDIN_FILENO, STDOUT_FILENO};
+use std::io;
+use std::io::Read;
 
 // A frame's length, cut where the input ends.
 fn cut(length: u8, rest: usize) -> usize
@@ -29,9 +30,9 @@ fn read_all(s: &[u8]) -> u64 {
     last
 }
 
-fn main() {
-    let mut space = io::large_buffer();
-    let n = io::read_full(STDIN_FILENO, &mut space);
-    io::print_hex(STDOUT_FILENO, read_all(&space[..n]), 16);
-    io::write_all(STDOUT_FILENO, b"\n");
+fn main(rt: HostRuntime) -> io::Result<()> {
+    let mut space = Vec::new(rt.alloc());
+    rt.reader().take(65536).read_to_end(&mut space)?;
+    let last = read_all(&space);
+    println!(rt; "{last:016x}")
 }

@@ -6,10 +6,11 @@
 
 ghost use Rattle.std.specs.Prelude.{◌≤◌};
 
-use libc::{STDIN_FILENO, STDOUT_FILENO};
 use settings::{Created, Parameters};
 use station::Station;
 use station_answer::Polled;
+use std::io;
+use std::io::Read;
 
 // A record's length, cut where the input ends.
 fn cut(length: u8, rest: usize) -> usize
@@ -36,29 +37,25 @@ fn poll_all(start: Station, links: &mut [u8; 252], s: &[u8]) -> Polled {
 }
 
 // Polls a new station and prints the last answer.
-fn run(start: Station, links: &mut [u8; 252], s: &[u8]) {
+fn run(rt: &impl Print, start: Station, links: &mut [u8; 252], s: &[u8]) -> io::Result<()> {
     let polled = poll_all(start, links, s);
-    let answer = polled.answer;
-    io::print_hex(STDOUT_FILENO, codec_answers::pack(answer), 16);
-    io::write_all(STDOUT_FILENO, b"\n");
+    let last = codec_answers::pack(polled.answer);
+    println!(rt; "{last:016x}")
 }
 
-// A station at 500 kbit/s, which is code 6, with the settings that belong to it.
-fn main() {
-    let mut space = io::large_buffer();
-    let n = io::read_full(STDIN_FILENO, &mut space);
-    let Created::Accepted(p) = Parameters::new(space[0], 6) else {
-        io::write_all(STDOUT_FILENO, b"run_polls: the first byte is no address\n");
-        return;
+// A station at 500 kbit/s, which is code 6, with the settings that belong to it. A byte that the input lacks is 0.
+fn main(rt: HostRuntime) -> io::Result<()> {
+    let mut space = Vec::new(rt.alloc());
+    rt.reader().take(65536).read_to_end(&mut space)?;
+    let address = space.get(0).copied().unwrap_or(0);
+    let applications = space.get(1).copied().unwrap_or(0);
+    let Created::Accepted(p) = Parameters::new(address, 6) else {
+        return println!(rt; "run_polls: the first byte is no address");
     };
     let mut links = [127u8; 252];
-    let started = Station::new(p, space[1], &mut links);
+    let started = Station::new(p, applications, &mut links);
     if started.refusal != 0 {
-        io::write_all(
-            STDOUT_FILENO,
-            b"run_polls: the second byte is no number of applications\n",
-        );
-        return;
+        return println!(rt; "run_polls: the second byte is no number of applications");
     }
-    run(started.station, &mut links, &space[..n]);
+    run(&rt, started.station, &mut links, &space)
 }

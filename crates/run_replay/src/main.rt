@@ -2,15 +2,14 @@
 // as 16 hexadecimal digits, then the entries answered and the ending number. It leans on run_replay_print.
 #![tactic(auto)]
 
-use libc::{STDERR_FILENO, STDIN_FILENO};
+use std::io;
+use std::io::Read;
 
-fn main() {
-    let mut bytes = [0u8; 4096];
-    let n = io::read_full(STDIN_FILENO, &mut bytes);
-    if !run_replay_print::replay(&bytes[..n]) {
-        io::write_all(
-            STDERR_FILENO,
-            b"replay: the answers could not all be written\n",
-        );
+fn main(rt: HostRuntime) -> io::Result<()> {
+    let mut bytes = Vec::new(rt.alloc());
+    rt.reader().take(4096).read_to_end(&mut bytes)?;
+    if run_replay_print::replay(&rt, &bytes).is_err() {
+        return eprintln!(rt; "replay: the answers could not all be written");
     }
+    Ok(())
 }

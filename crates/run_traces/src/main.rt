@@ -3,39 +3,31 @@
 // run_replay_print.
 #![tactic(auto)]
 
-use libc::STDOUT_FILENO;
+use std::fs::File;
+use std::io::Read;
+use std::{env, io};
 
-// Replays one file.
-fn replay_file(name: &[u8]) {
-    let fd = os::open_read(name);
-    if fd < 0 {
-        os::fail(name);
-        return;
-    }
-    let mut bytes = [0u8; 4096];
-    let n = io::read_full(fd, &mut bytes);
-    libc::close(fd);
-    io::write_all(STDOUT_FILENO, name);
-    io::write_all(STDOUT_FILENO, b"\n");
-    if !run_replay_print::replay(&bytes[..n]) {
-        os::fail(b"the answers could not all be written");
+// The first 4,096 bytes of a file.
+fn first_bytes(rt: &HostRuntime, name: &str) -> io::Result<Vec<u8>> {
+    let mut bytes = Vec::new(rt.alloc());
+    File::open(rt, name)?.take(4096).read_to_end(&mut bytes)?;
+    Ok(bytes)
+}
+
+// Replays one file. One that cannot be read is named on standard error, and nothing is printed of it.
+fn replay_file(rt: &HostRuntime, name: &str) -> io::Result<()> {
+    match first_bytes(rt, name) {
+        Ok(bytes) => {
+            println!(rt; "{name}")?;
+            run_replay_print::replay(rt, &bytes)
+        }
+        Err(e) => eprintln!(rt; "{name}: {e}"),
     }
 }
 
-// Replays the file that an argument names.
-fn replay_arg(i: usize) {
-    let mut name = [0u8; 256];
-    let n = os::arg(i, &mut name);
-    if os::errno() != 0 {
-        os::fail(b"a trace's name");
-        return;
+fn main(rt: HostRuntime) -> io::Result<()> {
+    for name in env::args(&rt)?.skip(1) {
+        replay_file(&rt, name.as_str())?;
     }
-    replay_file(&name[..n]);
-}
-
-fn main() {
-    let count = os::arg_count();
-    for i in 1..count {
-        replay_arg(i);
-    }
+    Ok(())
 }

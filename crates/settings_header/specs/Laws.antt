@@ -8,29 +8,31 @@ use borrow.Author.Tests.{eqb-true, ne_eqb, le-ltb}
 use borrow.Table.Steps.{cases}
 use Rattle.std.proofs.Math.ListN.{drop, get_or}
 use Rattle.std.proofs.Math.Seq.{take-append_seam, drop-append_seam}
-use Rattle.bit_times.specs.Laws.{listed}
+use Rattle.bit_times.proofs.Laws.{listed}
 use Rattle.codec_fields.specs.Fields.{zeros_or14, zero_or14, be, unpack, pack, Within, low_bytes}
-use Rattle.codec_fields.specs.Laws.{unpack_pack}
-use Rattle.codec_slices.specs.Round.{read_written}
+use Rattle.codec_fields.proofs.Laws.{unpack_pack}
+use Rattle.codec_slices.proofs.Round.{read_written}
 use Rattle.settings_watchdog.specs.declared.WatchdogFactors.{WatchdogFactors}
 use Rattle.settings_watchdog.specs.declared.WatchdogFactors.TheVariants as wf
 use Rattle.settings_watchdog.specs.Watchdog.{ceil_of, factors_of}
-use Rattle.settings_watchdog.specs.Laws.{factors_given, factors_least}
+use Rattle.settings_watchdog.proofs.Laws.{factors_given, factors_least}
 use Rattle.settings.specs.declared.Parameters.{Parameters}
 use Rattle.settings.specs.declared.Created.{Created}
 use Rattle.settings.specs.declared.Created.TheVariants as created
 use Rattle.settings.specs.declared.Changed.{Changed}
 use Rattle.settings.specs.declared.Changed.TheVariants as changed
 use Rattle.settings.specs.Settings.{changed_number, changed_settings, default_of, new_at, new_of, unless, slot_bits_of, hsa_of, rotation_of, gap_wait_of, retry_of, min_tsdr_of, with_watchdog, watchdog_at, watchdog_of}
-use Rattle.settings.specs.Made.{SoundSettings, by_new, made_sound}
-use Rattle.settings.specs.Numbers.{unless_number}
+use Rattle.settings.specs.Made.{SoundSettings, by_new}
+use Rattle.settings.proofs.Made.{made_sound}
+use Rattle.settings.proofs.Numbers.{unless_number}
 use Rattle.settings_rules.specs.Rules.{greatest_rotation, address_refusal, baud_refusal, least_of, slot_bits_refusal, hsa_refusal, rotation_refusal, room_refusal, gap_wait_refusal, retry_refusal, min_tsdr_refusal, watchdog_refusal, factors_refusal, applications_refusal, first_of}
-use Rattle.settings_rules.specs.Laws.{outside_in, in_below, in_outside}
+use Rattle.settings_rules.proofs.Laws.{outside_in, in_below, in_outside}
 use Rattle.bit_times.specs.declared.Coded.{Coded}
 use Rattle.bit_times.specs.declared.Coded.TheVariants.{Rate, Unknown}
 use Rattle.bit_times.specs.Times.{least_slot_bits, baud_of}
 use Rattle.settings_build.specs.Build.{early_refusal, first_refusal, build_of, factors_pair, plain_of, finish_of}
-use Rattle.settings_build.specs.Made.{room_of, sound_number, sound_built}
+use Rattle.settings_build.specs.Made.{room_of}
+use Rattle.settings_build.proofs.Made.{sound_number, sound_built}
 use Rattle.trace_headers.specs.declared.Header.{Header}
 use Rattle.trace_headers.specs.declared.Edition.TheVariants.{First}
 use Rattle.trace_headers.specs.Headers.{second_mark, edition_of, widths_of, length_of, header_in, header_of, header_refusal}

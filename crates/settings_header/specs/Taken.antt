@@ -6,11 +6,11 @@ use Rattle.std.proofs.lemmas.Bool.{eqb-false}
 use borrow.Table.Steps.{cases}
 use Rattle.bit_times.specs.declared.Coded.{Coded}
 use Rattle.bit_times.specs.declared.Coded.TheVariants.{Rate, Unknown}
-use Rattle.bit_times.specs.Laws.{listed}
+use Rattle.bit_times.proofs.Laws.{listed}
 use Rattle.bit_times.specs.Times.{baud_of}
 use Rattle.codec_fields.specs.Fields.{zeros_or14, zero_or14, be, Bytes}
-use Rattle.codec_fields.specs.Laws.{unpacked_within, zero_fields, never}
-use Rattle.codec_slices.specs.Round.{written_read}
+use Rattle.codec_fields.proofs.Laws.{unpacked_within, zero_fields, never}
+use Rattle.codec_slices.proofs.Round.{written_read}
 use Rattle.settings_watchdog.specs.declared.WatchdogFactors.{WatchdogFactors}
 use Rattle.settings_watchdog.specs.declared.WatchdogFactors.TheVariants as wf
 use Rattle.settings.specs.declared.Parameters.{Parameters}
@@ -18,10 +18,11 @@ use Rattle.settings.specs.declared.Created.{Created}
 use Rattle.settings.specs.declared.Created.TheVariants as created
 use Rattle.settings.specs.Made.{Watched, SoundSettings}
 use Rattle.settings_rules.specs.Rules.{address_refusal, baud_refusal, least_of, slot_bits_refusal, hsa_refusal, rotation_refusal, gap_wait_refusal, retry_refusal, min_tsdr_refusal, factors_refusal, applications_refusal, first_of}
-use Rattle.settings_rules.specs.Laws.{none_refuses}
+use Rattle.settings_rules.proofs.Laws.{none_refuses}
 use Rattle.settings_build.specs.declared.PlainSettings.{PlainSettings}
 use Rattle.settings_build.specs.Build.{first_refusal, pair_of, built_at, build_of, factors_pair, plain_of}
-use Rattle.settings_build.specs.Built.{Built, build_accepts}
+use Rattle.settings_build.specs.Built.{Built}
+use Rattle.settings_build.proofs.Built.{build_accepts}
 use Rattle.trace_headers.specs.declared.Header.{Header}
 use Rattle.trace_headers.specs.declared.Edition.{Edition}
 use Rattle.trace_headers.specs.declared.Edition.TheVariants.{First, Second}

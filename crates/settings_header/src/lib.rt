@@ -114,7 +114,7 @@ fn settings_at(header: &[u8]) -> Created
 
 // Writes what a setter accepted over the record, whose applications stay, and returns the setter's number. What it refused writes
 // nothing.
-#[tactic(auto, using(crate::specs::Calls::stored_accepted, crate::specs::Calls::stored_refused))]
+#[tactic(auto, unfolding(crate::specs::SettingsHeader::stored_after))]
 fn store_changed(header: &mut [u8], changed: Changed) -> u64
     ensures value { result ≡ changed_number changed }
     ensures header_after { header.new ≡ stored_after header.old changed }
@@ -133,7 +133,7 @@ fn store_changed(header: &mut [u8], changed: Changed) -> u64
 // The setters: each is the setter of `settings` on the settings that the record holds. A refused call leaves the bytes as they were.
 
 // The slot time in bits.
-#[tactic(auto, using(crate::specs::Calls::set_accepted, crate::specs::Calls::set_refused))]
+#[tactic(auto, unfolding(crate::specs::SettingsHeader::set_number, crate::specs::SettingsHeader::set_into, crate::specs::SettingsHeader::number_on, crate::specs::SettingsHeader::bytes_on))]
 pub fn set_slot_bits(header: &mut [u8], slot_bits: u16) -> u64
     ensures value { result ≡ set_number (λ p. slot_bits_of p slot_bits) header.old }
     ensures header_after { header.new ≡ set_into (λ p. slot_bits_of p slot_bits) header.old }
@@ -149,7 +149,7 @@ pub fn set_slot_bits(header: &mut [u8], slot_bits: u16) -> u64
 }
 
 // The highest station address; it also sets the rotation.
-#[tactic(auto, using(crate::specs::Calls::set_accepted, crate::specs::Calls::set_refused))]
+#[tactic(auto, unfolding(crate::specs::SettingsHeader::set_number, crate::specs::SettingsHeader::set_into, crate::specs::SettingsHeader::number_on, crate::specs::SettingsHeader::bytes_on))]
 pub fn set_highest_station_address(header: &mut [u8], hsa: u8) -> u64
     ensures value { result ≡ set_number (λ p. hsa_of p hsa) header.old }
     ensures header_after { header.new ≡ set_into (λ p. hsa_of p hsa) header.old }
@@ -165,7 +165,7 @@ pub fn set_highest_station_address(header: &mut [u8], hsa: u8) -> u64
 }
 
 // The target token rotation time in bits.
-#[tactic(auto, using(crate::specs::Calls::set_accepted, crate::specs::Calls::set_refused))]
+#[tactic(auto, unfolding(crate::specs::SettingsHeader::set_number, crate::specs::SettingsHeader::set_into, crate::specs::SettingsHeader::number_on, crate::specs::SettingsHeader::bytes_on))]
 pub fn set_token_rotation_bits(header: &mut [u8], ttr: u32) -> u64
     ensures value { result ≡ set_number (λ p. rotation_of p ttr) header.old }
     ensures header_after { header.new ≡ set_into (λ p. rotation_of p ttr) header.old }
@@ -181,7 +181,7 @@ pub fn set_token_rotation_bits(header: &mut [u8], ttr: u32) -> u64
 }
 
 // How many token rotations to wait before the gap is polled again.
-#[tactic(auto, using(crate::specs::Calls::set_accepted, crate::specs::Calls::set_refused))]
+#[tactic(auto, unfolding(crate::specs::SettingsHeader::set_number, crate::specs::SettingsHeader::set_into, crate::specs::SettingsHeader::number_on, crate::specs::SettingsHeader::bytes_on))]
 pub fn set_gap_wait_rotations(header: &mut [u8], gap_wait: u8) -> u64
     ensures value { result ≡ set_number (λ p. gap_wait_of p gap_wait) header.old }
     ensures header_after { header.new ≡ set_into (λ p. gap_wait_of p gap_wait) header.old }
@@ -197,7 +197,7 @@ pub fn set_gap_wait_rotations(header: &mut [u8], gap_wait: u8) -> u64
 }
 
 // How often a telegram is retried.
-#[tactic(auto, using(crate::specs::Calls::set_accepted, crate::specs::Calls::set_refused))]
+#[tactic(auto, unfolding(crate::specs::SettingsHeader::set_number, crate::specs::SettingsHeader::set_into, crate::specs::SettingsHeader::number_on, crate::specs::SettingsHeader::bytes_on))]
 pub fn set_max_retry_limit(header: &mut [u8], max_retry_limit: u8) -> u64
     ensures value { result ≡ set_number (λ p. retry_of p max_retry_limit) header.old }
     ensures header_after { header.new ≡ set_into (λ p. retry_of p max_retry_limit) header.old }
@@ -213,7 +213,7 @@ pub fn set_max_retry_limit(header: &mut [u8], max_retry_limit: u8) -> u64
 }
 
 // The least time in bits before anyone responds.
-#[tactic(auto, using(crate::specs::Calls::set_accepted, crate::specs::Calls::set_refused))]
+#[tactic(auto, unfolding(crate::specs::SettingsHeader::set_number, crate::specs::SettingsHeader::set_into, crate::specs::SettingsHeader::number_on, crate::specs::SettingsHeader::bytes_on))]
 pub fn set_min_tsdr_bits(header: &mut [u8], min_tsdr_bits: u8) -> u64
     ensures value { result ≡ set_number (λ p. min_tsdr_of p min_tsdr_bits) header.old }
     ensures header_after { header.new ≡ set_into (λ p. min_tsdr_of p min_tsdr_bits) header.old }
@@ -229,7 +229,7 @@ pub fn set_min_tsdr_bits(header: &mut [u8], min_tsdr_bits: u8) -> u64
 }
 
 // The watchdog timeout in milliseconds.
-#[tactic(auto, using(crate::specs::Calls::set_accepted, crate::specs::Calls::set_refused))]
+#[tactic(auto, unfolding(crate::specs::SettingsHeader::set_number, crate::specs::SettingsHeader::set_into, crate::specs::SettingsHeader::number_on, crate::specs::SettingsHeader::bytes_on))]
 pub fn set_watchdog_timeout(header: &mut [u8], ms: u32) -> u64
     ensures value { result ≡ set_number (λ p. watchdog_of p ms) header.old }
     ensures header_after { header.new ≡ set_into (λ p. watchdog_of p ms) header.old }
@@ -246,7 +246,7 @@ pub fn set_watchdog_timeout(header: &mut [u8], ms: u32) -> u64
 
 // New settings in the first 16 bytes: an address, a baud code, the source's defaults, and so many applications. Refused with 1, 10, 11,
 // or 18 where the bytes are too few: then nothing is written.
-#[tactic(auto, using(crate::specs::Calls::new_no_applications, crate::specs::Calls::new_no_room, crate::specs::Calls::new_done, crate::specs::Calls::new_refused), unfolding(trace_headers::specs::Headers::length_of))]
+#[tactic(auto, unfolding(trace_headers::specs::Headers::length_of, crate::specs::SettingsHeader::new_number, crate::specs::SettingsHeader::new_into, crate::specs::SettingsHeader::new_refusal, crate::specs::SettingsHeader::new_bytes, trace_headers_written::specs::HeaderBytes::header_into))]
 pub fn new_settings(address: u8, baud: u8, applications: u8, header: &mut [u8]) -> u64
     ensures value { result ≡ new_number address baud applications (length header.old) }
     ensures header_after { header.new ≡ new_into address baud applications header.old }

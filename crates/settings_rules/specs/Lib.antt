@@ -1,3 +1,2 @@
 -- Definitions first, then the laws that other crates cite.
 pub mod Rules
-pub mod Laws

@@ -63,7 +63,7 @@ fn first_factor(units: u64) -> u64
 
 // watchdog_factors: the two factors of a time in milliseconds, by the rule of document 02, P2. Each answer is that of
 // document 01's trial, refusals included.
-#[tactic(auto, using(crate::specs::Watchdog::ceil_of, crate::specs::Laws::ceil_low, crate::specs::Laws::factors_refused, crate::specs::Laws::factors_ruled), unfolding(crate::specs::Watchdog::factors_of))]
+#[tactic(auto, using(crate::specs::Watchdog::ceil_of, crate::proofs::Laws::ceil_low, crate::proofs::Laws::factors_refused, crate::proofs::Laws::factors_ruled), unfolding(crate::specs::Watchdog::factors_of))]
 pub fn watchdog_factors(ms: u64) -> Factored
     ensures { result ≡ factors_of ms }
 {

@@ -482,7 +482,7 @@ pub fn wait_synchronization_pause(p: Parameters, core: Core, now: Micros) -> Wai
 }
 
 // mark_tx: the bus is busy until the bytes are sent.
-#[tactic(auto, using(bit_times::specs::Times::time_of, bit_times::specs::Laws::time_bound), unfolding(crate::specs::Steps::sent_at))]
+#[tactic(auto, using(bit_times::specs::Times::time_of, bit_times::proofs::Laws::time_bound), unfolding(crate::specs::Steps::sent_at))]
 fn mark_tx(p: Parameters, now: Micros, bytes: u8) -> Activity
     requires { now.0 < 2 ^ 48 }
     ensures { result ≡ sent_at p now bytes }

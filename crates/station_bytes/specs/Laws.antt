@@ -4,9 +4,9 @@ use Rattle.std.proofs.Common.{sym, ap, ◌∙◌, append-nil, append_assoc, arit
 use borrow.Table.Steps.{cases}
 use borrow.Rule.Slice.PartMut.{put_mid}
 use Rattle.codec_fields.specs.Fields.{be, be_from, bytes_of, load_of, stored_of}
-use Rattle.codec_fields.specs.Laws.{low_length}
-use Rattle.codec_fields.specs.Stores.{load_room, store_next}
-use Rattle.codec_fields.specs.Widths.{be_suc}
+use Rattle.codec_fields.proofs.Laws.{low_length}
+use Rattle.codec_fields.proofs.Stores.{load_room, store_next}
+use Rattle.codec_fields.proofs.Widths.{be_suc}
 use Rattle.ring_links.specs.Links.{listed}
 use Rattle.ring_links.specs.Tables.{length_tab}
 use Rattle.ring_addresses.specs.Set.{only}
@@ -14,8 +14,8 @@ use Rattle.ring_addresses.specs.SetLaws.{true≢false}
 use Rattle.ring.specs.declared.Head.{Head}
 use Rattle.ring.specs.Ring.{Ring, links_of, ring_of, has, make, fresh_of}
 use Rattle.ring_members.specs.Members.{in_set, set_written, set_over, set_bytes}
-use Rattle.ring_members.specs.Laws.{members_links}
-use Rattle.ring_members.specs.Back.{set_is}
+use Rattle.ring_members.proofs.Laws.{members_links}
+use Rattle.ring_members.proofs.Back.{set_is}
 use Rattle.station.specs.declared.Station.{Station as StationHead}
 use Rattle.station.specs.Whole.{Station, station_at}
 use Rattle.station_words.specs.declared.Words.{Words}

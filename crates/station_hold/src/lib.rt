@@ -108,6 +108,7 @@ fn schedule_next_application_turn(application: u8, applications: u8) -> u8
 }
 
 // apps_transmit_telegram: the applications are asked in turn until one sends or all have completed their cycle.
+#[tactic(auto, using(crate::specs::Laws::asked_step), unfolding(crate::specs::Hold::asked_from, crate::specs::Hold::asked_of))]
 fn apps_transmit_telegram(
     bytes: &[u8],
     applications: u8,

@@ -150,6 +150,7 @@ fn met_too(met: u8, here: u8) -> u8
 }
 
 // receive_all_telegrams, in their order. With none the poll waits for the bus.
+#[tactic(auto, unfolding(crate::specs::Listen::heard_all, crate::specs::Listen::met_in))]
 pub fn receive_all_telegrams(
     p: Parameters,
     state: State,

@@ -2,7 +2,7 @@
 use Rattle.std.specs.Prelude.{ℕ, ◌^◌, ◌<◌, ◌≡◌, refl, Bool, true, false, List, get_or, eqb}
 use Rattle.std.proofs.Common.{ap, ◌∙◌, arith, ne_eqb, lit<, lit≤}
 use Rattle.codec_fields.specs.Fields.{field_of, bit_number, unpack, Within}
-use Rattle.codec_fields.specs.Laws.{unpack_put, put_below, bit_below, bit_read}
+use Rattle.codec_fields.proofs.Laws.{unpack_put, put_below, bit_below, bit_read}
 use Rattle.station.specs.declared.OptionAddress.{OptionAddress}
 use Rattle.station.specs.declared.OptionAddress.TheVariants as optionAddress
 use Rattle.station.specs.declared.OptionApplication.{OptionApplication}

@@ -6,7 +6,7 @@ use mathlib.Core.List.{List}
 use Rattle.std.proofs.Math.ListN.{get_or}
 use Rattle.std.proofs.Math.Dec.{eqb}
 use Rattle.codec_fields.specs.Fields.{field_of, bit_number, unpack, Within}
-use Rattle.codec_fields.specs.Laws.{unpack_put, put_below, bit_below, bit_read}
+use Rattle.codec_fields.proofs.Laws.{unpack_put, put_below, bit_below, bit_read}
 use Rattle.settings.specs.declared.Parameters.{Parameters}
 use Rattle.settings_build.specs.declared.PlainSettings.{PlainSettings}
 use Rattle.settings_build.specs.Build.{plain_of}

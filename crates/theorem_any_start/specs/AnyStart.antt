@@ -31,7 +31,7 @@ use Rattle.station_pass.specs.Pass.{gap_advanced}
 use Rattle.station_poll.specs.Poll.{poll_of}
 use Rattle.theorem_sound.specs.Keeps.{RingGood}
 use Rattle.theorem_silence.specs.Silence.{AllQuiet, holds_token, until, sent_until, counted_in, tokens}
-use Rattle.theorem_silence.specs.Phases.{tried_before, tokens_from, claim_tokens}
+use Rattle.theorem_silence.proofs.Phases.{tried_before, tokens_from, claim_tokens}
 
 -- What is assumed of the station. Every station that calls make with accepted settings meets the first two lines (`met-by-calls` of Met).
 pub record AnyStart (s : Station) : Type 0 where

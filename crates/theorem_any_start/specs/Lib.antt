@@ -4,10 +4,3 @@
 -- each state, is stated in Met and proved in Shown.
 pub mod AnyStart
 pub mod Asked
-pub mod Listening
-pub mod Theorem
-pub mod Numbers
-pub mod Sharp
-pub mod Pending
-pub mod Met
-pub mod Shown

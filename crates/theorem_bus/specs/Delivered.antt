@@ -6,7 +6,7 @@ use mathlib.Core.List.{List, [], ◌∷◌, ◌++◌}
 use Rattle.std.proofs.Common.{inl, inr, arith, suc-mul, mul-le-mul_right, le-ltb, leb-true, ltb-true, ltb-false}
 use Rattle.std.proofs.lemmas.Bool.{eqb-false, not-true}
 use borrow.Table.Steps.{cases}
-use Rattle.bit_times.specs.Laws.{and_true}
+use Rattle.bit_times.proofs.Laws.{and_true}
 use Rattle.codec_telegrams.specs.declared.Telegram.{Telegram}
 use Rattle.bus_setup.specs.Setup.{stations_of, tick_of}
 use Rattle.bus_wire.specs.Wire.{Transmission, some, same, meets, lost_in, due_at, hears, heard_among, heard_at}

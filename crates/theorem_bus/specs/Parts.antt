@@ -1,5 +1,5 @@
 -- A station's entries, answered one by one, and its part of the report. Assumes nothing.
-use Prim.Native.Nat.{ℕ, zero, suc, ◌+◌, ◌-◌, ◌*◌, ◌<◌, ◌≤◌}
+use Prim.Native.Nat.{ℕ, zero, suc, ◌+◌, ◌*◌, ◌<◌, ◌≤◌}
 use Rattle.std.specs.Prelude.{◌≡◌, length, take, drop}
 use Rattle.std.proofs.Math.Path.{refl, sym, ap}
 use Rattle.std.proofs.Common.{◌∙◌, ⊎_elim, arith, eq-or-lt_of_le, mul-zero, mul-suc, mul-le-mul_left, ne_eqb, le-ltb, length-drop, drop_at, drop-drop}
@@ -7,7 +7,7 @@ use mathlib.Core.List.{List, [], ◌∷◌, ◌++◌, append_assoc, append-nil}
 use Rattle.std.proofs.Math.ListN.{length-append}
 use Rattle.std.proofs.lemmas.List.{drop-append-le, take-append-le}
 use Rattle.codec_fields.specs.Fields.{bytes_of}
-use Rattle.codec_fields.specs.Laws.{low_length}
+use Rattle.codec_fields.proofs.Laws.{low_length}
 use Rattle.codec_answers.specs.declared.Answer.{Answer}
 use Rattle.codec_answers.specs.Answers.{answer_word}
 use Rattle.codec_records_written.specs.Whole.{record_bytes}

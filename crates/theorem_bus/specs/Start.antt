@@ -1,5 +1,5 @@
 -- The header of a station's trace starts the station that its settings are for. Assumes nothing.
-use Rattle.std.specs.Prelude.{ℕ, ◌+◌, ◌-◌, ◌^◌, ◌<◌, ◌≤◌, ◌≡◌, refl, List, [], ◌∷◌, ◌++◌, cond, drop, eqb, ltb}
+use Rattle.std.specs.Prelude.{ℕ, ◌+◌, ◌^◌, ◌<◌, ◌≤◌, ◌≡◌, refl, List, [], ◌∷◌, ◌++◌, cond, drop, eqb, ltb}
 use Rattle.std.proofs.Math.Path.{sym, ap, subst}
 use Rattle.std.proofs.Common.{◌∙◌, append-nil, arith, add-zero, zero-add, length-append, take_at, drop-cons, lit≤}
 use borrow.Author.Tests.{ne_eqb, le-ltb, le-leb, ltb-false, eqb-false}
@@ -7,8 +7,8 @@ use borrow.Table.Steps.{cases}
 use Rattle.std.proofs.Math.ListN.{length, get_or, get_or-append}
 use Rattle.std.proofs.Math.Seq.{get_or-take, get_or-drop}
 use Rattle.codec_fields.specs.Fields.{Bytes, be_from, load_of, low_bytes}
-use Rattle.codec_fields.specs.Laws.{bytes_low, low_be, same_at}
-use Rattle.codec_fields.specs.Stores.{load_room, loaded_bytes}
+use Rattle.codec_fields.proofs.Laws.{bytes_low, low_be, same_at}
+use Rattle.codec_fields.proofs.Stores.{load_room, loaded_bytes}
 use Rattle.bit_times.specs.declared.Coded.{Coded}
 use Rattle.bit_times.specs.declared.Coded.TheVariants.{Rate, Unknown}
 use Rattle.bit_times.specs.Times.{baud_of}
@@ -124,21 +124,21 @@ module _ (setup : List ℕ) (j : ℕ) (are : Bytes setup) (room : station_place 
     unfolding length_of
     length_is rest = rw (edition_first rest)
 
-    header_of : (rest : List ℕ) → header_of (station_header setup j ++ rest) ≡ header_in First (station_header setup j)
+    header_of_lem : (rest : List ℕ) → header_of (station_header setup j ++ rest) ≡ header_in First (station_header setup j)
     unfolding header_of
-    header_of rest =
+    header_of_lem rest =
         rw (length_is rest, le-ltb (length (station_header setup j ++ rest)) 16 (long rest), edition_first rest)
         (ap (header_in First) (take_at (station_header setup j) rest 16 (header_length_lem setup j)))
 
-    settings_of : (rest : List ℕ) → length (station_header setup j ++ rest) ≤ 2 ^ 32 → settings_at (station_header setup j ++ rest) ≡ settings_of (header_in First (station_header setup j))
+    settings_of_lem : (rest : List ℕ) → length (station_header setup j ++ rest) ≤ 2 ^ 32 → settings_at (station_header setup j ++ rest) ≡ settings_of (header_in First (station_header setup j))
     unfolding settings_at
-    settings_of rest l =
-        rw (length_is rest, le-leb 16 (length (station_header setup j ++ rest)) (long rest), le-leb (length (station_header setup j ++ rest)) (2 ^ 32) l, header_of rest)
+    settings_of_lem rest l =
+        rw (length_is rest, le-leb 16 (length (station_header setup j ++ rest)) (long rest), le-leb (length (station_header setup j ++ rest)) (2 ^ 32) l, header_of_lem rest)
 
     own_settings : settings_at (station_header setup j) ≡ settings_of (header_in First (station_header setup j))
     own_settings =
         subst (λ (l : List ℕ). settings_at l ≡ settings_of (header_in First (station_header setup j))) (append-nil (station_header setup j))
-        (settings_of [] (rw (append-nil (station_header setup j), header_length_lem setup j) (lit≤ tt)))
+        (settings_of_lem [] (rw (append-nil (station_header setup j), header_length_lem setup j) (lit≤ tt)))
 
     -- they have the address that was given
     pub address_given : created_number (settings_at (station_header setup j)) ≡ 0 → (settings_in (settings_at (station_header setup j))).address ≡ address_of setup j
@@ -160,5 +160,5 @@ module _ (setup : List ℕ) (j : ℕ) (are : Bytes setup) (room : station_place 
     starts rest l e =
         let numbered : Numbered (settings_at (station_header setup j)) = subst Numbered (sym own_settings) (settings_numbered (header_in First (station_header setup j))) in
         let is = accepted (settings_at (station_header setup j)) numbered e in
-        let same : settings_at (station_header setup j ++ rest) ≡ created.Accepted (settings_in (settings_at (station_header setup j))) = settings_of rest l ∙ sym own_settings ∙ is in
-        rw (same, header_of rest, one_application)
+        let same : settings_at (station_header setup j ++ rest) ≡ created.Accepted (settings_in (settings_at (station_header setup j))) = settings_of_lem rest l ∙ sym own_settings ∙ is in
+        rw (same, header_of_lem rest, one_application)

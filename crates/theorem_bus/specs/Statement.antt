@@ -1,5 +1,5 @@
 -- Document 02, P12: "Each station's part of the report equals its own trace answers on the records it was given." In one statement, for
--- every setup that is not refused and every station of it, on the trace as `simulated_trace` gives it. Its proof is `every-part` in Theorem.antt.
+-- every setup that is not refused and every station of it, on the trace as `simulated_trace` gives it. Its proof is `every_part` in Theorem.antt.
 use Rattle.std.specs.Prelude.{ℕ, zero, suc, ◌+◌, ◌*◌, ◌<◌, ◌≤◌, ◌≡◌, List, [], ◌∷◌, ◌++◌, length, take, drop}
 use Rattle.codec_fields.specs.Fields.{Bytes, bytes_of}
 use Rattle.codec_answers.specs.declared.Answer.{Answer}

@@ -1,5 +1,5 @@
 -- The theorem: a station's part of the report is what the trace call answers to its trace. Assumes nothing.
-use Rattle.std.specs.Prelude.{ℕ, zero, suc, ◌+◌, ◌-◌, ◌*◌, ◌^◌, ◌<◌, ◌≤◌, ◌≡◌, refl, Bool, length, take, drop}
+use Rattle.std.specs.Prelude.{ℕ, zero, suc, ◌+◌, ◌*◌, ◌^◌, ◌<◌, ◌≤◌, ◌≡◌, refl, Bool, length, take, drop}
 use Rattle.std.proofs.Math.Path.{ap}
 use Rattle.std.proofs.Common.{◌∙◌, eq-eqb, le-ltb, length-append, length-drop, take_at}
 use mathlib.Core.List.{List, [], ◌∷◌, ◌++◌}
@@ -7,7 +7,7 @@ use native.Mathlib.Omega.{arith}
 use Rattle.std.proofs.lemmas.Bool.{lt-leb}
 use Rattle.std.proofs.Math.Seq.{drop_at}
 use Rattle.codec_fields.specs.Fields.{Bytes}
-use Rattle.codec_fields.specs.Laws.{low_length}
+use Rattle.codec_fields.proofs.Laws.{low_length}
 use Rattle.codec_telegrams.specs.declared.Telegram.{Telegram}
 use Rattle.codec_records_written.specs.Whole.{each, telegram_bytes, record_bytes}
 use Rattle.codec_answers.specs.declared.Answer.{Answer}
@@ -17,7 +17,7 @@ use Rattle.trace_headers.specs.Headers.{header_length}
 use Rattle.trace.specs.Entries.{record_length, entry_of}
 use Rattle.settings.specs.Settings.{created_number}
 use Rattle.trace.specs.Trace.{settings_at, Run, Accepted, start_of, run_of, came, ran_of, replay_of}
-use Rattle.trace.specs.Laws.{replay_started}
+use Rattle.trace.proofs.Laws.{replay_started}
 use Rattle.theorem_every_trace.specs.Statement.{Entry, Whole, laid, along}
 use Rattle.theorem_every_trace.specs.EveryTrace.{each_entry_is_answered}
 use Rattle.bus_setup.specs.Setup.{stations_of, tick_of, ticks_of, station_place, address_of, station_header, placed_of, setup_refusal}

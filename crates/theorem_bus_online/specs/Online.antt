@@ -13,7 +13,7 @@ use Rattle.codec_decisions.specs.declared.Decision.TheVariants.{Decline}
 use Rattle.codec_records.specs.declared.Head.{Head}
 use Rattle.codec_records.specs.Records.{head_of, telegram_at, decision_at, record_refusal}
 use Rattle.codec_records_written.specs.Whole.{Says}
-use Rattle.codec_records_written.specs.Written.{round_trip}
+use Rattle.codec_records_written.proofs.Written.{round_trip}
 use Rattle.codec_answers.specs.declared.Answer.{Answer}
 use Rattle.codec_answers.specs.declared.Sent.{Sent}
 use Rattle.codec_answers.specs.declared.Sent.TheVariants as sent
@@ -30,9 +30,10 @@ use Rattle.station_answer.specs.Answer.{Polled, step_answer, polled_of, refused_
 use Rattle.station_command.specs.Command.{connect_of, online_of}
 use Rattle.station_hear_listen.specs.HearListen.{sent_by_us}
 use Rattle.station_poll.specs.Poll.{accepted_after, accepted_poll, poll_of}
-use Rattle.theorem_sound.specs.Sound.{poll, online, after, run, SoundStation, new_sound, sound}
-use Rattle.theorem_sound.specs.Fits.{every_answer_fits}
-use Rattle.theorem_silence.specs.Theorem.{inner_online}
+use Rattle.theorem_sound.specs.Sound.{poll, online, after, run, SoundStation}
+use Rattle.theorem_sound.proofs.Sound.{new_sound, sound}
+use Rattle.theorem_sound.proofs.Fits.{every_answer_fits}
+use Rattle.theorem_silence.proofs.Theorem.{inner_online}
 use Rattle.bus_setup.specs.Setup.{stations_of, tick_of, ticks_of, setup_refusal}
 use Rattle.bus_wire.specs.Wire.{sent_telegram, transmitting_at, heard_at}
 use Rattle.bus_run.specs.Run.{settings_for, given, head_at, declines, telegram_in, record_of, record_for, transmission_for, bus_at, record_at, answer_at}

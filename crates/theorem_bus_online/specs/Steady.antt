@@ -48,7 +48,7 @@ use Rattle.station_await_status.specs.AwaitStatus.{status_answered, status_unexp
 use Rattle.station_check_pass.specs.CheckPass.{removal_of, resend_of, check_received, check_token_pass_of}
 use Rattle.station_poll.specs.Poll.{connected_of, dispatch_of, poll_online}
 use Rattle.theorem_sound.specs.Keeps.{either}
-use Rattle.theorem_sound.specs.Kept.{hold_online}
+use Rattle.theorem_sound.proofs.Kept.{hold_online}
 
 -- any state but Offline
 abbrev pub There : State → Type 0

@@ -1,10 +1,6 @@
 -- What a station counts. To read: Events (what is counted, as what happens in a run), Statement (the theorem), Largest (where counting
--- stops). The proofs: Plain (steps of which nothing is counted), Meetings and Removals (the two events that are more than a change of
--- state), Theorem.
+-- stops). proofs/ has the proofs: Plain (steps of which nothing is counted), Meetings and Removals (the two events that are more than a
+-- change of state), Theorem.
 pub mod Events
 pub mod Statement
-pub mod Plain
-pub mod Meetings
-pub mod Removals
-pub mod Theorem
 pub mod Largest

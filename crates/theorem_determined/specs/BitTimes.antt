@@ -7,8 +7,8 @@ use Rattle.bit_times.proofs.to_rate.Reads as to-rate-reads
 use Rattle.bit_times.proofs.min_slot_bits.Reads as min-slot-bits-reads
 use Rattle.bit_times.proofs.time_of.Reads as time-of-reads
 
-pub baud_of_lem : Determined baud-of-reads.Post
-baud_of_lem κs a r₁ r₂ s₁ s₂ p q = p ∙ sym q
+pub baud_of : Determined baud-of-reads.Post
+baud_of κs a r₁ r₂ s₁ s₂ p q = p ∙ sym q
 
 pub code_of : Determined code-of-reads.Post
 code_of κs a r₁ r₂ s₁ s₂ p q = p ∙ sym q
@@ -19,5 +19,5 @@ to_rate κs a r₁ r₂ s₁ s₂ p q = p ∙ sym q
 pub min_slot_bits : Determined min-slot-bits-reads.Post
 min_slot_bits κs a r₁ r₂ s₁ s₂ p q = p ∙ sym q
 
-pub time_of_lem : Determined time-of-reads.Post
-time_of_lem κs a r₁ r₂ s₁ s₂ p q = p ∙ sym q
+pub time_of : Determined time-of-reads.Post
+time_of κs a r₁ r₂ s₁ s₂ p q = p ∙ sym q

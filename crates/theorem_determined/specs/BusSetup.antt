@@ -21,8 +21,8 @@ ticks κs a r₁ r₂ s₁ s₂ p q = p ∙ sym q
 pub placed : Determined placed-reads.Post
 placed κs a r₁ r₂ s₁ s₂ p q = p ∙ sym q
 
-pub setup_refusal_lem : Determined setup-refusal-reads.Post
-setup_refusal_lem κs a r₁ r₂ s₁ s₂ p q = p ∙ sym q
+pub setup_refusal : Determined setup-refusal-reads.Post
+setup_refusal κs a r₁ r₂ s₁ s₂ p q = p ∙ sym q
 
 -- `write_header` returns nothing and writes: what it leaves in the lent array is fixed, every byte
 pub write_header :

@@ -9,11 +9,11 @@ use Rattle.bus_wire.proofs.arrives.Reads as arrives-reads
 use Rattle.bus_wire.proofs.joined.Reads as joined-reads
 use Rattle.bus_wire.proofs.without.Reads as without-reads
 
-pub sent_telegram_lem : Determined sent-telegram-reads.Post
-sent_telegram_lem κs a r₁ r₂ s₁ s₂ p q = p ∙ sym q
+pub sent_telegram : Determined sent-telegram-reads.Post
+sent_telegram κs a r₁ r₂ s₁ s₂ p q = p ∙ sym q
 
-pub bytes_time_lem : Determined bytes-time-reads.Post
-bytes_time_lem κs a r₁ r₂ s₁ s₂ p q = p ∙ sym q
+pub bytes_time : Determined bytes-time-reads.Post
+bytes_time κs a r₁ r₂ s₁ s₂ p q = p ∙ sym q
 
 pub later : Determined later-reads.Post
 later κs a r₁ r₂ s₁ s₂ p q = p ∙ sym q

@@ -6,11 +6,11 @@ use Rattle.codec_answers.proofs.refused_answer.Reads as refused-answer-reads
 use Rattle.codec_answers.proofs.pack.Reads as pack-reads
 use Rattle.codec_answers.proofs.unpack.Reads as unpack-reads
 
-pub sent_bytes_lem : Determined sent-bytes-reads.Post
-sent_bytes_lem κs a r₁ r₂ s₁ s₂ p q = p ∙ sym q
+pub sent_bytes : Determined sent-bytes-reads.Post
+sent_bytes κs a r₁ r₂ s₁ s₂ p q = p ∙ sym q
 
-pub refused_answer_lem : Determined refused-answer-reads.Post
-refused_answer_lem κs a r₁ r₂ s₁ s₂ p q = p ∙ sym q
+pub refused_answer : Determined refused-answer-reads.Post
+refused_answer κs a r₁ r₂ s₁ s₂ p q = p ∙ sym q
 
 pub pack : Determined pack-reads.Post
 pack κs a r₁ r₂ s₁ s₂ p q = p ∙ sym q

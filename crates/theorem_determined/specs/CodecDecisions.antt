@@ -8,8 +8,8 @@ use Rattle.codec_decisions.proofs.write_decision.Reads as write-decision-reads
 pub read_decision : Determined read-decision-reads.Post
 read_decision κs a r₁ r₂ s₁ s₂ p q = p ∙ sym q
 
-pub decision_refusal_lem : Determined decision-refusal-reads.Post
-decision_refusal_lem κs a r₁ r₂ s₁ s₂ p q = p ∙ sym q
+pub decision_refusal : Determined decision-refusal-reads.Post
+decision_refusal κs a r₁ r₂ s₁ s₂ p q = p ∙ sym q
 
 pub write_decision : Determined write-decision-reads.Post
 write_decision κs a r₁ r₂ s₁ s₂ p q = p ∙ sym q

@@ -4,7 +4,7 @@ use Rattle.std.proofs.Common.{◌∙◌, sym}
 use Rattle.theorem_determined.specs.Claim.{Determined}
 use Rattle.codec_frames.proofs.check_byte.Reads as check-byte-reads
 use Rattle.codec_frames.proofs.read_frame.Reads as read-frame-reads
-use Rattle.codec_frames.proofs.read_number_lem.Reads as read-number-reads
+use Rattle.codec_frames.proofs.read_number.Reads as read-number-reads
 use Rattle.codec_frames.proofs.write_frame.Reads as write-frame-reads
 
 pub check_byte : Determined check-byte-reads.Post
@@ -13,8 +13,8 @@ check_byte κs a r₁ r₂ s₁ s₂ p q = p ∙ sym q
 pub read_frame : Determined read-frame-reads.Post
 read_frame κs a r₁ r₂ s₁ s₂ p q = p ∙ sym q
 
-pub read_number_lem : Determined read-number-reads.Post
-read_number_lem κs a r₁ r₂ s₁ s₂ p q = p ∙ sym q
+pub read_number : Determined read-number-reads.Post
+read_number κs a r₁ r₂ s₁ s₂ p q = p ∙ sym q
 
 -- `write_frame` returns a number and writes: both are fixed, the lent slice in every byte
 pub write_frame :

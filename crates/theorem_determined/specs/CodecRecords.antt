@@ -8,8 +8,8 @@ use Rattle.codec_records.proofs.telegram_place.Reads as telegram-place-reads
 use Rattle.codec_records.proofs.decision.Reads as decision-reads
 use Rattle.codec_records.proofs.telegram.Reads as telegram-reads
 
-pub record_refusal_lem : Determined record-refusal-reads.Post
-record_refusal_lem κs a r₁ r₂ s₁ s₂ p q = p ∙ sym q
+pub record_refusal : Determined record-refusal-reads.Post
+record_refusal κs a r₁ r₂ s₁ s₂ p q = p ∙ sym q
 
 pub read_head : Determined read-head-reads.Post
 read_head κs a r₁ r₂ s₁ s₂ p q = p ∙ sym q

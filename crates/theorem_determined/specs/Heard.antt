@@ -11,8 +11,8 @@ use Rattle.heard_shown.proofs.lookup.Reads as lookup-reads
 use Rattle.heard_shown.proofs.lookup_number.Reads as lookup-number-reads
 use Rattle.heard_shown.proofs.summary.Reads as summary-reads
 
-pub heard_refusal_lem : Determined heard-refusal-reads.Post
-heard_refusal_lem κs a r₁ r₂ s₁ s₂ p q = p ∙ sym q
+pub heard_refusal : Determined heard-refusal-reads.Post
+heard_refusal κs a r₁ r₂ s₁ s₂ p q = p ∙ sym q
 
 pub read_entry : Determined read-entry-reads.Post
 read_entry κs a r₁ r₂ s₁ s₂ p q = p ∙ sym q
@@ -40,8 +40,8 @@ hear_record κs a r₁ r₂ s₁ s₂ p q = p ∙ sym q
 pub lookup : Determined lookup-reads.Post
 lookup κs a r₁ r₂ s₁ s₂ p q = p ∙ sym q
 
-pub lookup_number_lem : Determined lookup-number-reads.Post
-lookup_number_lem κs a r₁ r₂ s₁ s₂ p q = p ∙ sym q
+pub lookup_number : Determined lookup-number-reads.Post
+lookup_number κs a r₁ r₂ s₁ s₂ p q = p ∙ sym q
 
 -- `summary` returns a number and writes: both are fixed, the lent slice in every byte
 pub summary :

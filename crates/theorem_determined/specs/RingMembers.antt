@@ -9,8 +9,8 @@ use Rattle.ring_members.proofs.add_members.Reads as add-members-reads
 use Rattle.ring_members.proofs.link_members.Reads as link-members-reads
 use Rattle.ring_members.proofs.write_members.Reads as write-members-reads
 
-pub in_set_lem : Determined in-set-reads.Post
-in_set_lem κs a r₁ r₂ s₁ s₂ p q = p ∙ sym q
+pub in_set : Determined in-set-reads.Post
+in_set κs a r₁ r₂ s₁ s₂ p q = p ∙ sym q
 
 pub add_members :
     (κs : _) (a : _) (r₁ r₂ : _) (s₁ s₂ : _)

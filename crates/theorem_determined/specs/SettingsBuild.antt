@@ -10,11 +10,11 @@ use Rattle.settings_build.proofs.finish.Reads as finish-reads
 pub of_parameters : Determined of-parameters-reads.Post
 of_parameters κs a r₁ r₂ s₁ s₂ p q = p ∙ sym q
 
-pub early_refusal_lem : Determined early-refusal-reads.Post
-early_refusal_lem κs a r₁ r₂ s₁ s₂ p q = p ∙ sym q
+pub early_refusal : Determined early-refusal-reads.Post
+early_refusal κs a r₁ r₂ s₁ s₂ p q = p ∙ sym q
 
-pub first_refusal_lem : Determined first-refusal-reads.Post
-first_refusal_lem κs a r₁ r₂ s₁ s₂ p q = p ∙ sym q
+pub first_refusal : Determined first-refusal-reads.Post
+first_refusal κs a r₁ r₂ s₁ s₂ p q = p ∙ sym q
 
 pub build : Determined build-reads.Post
 build κs a r₁ r₂ s₁ s₂ p q = p ∙ sym q

@@ -20,11 +20,11 @@ in_place 𝓤 p answer r₁ r₂ left₁ left₂ =
     fact_use 𝓤 (InPlace p answer r₂ left₂) (snd∗ 𝓤 (fact 𝓤 (InPlace p answer r₁ left₁)) (fact 𝓤 (InPlace p answer r₂ left₂))) (λ two.
     fact_i 𝓤 _ _ (one.0 ∙ sym two.0, ap (λ (left : Parameters). (left, (tt, tt))) (one.1 ∙ sym two.1))))
 
-pub set_slot_bits : DeterminedLeft set-slot-bits-promise.ended (λ M. set-slot-bits-promise.clauses)
+pub set_slot_bits : DeterminedLeft set-slot-bits-promise.ended (λ M 𝓤. set-slot-bits-promise.clauses)
 set_slot_bits M 𝓤 𝓛 mem run κs a g r₁ r₂ left₁ left₂ = in_place 𝓤 a.0.now (slot_bits_of a.0.now a.1.0) r₁ r₂ left₁.0 left₂.0
 
-pub set_highest_station_address : DeterminedLeft set-highest-station-address-promise.ended (λ M. set-highest-station-address-promise.clauses)
+pub set_highest_station_address : DeterminedLeft set-highest-station-address-promise.ended (λ M 𝓤. set-highest-station-address-promise.clauses)
 set_highest_station_address M 𝓤 𝓛 mem run κs a g r₁ r₂ left₁ left₂ = in_place 𝓤 a.0.now (hsa_of a.0.now a.1.0) r₁ r₂ left₁.0 left₂.0
 
-pub set_token_rotation_bits : DeterminedLeft set-token-rotation-bits-promise.ended (λ M. set-token-rotation-bits-promise.clauses)
+pub set_token_rotation_bits : DeterminedLeft set-token-rotation-bits-promise.ended (λ M 𝓤. set-token-rotation-bits-promise.clauses)
 set_token_rotation_bits M 𝓤 𝓛 mem run κs a g r₁ r₂ left₁ left₂ = in_place 𝓤 a.0.now (rotation_of a.0.now a.1.0) r₁ r₂ left₁.0 left₂.0

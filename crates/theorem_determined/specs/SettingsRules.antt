@@ -15,41 +15,41 @@ use Rattle.settings_rules.proofs.watchdog_refusal.Reads as watchdog-refusal-read
 use Rattle.settings_rules.proofs.factors_refusal.Reads as factors-refusal-reads
 use Rattle.settings_rules.proofs.applications_refusal.Reads as applications-refusal-reads
 
-pub address_refusal_lem : Determined address-refusal-reads.Post
-address_refusal_lem κs a r₁ r₂ s₁ s₂ p q = p ∙ sym q
+pub address_refusal : Determined address-refusal-reads.Post
+address_refusal κs a r₁ r₂ s₁ s₂ p q = p ∙ sym q
 
-pub baud_refusal_lem : Determined baud-refusal-reads.Post
-baud_refusal_lem κs a r₁ r₂ s₁ s₂ p q = p ∙ sym q
+pub baud_refusal : Determined baud-refusal-reads.Post
+baud_refusal κs a r₁ r₂ s₁ s₂ p q = p ∙ sym q
 
-pub least_of_lem : Determined least-of-reads.Post
-least_of_lem κs a r₁ r₂ s₁ s₂ p q = p ∙ sym q
+pub least_of : Determined least-of-reads.Post
+least_of κs a r₁ r₂ s₁ s₂ p q = p ∙ sym q
 
-pub slot_bits_refusal_lem : Determined slot-bits-refusal-reads.Post
-slot_bits_refusal_lem κs a r₁ r₂ s₁ s₂ p q = p ∙ sym q
+pub slot_bits_refusal : Determined slot-bits-refusal-reads.Post
+slot_bits_refusal κs a r₁ r₂ s₁ s₂ p q = p ∙ sym q
 
-pub hsa_refusal_lem : Determined hsa-refusal-reads.Post
-hsa_refusal_lem κs a r₁ r₂ s₁ s₂ p q = p ∙ sym q
+pub hsa_refusal : Determined hsa-refusal-reads.Post
+hsa_refusal κs a r₁ r₂ s₁ s₂ p q = p ∙ sym q
 
-pub rotation_refusal_lem : Determined rotation-refusal-reads.Post
-rotation_refusal_lem κs a r₁ r₂ s₁ s₂ p q = p ∙ sym q
+pub rotation_refusal : Determined rotation-refusal-reads.Post
+rotation_refusal κs a r₁ r₂ s₁ s₂ p q = p ∙ sym q
 
-pub room_refusal_lem : Determined room-refusal-reads.Post
-room_refusal_lem κs a r₁ r₂ s₁ s₂ p q = p ∙ sym q
+pub room_refusal : Determined room-refusal-reads.Post
+room_refusal κs a r₁ r₂ s₁ s₂ p q = p ∙ sym q
 
-pub gap_wait_refusal_lem : Determined gap-wait-refusal-reads.Post
-gap_wait_refusal_lem κs a r₁ r₂ s₁ s₂ p q = p ∙ sym q
+pub gap_wait_refusal : Determined gap-wait-refusal-reads.Post
+gap_wait_refusal κs a r₁ r₂ s₁ s₂ p q = p ∙ sym q
 
-pub retry_refusal_lem : Determined retry-refusal-reads.Post
-retry_refusal_lem κs a r₁ r₂ s₁ s₂ p q = p ∙ sym q
+pub retry_refusal : Determined retry-refusal-reads.Post
+retry_refusal κs a r₁ r₂ s₁ s₂ p q = p ∙ sym q
 
-pub min_tsdr_refusal_lem : Determined min-tsdr-refusal-reads.Post
-min_tsdr_refusal_lem κs a r₁ r₂ s₁ s₂ p q = p ∙ sym q
+pub min_tsdr_refusal : Determined min-tsdr-refusal-reads.Post
+min_tsdr_refusal κs a r₁ r₂ s₁ s₂ p q = p ∙ sym q
 
-pub watchdog_refusal_lem : Determined watchdog-refusal-reads.Post
-watchdog_refusal_lem κs a r₁ r₂ s₁ s₂ p q = p ∙ sym q
+pub watchdog_refusal : Determined watchdog-refusal-reads.Post
+watchdog_refusal κs a r₁ r₂ s₁ s₂ p q = p ∙ sym q
 
-pub factors_refusal_lem : Determined factors-refusal-reads.Post
-factors_refusal_lem κs a r₁ r₂ s₁ s₂ p q = p ∙ sym q
+pub factors_refusal : Determined factors-refusal-reads.Post
+factors_refusal κs a r₁ r₂ s₁ s₂ p q = p ∙ sym q
 
-pub applications_refusal_lem : Determined applications-refusal-reads.Post
-applications_refusal_lem κs a r₁ r₂ s₁ s₂ p q = p ∙ sym q
+pub applications_refusal : Determined applications-refusal-reads.Post
+applications_refusal κs a r₁ r₂ s₁ s₂ p q = p ∙ sym q

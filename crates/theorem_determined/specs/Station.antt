@@ -30,26 +30,26 @@ use Rattle.station.proofs.hearing.Reads as hearing-reads
 use Rattle.station.proofs.colliding.Reads as colliding-reads
 use Rattle.station.proofs.is_last_request_to_us.Reads as is-last-request-to-us-reads
 
-pub with_activity_lem : Determined with-activity-reads.Post
-with_activity_lem κs a r₁ r₂ s₁ s₂ p q = p ∙ sym q
+pub with_activity : Determined with-activity-reads.Post
+with_activity κs a r₁ r₂ s₁ s₂ p q = p ∙ sym q
 
-pub with_gap_lem : Determined with-gap-reads.Post
-with_gap_lem κs a r₁ r₂ s₁ s₂ p q = p ∙ sym q
+pub with_gap : Determined with-gap-reads.Post
+with_gap κs a r₁ r₂ s₁ s₂ p q = p ∙ sym q
 
-pub with_token_times_lem : Determined with-token-times-reads.Post
-with_token_times_lem κs a r₁ r₂ s₁ s₂ p q = p ∙ sym q
+pub with_token_times : Determined with-token-times-reads.Post
+with_token_times κs a r₁ r₂ s₁ s₂ p q = p ∙ sym q
 
-pub with_next_application_lem : Determined with-next-application-reads.Post
-with_next_application_lem κs a r₁ r₂ s₁ s₂ p q = p ∙ sym q
+pub with_next_application : Determined with-next-application-reads.Post
+with_next_application κs a r₁ r₂ s₁ s₂ p q = p ∙ sym q
 
-pub with_connectivity_lem : Determined with-connectivity-reads.Post
-with_connectivity_lem κs a r₁ r₂ s₁ s₂ p q = p ∙ sym q
+pub with_connectivity : Determined with-connectivity-reads.Post
+with_connectivity κs a r₁ r₂ s₁ s₂ p q = p ∙ sym q
 
-pub is_offline_lem : Determined is-offline-reads.Post
-is_offline_lem κs a r₁ r₂ s₁ s₂ p q = p ∙ sym q
+pub is_offline : Determined is-offline-reads.Post
+is_offline κs a r₁ r₂ s₁ s₂ p q = p ∙ sym q
 
-pub state_number_lem : Determined state-number-reads.Post
-state_number_lem κs a r₁ r₂ s₁ s₂ p q = p ∙ sym q
+pub state_number : Determined state-number-reads.Post
+state_number κs a r₁ r₂ s₁ s₂ p q = p ∙ sym q
 
 pub transition_listen_token : Determined transition-listen-token-reads.Post
 transition_listen_token κs a r₁ r₂ s₁ s₂ p q = p ∙ sym q
@@ -63,8 +63,8 @@ transition_active_idle κs a r₁ r₂ s₁ s₂ p q = p ∙ sym q
 pub transition_use_token : Determined transition-use-token-reads.Post
 transition_use_token κs a r₁ r₂ s₁ s₂ p q = p ∙ sym q
 
-pub fresh_core_lem : Determined fresh-core-reads.Post
-fresh_core_lem κs a r₁ r₂ s₁ s₂ p q = p ∙ sym q
+pub fresh_core : Determined fresh-core-reads.Post
+fresh_core κs a r₁ r₂ s₁ s₂ p q = p ∙ sym q
 
 pub new : DeterminedLent new-reads.Post (λ k s. s.1.1.0.now)
 new κs a r₁ r₂ s₁ s₂ p q = started_same r₁ r₂ s₁.1.1.0.now s₂.1.1.0.now (p ∙ sym q)
@@ -96,8 +96,8 @@ done κs a r₁ r₂ s₁ s₂ p q = p ∙ sym q
 pub transmit : Determined transmit-reads.Post
 transmit κs a r₁ r₂ s₁ s₂ p q = p ∙ sym q
 
-pub with_event_lem : Determined with-event-reads.Post
-with_event_lem κs a r₁ r₂ s₁ s₂ p q = (ring_step_same r₁ r₂ [] [] (p [] ∙ sym (q []))).0
+pub with_event : Determined with-event-reads.Post
+with_event κs a r₁ r₂ s₁ s₂ p q = (ring_step_same r₁ r₂ [] [] (p [] ∙ sym (q []))).0
 
 pub hearing : Determined hearing-reads.Post
 hearing κs a r₁ r₂ s₁ s₂ p q = (heard_same r₁ r₂ [] [] (p [] ∙ sym (q []))).0

@@ -16,8 +16,8 @@ respond κs a r₁ r₂ s₁ s₂ p q = (ring_step_same r₁ r₂ [] [] (p [] �
 pub receive_all_telegrams : DeterminedLent receive-all-telegrams-reads.Post (λ k s. s.1.1.1.1.0.now)
 receive_all_telegrams κs a r₁ r₂ s₁ s₂ p q = heard_same r₁ r₂ s₁.1.1.1.1.0.now s₂.1.1.1.1.0.now (p ∙ sym q)
 
-pub consumed_all_lem : Determined consumed-all-reads.Post
-consumed_all_lem κs a r₁ r₂ s₁ s₂ p q = (ring_step_same r₁ r₂ [] [] (p [] ∙ sym (q []))).0
+pub consumed_all : Determined consumed-all-reads.Post
+consumed_all κs a r₁ r₂ s₁ s₂ p q = (ring_step_same r₁ r₂ [] [] (p [] ∙ sym (q []))).0
 
 pub received : DeterminedLent received-reads.Post (λ k s. s.1.1.1.1.0.now)
 received κs a r₁ r₂ s₁ s₂ p q = ring_step_same r₁ r₂ s₁.1.1.1.1.0.now s₂.1.1.1.1.0.now (p ∙ sym q)

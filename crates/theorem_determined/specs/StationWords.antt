@@ -7,30 +7,30 @@ use Rattle.station_words.proofs.words_of.Reads as words-of-reads
 use Rattle.station_words.proofs.state_in.Reads as state-in-reads
 use Rattle.station_words.proofs.core_in.Reads as core-in-reads
 use Rattle.station_words.proofs.counts_in.Reads as counts-in-reads
-use Rattle.station_words.proofs.head_in_lem.Reads as head-in-reads
+use Rattle.station_words.proofs.head_in.Reads as head-in-reads
 use Rattle.station_words.proofs.header_in.Reads as header-in-reads
 use Rattle.station_words.proofs.same_words.Reads as same-words-reads
 
-pub activity_known_lem : Determined activity-known-reads.Post
-activity_known_lem κs a r₁ r₂ s₁ s₂ p q = p ∙ sym q
+pub activity_known : Determined activity-known-reads.Post
+activity_known κs a r₁ r₂ s₁ s₂ p q = p ∙ sym q
 
 pub words_of : Determined words-of-reads.Post
 words_of κs a r₁ r₂ s₁ s₂ p q = p ∙ sym q
 
-pub state_in_lem : Determined state-in-reads.Post
-state_in_lem κs a r₁ r₂ s₁ s₂ p q = p ∙ sym q
+pub state_in : Determined state-in-reads.Post
+state_in κs a r₁ r₂ s₁ s₂ p q = p ∙ sym q
 
-pub core_in_lem : Determined core-in-reads.Post
-core_in_lem κs a r₁ r₂ s₁ s₂ p q = p ∙ sym q
+pub core_in : Determined core-in-reads.Post
+core_in κs a r₁ r₂ s₁ s₂ p q = p ∙ sym q
 
-pub counts_in_lem : Determined counts-in-reads.Post
-counts_in_lem κs a r₁ r₂ s₁ s₂ p q = p ∙ sym q
+pub counts_in : Determined counts-in-reads.Post
+counts_in κs a r₁ r₂ s₁ s₂ p q = p ∙ sym q
 
-pub head_in_lem : Determined head-in-reads.Post
-head_in_lem κs a r₁ r₂ s₁ s₂ p q = p ∙ sym q
+pub head_in : Determined head-in-reads.Post
+head_in κs a r₁ r₂ s₁ s₂ p q = p ∙ sym q
 
-pub header_in_lem : Determined header-in-reads.Post
-header_in_lem κs a r₁ r₂ s₁ s₂ p q = p ∙ sym q
+pub header_in : Determined header-in-reads.Post
+header_in κs a r₁ r₂ s₁ s₂ p q = p ∙ sym q
 
-pub same_words_lem : Determined same-words-reads.Post
-same_words_lem κs a r₁ r₂ s₁ s₂ p q = p ∙ sym q
+pub same_words : Determined same-words-reads.Post
+same_words κs a r₁ r₂ s₁ s₂ p q = p ∙ sym q

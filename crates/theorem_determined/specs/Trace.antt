@@ -15,8 +15,8 @@ header_settings κs a r₁ r₂ s₁ s₂ p q = p ∙ sym q
 pub trace_settings : Determined trace-settings-reads.Post
 trace_settings κs a r₁ r₂ s₁ s₂ p q = p ∙ sym q
 
-pub record_length_lem : Determined record-length-reads.Post
-record_length_lem κs a r₁ r₂ s₁ s₂ p q = p.0 ∙ sym q.0
+pub record_length : Determined record-length-reads.Post
+record_length κs a r₁ r₂ s₁ s₂ p q = p.0 ∙ sym q.0
 
 pub answer_entry : DeterminedLent answer-entry-reads.Post (λ k s. s.1.0.now)
 answer_entry κs a r₁ r₂ s₁ s₂ p q = polled_same r₁ r₂ s₁.1.0.now s₂.1.0.now (p ∙ sym q)

@@ -7,17 +7,17 @@ use Rattle.trace_headers.proofs.header_length.Reads as header-length-reads
 use Rattle.trace_headers.proofs.read_header.Reads as read-header-reads
 use Rattle.trace_headers.proofs.header_refusal.Reads as header-refusal-reads
 
-pub edition_of_lem : Determined edition-of-reads.Post
-edition_of_lem κs a r₁ r₂ s₁ s₂ p q = p ∙ sym q
+pub edition_of : Determined edition-of-reads.Post
+edition_of κs a r₁ r₂ s₁ s₂ p q = p ∙ sym q
 
-pub length_of_lem : Determined length-of-reads.Post
-length_of_lem κs a r₁ r₂ s₁ s₂ p q = p.0 ∙ sym q.0
+pub length_of : Determined length-of-reads.Post
+length_of κs a r₁ r₂ s₁ s₂ p q = p.0 ∙ sym q.0
 
-pub header_length_lem : Determined header-length-reads.Post
-header_length_lem κs a r₁ r₂ s₁ s₂ p q = p.0 ∙ sym q.0
+pub header_length : Determined header-length-reads.Post
+header_length κs a r₁ r₂ s₁ s₂ p q = p.0 ∙ sym q.0
 
 pub read_header : Determined read-header-reads.Post
 read_header κs a r₁ r₂ s₁ s₂ p q = p ∙ sym q
 
-pub header_refusal_lem : Determined header-refusal-reads.Post
-header_refusal_lem κs a r₁ r₂ s₁ s₂ p q = p ∙ sym q
+pub header_refusal : Determined header-refusal-reads.Post
+header_refusal κs a r₁ r₂ s₁ s₂ p q = p ∙ sym q

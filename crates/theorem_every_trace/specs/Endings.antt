@@ -8,7 +8,7 @@ use Rattle.codec_fields.specs.Fields.{zero_or14, zeros_or14}
 use Rattle.settings.specs.declared.Created.{Created}
 use Rattle.settings.specs.declared.Created.TheVariants as created
 use Rattle.settings_rules.specs.Rules.{refuse_below, refuse_outside, address_refusal, baud_refusal, least_of, slot_bits_refusal, hsa_refusal, rotation_refusal, room_refusal, gap_wait_refusal, retry_refusal, min_tsdr_refusal, factors_refusal, applications_refusal}
-use Rattle.settings_rules.specs.Laws.{first_has}
+use Rattle.settings_rules.proofs.Laws.{first_has}
 use Rattle.settings_build.specs.declared.PlainSettings.{PlainSettings}
 use Rattle.settings_build.specs.Build.{early_refusal, first_refusal, built_at, build_of}
 use Rattle.theorem_sound.specs.Keeps.{either}

@@ -5,10 +5,11 @@ use borrow.Table.Steps.{cases}
 use Rattle.std.proofs.Math.Pow.{high, low}
 use Rattle.station.specs.Whole.{Station}
 use Rattle.trace_headers.specs.Headers.{header_length}
-use Rattle.theorem_sound.specs.Unchanged.{poll_unchanged, online_refusal, offline_refusal, passive_refusal}
+use Rattle.theorem_sound.proofs.Unchanged.{poll_unchanged, online_refusal, offline_refusal, passive_refusal}
 use Rattle.trace.specs.Trace.{TraceStart, Accepted, Refused, start_of, answered, run_of, ran_of, replay_on, replay_of, number_of, written, buffer_of}
 use Rattle.trace.specs.Entries.{entry_of}
-use Rattle.trace.specs.Laws.{preceded_by, replay_refused, run_none, run_more}
+use Rattle.trace.specs.Laws.{preceded_by}
+use Rattle.trace.proofs.Laws.{replay_refused, run_none, run_more}
 use Rattle.theorem_every_trace.specs.Endings.{Small, start_small}
 use Rattle.theorem_every_trace.specs.Statement.{Entry, Whole, laid, along}
 use Rattle.theorem_every_trace.specs.Runs.{run_enough, run_on, run_ends, written_length}
@@ -50,10 +51,13 @@ unfolding replay_on ran_of
 replay_room (Accepted s) trace room = (run_ends (length (drop (header_length trace) trace)) s (drop (header_length trace) trace) room).fits
 replay_room (Refused n) trace room = omega arith
 
+of_replay : (trace : List ℕ) (room : ℕ) → 8 * length (replay_of trace room).answers ≤ room
+unfolding replay_of
+of_replay trace room = replay_room (start_of trace) trace room
+
 -- the answers of a replay have room in the buffer
 pub answers_have_room : (trace before : List ℕ) → 8 * length (replay_of trace (length before)).answers ≤ length before
-unfolding replay_of
-answers_have_room trace before = replay_room (start_of trace) trace (length before)
+answers_have_room trace before = of_replay trace (length before)
 
 -- the buffer's first bytes at exit are the answers given, 8 each
 pub answers_stand :
@@ -79,7 +83,7 @@ unfolding buffer_of
 buffer_keeps_its_length trace before =
     let r = replay_of trace (length before) in
     length-append (written r.answers) (drop (8 * length r.answers) before)
-    ∙ rw (written_length r.answers, length-drop) (omega (arith, answers_have_room trace before))
+    ∙ rw (written_length r.answers, length-drop) (omega (arith, of_replay trace (length before)))
 
 -- every entry that is whole and has room for its answer is answered, and by the station's definition on the entry
 pub each_entry_is_answered : (s : Station) (es : List Entry) (room : ℕ) → Whole es → 8 * length es ≤ room → run_of s (laid es) room ≡ along s es

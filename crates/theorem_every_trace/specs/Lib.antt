@@ -4,7 +4,5 @@
 pub mod Runs
 pub mod Endings
 pub mod Statement
-pub mod Theorem
-pub mod Once
 pub mod EveryTrace
 pub mod Moved

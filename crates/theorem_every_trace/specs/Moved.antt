@@ -6,8 +6,8 @@ use borrow.Author.Tests.{le-leb, lt-leb, le-ltb, ltb-false, eqb-true}
 use borrow.Table.Steps.{cases}
 use Rattle.std.proofs.Math.ListN.{length}
 use Rattle.codec_fields.specs.Fields.{field_of, be_from, Bytes}
-use Rattle.codec_fields.specs.Laws.{never}
-use Rattle.codec_fields.specs.Stores.{bytes_take}
+use Rattle.codec_fields.proofs.Laws.{never}
+use Rattle.codec_fields.proofs.Stores.{bytes_take}
 use Rattle.settings.specs.declared.Parameters.{Parameters}
 use Rattle.settings.specs.declared.Created.{Created}
 use Rattle.settings.specs.declared.Created.TheVariants as created
@@ -21,7 +21,7 @@ use Rattle.trace_editions.specs.Editions.{other_than, lent_refusal, other_length
 use Rattle.trace_editions.specs.Laws.{move_done}
 use Rattle.trace_editions.specs.Moves.{AcceptedHeader, moved, Moves, header_moves}
 use Rattle.trace.specs.Trace.{settings_of, settings_at, longest_trace, TraceStart, Accepted, Refused, started_with, start_of, ran_of, replay_on, replay_of}
-use Rattle.trace.specs.Laws.{start_long, start_refused}
+use Rattle.trace.proofs.Laws.{start_long, start_refused}
 
 -- What is said.
 
@@ -83,9 +83,9 @@ module _ (header entries : List ℕ) (whole : length header ≡ header_length he
   there : header_length (header ++ entries) ≤ length (header ++ entries)
   there = rw (length_of_lem, length-append) (omega arith)
 
-  header_of : header_of (header ++ entries) ≡ header_of header
+  header_of_lem : header_of (header ++ entries) ≡ header_of header
   unfolding header_of
-  header_of =
+  header_of_lem =
       let own : header_length header ≤ length header = rw whole (le_refl (header_length header)) in
       let fits : length header ≤ header_length header = rw whole (le_refl (header_length header)) in
       rw (le-ltb (length (header ++ entries)) (header_length (header ++ entries)) there, before, edition_of_lem, le-ltb (length header) (header_length header) own)
@@ -95,7 +95,7 @@ module _ (header entries : List ℕ) (whole : length header ≡ header_length he
   starts : length (header ++ entries) ≤ longest_trace → start_of (header ++ entries) ≡ started_with (settings_of (header_of header)) (header_of header).applications
   unfolding start_of settings_at
   starts l =
-      rw (le-leb (header_length (header ++ entries)) (length (header ++ entries)) there, le-leb (length (header ++ entries)) longest_trace l, header_of)
+      rw (le-leb (header_length (header ++ entries)) (length (header ++ entries)) there, le-leb (length (header ++ entries)) longest_trace l, header_of_lem)
 
   too_long : longest_trace < length (header ++ entries) → start_of (header ++ entries) ≡ Refused 17
   unfolding settings_at
@@ -144,7 +144,7 @@ module _ (trace : List ℕ) (room : header_length trace ≤ length trace) where
   own_whole = own_length ∙ ap length_of (sym own_edition)
 
   own_header : header_of trace ≡ header_of (take (header_length trace) trace)
-  own_header = ap header_of (sym (take-append-drop (header_length trace) trace)) ∙ header_of (take (header_length trace) trace) (drop (header_length trace) trace) own_whole
+  own_header = ap header_of (sym (take-append-drop (header_length trace) trace)) ∙ header_of_lem (take (header_length trace) trace) (drop (header_length trace) trace) own_whole
 
 -- a lent header that is taken is there
 lent_there : (lent : List ℕ) → lent_refusal lent ≡ 0 → header_length lent ≤ length lent
@@ -227,7 +227,7 @@ moves_alike trace fresh bytes e =
     whole_moved = moves.is_accepted.whole
 
     same_header : header_of (moved_trace trace) ≡ header_of trace
-    same_header = header_of (moved header) entries whole_moved ∙ moves.says_the_same ∙ sym (own_header trace room.0)
+    same_header = header_of_lem (moved header) entries whole_moved ∙ moves.says_the_same ∙ sym (own_header trace room.0)
 
     same : length (moved_trace trace) ≤ longest_trace → start_of (moved_trace trace) ≡ start_of trace
     same l =

@@ -11,7 +11,8 @@ use Rattle.station.specs.Whole.{Station}
 use Rattle.station_answer.specs.Answer.{Polled}
 use Rattle.trace.specs.Entries.{record_length, entry_of}
 use Rattle.trace.specs.Trace.{Run, ended, answered, run_from, run_of, written}
-use Rattle.trace.specs.Laws.{preceded_by, run_none, run_cut, run_full, run_more}
+use Rattle.trace.specs.Laws.{preceded_by}
+use Rattle.trace.proofs.Laws.{run_none, run_cut, run_full, run_more}
 
 -- the three ways of an entry
 pub data Way (kind : ℕ) (rest : List ℕ) (room : ℕ) : Type 0 where

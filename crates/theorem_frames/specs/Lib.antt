@@ -2,5 +2,4 @@
 pub mod Whole
 pub mod Bytes
 pub mod RoundTrip
-pub mod Cut
 pub mod Changed

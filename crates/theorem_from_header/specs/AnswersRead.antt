@@ -2,9 +2,9 @@
 -- the station's definition gives to the entry at that place.
 use Rattle.std.specs.Prelude.{ℕ, zero, suc, ◌+◌, ◌*◌, ◌%◌, ◌^◌, ◌<◌, ◌≤◌, ◌≡◌, refl, List, [], ◌∷◌, ◌++◌, length, drop}
 use Rattle.std.proofs.Common.{sym, ap, ◌∙◌, append_assoc, arith, mod-lt, length-append, drop_at, lit<, lit≤}
-use Rattle.codec_fields.specs.Stores.{room_is}
+use Rattle.codec_fields.proofs.Stores.{room_is}
 use Rattle.codec_fields.specs.Fields.{put_of, load_of, bytes_of}
-use Rattle.codec_fields.specs.Laws.{be_bytes}
+use Rattle.codec_fields.proofs.Laws.{be_bytes}
 use Rattle.codec_answers.specs.declared.Answer.{Answer}
 use Rattle.codec_answers.specs.declared.Unpacked.TheVariants.{Is}
 use Rattle.codec_answers.specs.Answers.{answer_word, unpack_of, Fits}
@@ -12,11 +12,11 @@ use Rattle.codec_answers.specs.Laws.{answer_unpacks}
 use Rattle.station.specs.Whole.{Station}
 use Rattle.trace.specs.Entries.{entry_of}
 use Rattle.trace.specs.Trace.{Accepted, start_of, written}
-use Rattle.trace.specs.Laws.{written_append}
+use Rattle.trace.proofs.Laws.{written_append}
 use Rattle.theorem_sound.specs.Sound.{SoundStation}
-use Rattle.theorem_sound.specs.Fits.{every_answer_fits}
+use Rattle.theorem_sound.proofs.Fits.{every_answer_fits}
 use Rattle.theorem_every_trace.specs.Statement.{Entry, along, Answered}
-use Rattle.theorem_every_trace.specs.Theorem.{along_length}
+use Rattle.theorem_every_trace.proofs.Theorem.{along_length}
 use Rattle.theorem_every_trace.specs.Runs.{written_length}
 use Rattle.theorem_from_header.specs.FromHeader.{call_of, entry_answers, from_header}
 

@@ -8,7 +8,7 @@ use Rattle.settings.specs.declared.Parameters.{Parameters}
 use Rattle.settings.specs.declared.Created.{Created}
 use Rattle.settings.specs.declared.Created.TheVariants as created
 use Rattle.settings_rules.specs.Rules.{factors_refusal, applications_refusal}
-use Rattle.settings_rules.specs.Laws.{none_refuses}
+use Rattle.settings_rules.proofs.Laws.{none_refuses}
 use Rattle.settings_build.specs.Build.{early_refusal, first_refusal, build_of, plain_of}
 use Rattle.codec_fields.specs.Fields.{zero_or14}
 use Rattle.codec_records.specs.Records.{record_refusal}
@@ -27,11 +27,12 @@ use Rattle.theorem_sound.specs.Sound.{Call, poll, online, offline, passive, afte
 use Rattle.theorem_sound.specs.Fits.{answer_to}
 use Rattle.theorem_silence.specs.Silence.{gap_due, Start, AllQuiet, Silence}
 use Rattle.theorem_silence.specs.Silence as silence
-use Rattle.theorem_silence.specs.Theorem as theorem
+use Rattle.theorem_silence.proofs.Theorem as theorem
 use Rattle.theorem_silence.specs.Calls.{ByCalls, settings_given, settings_of_calls, sound_of_calls, start_of_calls}
 use Rattle.theorem_every_trace.specs.Statement.{Entry, along}
-use Rattle.theorem_every_trace.specs.Theorem.{taken}
-use Rattle.settings_build.specs.Built.{Built, build_accepts, built_passes}
+use Rattle.theorem_every_trace.proofs.Theorem.{taken}
+use Rattle.settings_build.specs.Built.{Built}
+use Rattle.settings_build.proofs.Built.{build_accepts, built_passes}
 
 -- What is said.
 

@@ -11,7 +11,7 @@ use Rattle.trace_editions.specs.Moves.{moved}
 use Rattle.theorem_every_trace.specs.Moved.{other_edition_writes}
 use Rattle.trace.specs.Trace.{replay_of, number_of, buffer_of}
 use Rattle.theorem_every_trace.specs.Statement.{Replayed}
-use Rattle.theorem_every_trace.specs.Theorem.{every_trace}
+use Rattle.theorem_every_trace.proofs.Theorem.{every_trace}
 use Rattle.theorem_from_header.specs.SilentTrace.{SilentTrace, SilenceRead}
 use Rattle.theorem_from_header.specs.SilentTraceProof.{silence_in_trace}
 

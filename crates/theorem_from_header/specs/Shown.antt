@@ -38,7 +38,7 @@ use Rattle.trace_headers.specs.Headers as headers
 use Rattle.trace.specs.Entries as entries
 use Rattle.trace.specs.Trace.{settings_of, settings_at, Accepted, started_with, start_of, replay_of, buffer_of}
 use Rattle.theorem_silence.specs.Silence.{AllQuiet, Online, gap_due, slot_after, counted, counted_in, tokens}
-use Rattle.theorem_silence.specs.Shown.{with_ring, ring_is, ring_nine, claimed_nine}
+use Rattle.theorem_silence.proofs.Shown.{with_ring, ring_is, ring_nine, claimed_nine}
 use Rattle.theorem_silence.specs.SilentRecords.{silent_at, silent_quiet}
 use Rattle.theorem_every_trace.specs.Statement.{Entry, Whole, laid, along}
 use Rattle.theorem_from_header.specs.SilentTrace.{poll_entries, sent_by_answers, held_by_answers, SilentTrace, silent_answers}

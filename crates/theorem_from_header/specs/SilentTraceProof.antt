@@ -16,7 +16,7 @@ use Rattle.codec_answers.specs.declared.Unpacked.TheVariants.{Is}
 use Rattle.codec_answers.specs.Answers.{refused_answer, unpack_of, Fits}
 use Rattle.codec_answers.specs.Laws.{answer_unpacks}
 use Rattle.ring.specs.Ring.{others, first_of, next_number}
-use Rattle.ring.specs.Laws.{next_first}
+use Rattle.ring.proofs.Laws.{next_first}
 use Rattle.station.specs.Whole.{Station}
 use Rattle.station.specs.declared.State.{State}
 use Rattle.station.specs.Parts.{state_number}
@@ -25,14 +25,16 @@ use Rattle.station_poll.specs.Poll.{accepted_after, accepted_poll, poll_of}
 use Rattle.trace_headers.specs.Headers.{header_length, header_of}
 use Rattle.trace.specs.Entries.{record_length, entry_of}
 use Rattle.trace.specs.Trace.{Run, run_of, ran_of, replay_of, written, buffer_of}
-use Rattle.trace.specs.Laws.{replay_started}
+use Rattle.trace.proofs.Laws.{replay_started}
 use Rattle.theorem_sound.specs.Keeps.{either}
-use Rattle.theorem_sound.specs.Sound.{SoundStation, poll, after, call_sound}
-use Rattle.theorem_sound.specs.Fits.{poll_fits}
-use Rattle.theorem_sound.specs.Names.{next_in, poll_names}
+use Rattle.theorem_sound.specs.Sound.{SoundStation, poll, after}
+use Rattle.theorem_sound.proofs.Sound.{call_sound}
+use Rattle.theorem_sound.proofs.Fits.{poll_fits}
+use Rattle.theorem_sound.specs.Names.{next_in}
+use Rattle.theorem_sound.proofs.Names.{poll_names}
 use Rattle.theorem_silence.specs.Silence.{Quiet, AllQuiet, holds_token, until, told, sent_until, tokens, Silence}
 use Rattle.theorem_every_trace.specs.Statement.{Entry, Whole, laid, along}
-use Rattle.theorem_every_trace.specs.Theorem.{along_length}
+use Rattle.theorem_every_trace.proofs.Theorem.{along_length}
 use Rattle.theorem_every_trace.specs.EveryTrace.{each_entry_is_answered, longer_trace_begins_alike}
 use Rattle.theorem_from_header.specs.FromHeader.{OfHeader, from_header, silence_inside}
 use Rattle.theorem_from_header.specs.AnswersRead.{along_append, word_here}
@@ -231,8 +233,8 @@ module _ (trace before : List ℕ) (t : SilentTrace trace before) where
   abbrev station : Station
   station = passing_station t
 
-  header_of : OfHeader trace station
-  header_of = from_header trace t.fresh t.earlier t.starts
+  header_of_lem : OfHeader trace station
+  header_of_lem = from_header trace t.fresh t.earlier t.starts
 
   -- demand 3 holds of it
   silent_here : Silence station t.records
@@ -283,7 +285,7 @@ module _ (trace before : List ℕ) (t : SilentTrace trace before) where
       ap (λ (l : List ℕ). answers_from l (length t.earlier) (length t.records)) buffer_is
       ∙ ap (λ (k : ℕ). answers_from (written ((along t.fresh t.earlier).answers ++ (answers_to station t.records ++ begins.later)) ++ old) k (length t.records)) (sym (along_length t.fresh t.earlier))
       ∙ ap (λ (k : ℕ). answers_from (written ((along t.fresh t.earlier).answers ++ (answers_to station t.records ++ begins.later)) ++ old) (length (along t.fresh t.earlier).answers) k) (sym (answers_many station t.records))
-      ∙ read_back (answers_to station t.records) (along t.fresh t.earlier).answers begins.later old (all_fit t.records station header_of.is_sound)
+      ∙ read_back (answers_to station t.records) (along t.fresh t.earlier).answers begins.later old (all_fit t.records station header_of_lem.is_sound)
 
   sent_is : sent_by_answers (silent_answers t left) ≡ sent_until station t.records
   sent_is = ap sent_by_answers answers_are ∙ said_sent t.records station not_held
@@ -293,13 +295,13 @@ module _ (trace before : List ℕ) (t : SilentTrace trace before) where
 
   own_is : station.p.address ≡ (header_of trace).settings.address
   unfolding plain_of
-  own_is = ap (λ (f : PlainSettings). f.address) header_of.same_numbers
+  own_is = ap (λ (f : PlainSettings). f.address) header_of_lem.same_numbers
 
   next_is : next_by_answers (next_in station) (silent_answers t left) ≡ next_number (first_of (others (until station t.records).token_ring))
   next_is =
       ap (next_by_answers (next_in station)) answers_are
       ∙ said_next t.records station not_held
-      ∙ next_of_others (until station t.records) (until_sound t.records station header_of.is_sound)
+      ∙ next_of_others (until station t.records) (until_sound t.records station header_of_lem.is_sound)
 
 -- demand 3 over a trace's bytes
 pub silence_in_trace : SilenceInTrace

@@ -1,4 +1,3 @@
--- The statement first, then its proof; then that nothing clears what was heard.
+-- The statement, and what stays of an entry. Proofs has the proof, and that nothing clears what was heard.
 pub mod Statement
-pub mod Theorem
 pub mod Stays

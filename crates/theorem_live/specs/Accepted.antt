@@ -6,21 +6,22 @@ use Rattle.std.proofs.Common.{sym, ◌∙◌, arith, eqb-true, ltb-false, length
 use mathlib.Core.List.{List, [], ◌∷◌, ◌++◌}
 use borrow.Table.Steps.{cases}
 use Rattle.codec_fields.specs.Fields.{zero_or14, zeros_or14, Bytes}
-use Rattle.codec_fields.specs.Stores.{bytes_take, bytes_drop}
+use Rattle.codec_fields.proofs.Stores.{bytes_take, bytes_drop}
 use Rattle.settings.specs.declared.Parameters.{Parameters}
 use Rattle.settings.specs.declared.Created.{Created}
 use Rattle.settings.specs.declared.Created.TheVariants as created
 use Rattle.settings_rules.specs.Rules.{applications_refusal, factors_refusal}
-use Rattle.settings_rules.specs.Laws.{none_refuses, outside_in}
+use Rattle.settings_rules.proofs.Laws.{none_refuses, outside_in}
 use Rattle.settings_build.specs.Build.{early_refusal, first_refusal, plain_of}
-use Rattle.settings_build.specs.Built.{Built, build_accepts, built_passes}
-use Rattle.settings_build.specs.Passes.{address_low}
+use Rattle.settings_build.specs.Built.{Built}
+use Rattle.settings_build.proofs.Built.{build_accepts, built_passes}
+use Rattle.settings_build.proofs.Passes.{address_low}
 use Rattle.ring_addresses.specs.Set.{only}
 use Rattle.ring.specs.Ring.{Ring, has, make}
-use Rattle.ring.specs.Laws.{SoundRing, make_sound}
+use Rattle.ring.proofs.Laws.{SoundRing, make_sound}
 use Rattle.ring_members.specs.Members.{in_set, set_bytes}
-use Rattle.ring_members.specs.Laws.{members_make}
-use Rattle.ring_members.specs.Back.{set_bytes_back}
+use Rattle.ring_members.proofs.Laws.{members_make}
+use Rattle.ring_members.proofs.Back.{set_bytes_back}
 use Rattle.station.specs.Whole.{Station}
 use Rattle.trace_headers.specs.declared.Header.{Header}
 use Rattle.trace_headers.specs.Headers.{header_refusal}
@@ -32,7 +33,7 @@ use Rattle.station_lines.specs.Lines.{sound_line}
 use Rattle.station_bytes.specs.declared.Reading.{Reading}
 use Rattle.station_bytes.specs.declared.Reading.TheVariants.{Is, Nothing}
 use Rattle.station_bytes.specs.Bytes.{words_in, set_in, head_station, words_fit, set_fits, checked_in, found_with, found_on, found_in, found_at, ring_in, Read, Taken, NoStation, ringed, read_on, read_of, word_list, all_bytes, station_words, station_bytes}
-use Rattle.theorem_sound.specs.Kept.{not-true}
+use Rattle.theorem_sound.proofs.Kept.{not-true}
 use Rattle.theorem_sound.specs.Sound.{SoundStation}
 use Rattle.theorem_live.specs.Lines.{Passing, lines_sound}
 use Rattle.theorem_live.specs.Round.{words_again}

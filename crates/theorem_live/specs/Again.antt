@@ -2,7 +2,7 @@
 use Rattle.std.specs.Prelude.{ℕ, Bool, cond, ◌≡◌, refl, List, ◌++◌, length, take, drop}
 use Rattle.std.proofs.Common.{sym, ap, subst, ◌∙◌, le-ltb, take-append-drop}
 use Rattle.codec_fields.specs.Fields.{field_of, Bytes}
-use Rattle.codec_fields.specs.Widths.{field_below}
+use Rattle.codec_fields.proofs.Widths.{field_below}
 use Rattle.station.specs.Whole.{Station}
 use Rattle.trace.specs.Trace.{settings_of}
 use Rattle.trace.specs.Entries.{entry_of}

@@ -10,20 +10,20 @@ use Rattle.settings.specs.declared.Parameters.{Parameters}
 use Rattle.settings.specs.declared.Created.{Created}
 use Rattle.settings.specs.declared.Created.TheVariants as created
 use Rattle.bit_times.specs.Times.{least_slot_bits}
-use Rattle.bit_times.specs.Laws.{listed}
+use Rattle.bit_times.proofs.Laws.{listed}
 use Rattle.settings_rules.specs.Rules.{slot_bits_refusal, gap_wait_refusal}
-use Rattle.settings_rules.specs.Laws.{below_in, outside_in}
+use Rattle.settings_rules.proofs.Laws.{below_in, outside_in}
 use Rattle.settings_build.specs.Build.{first_refusal, plain_of}
-use Rattle.settings_build.specs.Built.{built_passes}
-use Rattle.settings_build.specs.Passes.{passes, rotation_top, rotation_room}
+use Rattle.settings_build.proofs.Built.{built_passes}
+use Rattle.settings_build.proofs.Passes.{passes, rotation_top, rotation_room}
 use Rattle.ring.specs.declared.Head.{Head}
 use Rattle.ring.specs.declared.GapState.{GapState}
 use Rattle.ring.specs.declared.GapState.TheVariants.{Waiting, DoPoll}
 use Rattle.ring_addresses.specs.Set.{only}
 use Rattle.ring.specs.Ring.{Ring, has, make}
-use Rattle.ring.specs.Laws.{SoundRing, has_out}
+use Rattle.ring.proofs.Laws.{SoundRing, has_out}
 use Rattle.ring_members.specs.Members.{in_set, set_added, set_bytes}
-use Rattle.ring_members.specs.Back.{set_is, in_bytes, members_back}
+use Rattle.ring_members.proofs.Back.{set_is, in_bytes, members_back}
 use Rattle.station.specs.declared.Activity.{Activity}
 use Rattle.station.specs.declared.Activity.TheVariants as activity
 use Rattle.station.specs.declared.OptionAddress.{OptionAddress}
@@ -49,7 +49,7 @@ use Rattle.station_bytes.specs.declared.Reading.TheVariants.{Is, Nothing}
 use Rattle.station_bytes.specs.Bytes.{words_in, set_in, head_station, words_fit, set_fits, checked_in, found_with, found_on, found_in, found_at, ring_in, Taken, ringed, read_on, read_of, word_list, all_bytes, station_words, station_bytes}
 use Rattle.station_bytes.specs.Laws.{all_length, set_length}
 use Rattle.theorem_sound.specs.Moves.{Low, Other, OneOf, GapAddressed, GapCounted}
-use Rattle.theorem_sound.specs.Kept.{other_low}
+use Rattle.theorem_sound.proofs.Kept.{other_low}
 use Rattle.theorem_sound.specs.Lines.{Addressed, AskedInGap, CollidedOnce, HeldIn, SoundCore}
 use Rattle.theorem_sound.specs.Sizes.{Below, activity_below, hold_below}
 use Rattle.theorem_sound.specs.Follows.{SlotCoversPause, slot_covers_pause}

@@ -5,13 +5,13 @@ use Rattle.std.proofs.lemmas.Bool.{eqb-false}
 use borrow.Table.Steps.{cases}
 use Rattle.bit_times.specs.declared.Micros.{Micros}
 use Rattle.bit_times.specs.Times.{clock_end, time_of}
-use Rattle.bit_times.specs.Laws.{time_bound}
+use Rattle.bit_times.proofs.Laws.{time_bound}
 use Rattle.settings.specs.declared.Parameters.{Parameters}
 use Rattle.settings.specs.Settings.{rotation_time_of}
 use Rattle.settings_rules.specs.Rules.{hsa_refusal}
-use Rattle.settings_rules.specs.Laws.{outside_in}
+use Rattle.settings_rules.proofs.Laws.{outside_in}
 use Rattle.settings_build.specs.Build.{first_refusal, plain_of}
-use Rattle.settings_build.specs.Passes.{passes, rotation_top}
+use Rattle.settings_build.proofs.Passes.{passes, rotation_top}
 use Rattle.ring.specs.declared.GapState.{GapState}
 use Rattle.ring.specs.declared.GapState.TheVariants.{Waiting, DoPoll}
 use Rattle.station.specs.declared.Activity.{Activity}
@@ -36,9 +36,9 @@ use Rattle.station_words.specs.Words.{activity_known}
 use Rattle.station_words.specs.Laws.{both}
 use Rattle.station_lines.specs.Lines.{low_line, apart_line, other_line, one_line, held_line, listens_line, idles_line, unasked_line, uses_line, claims_line, awaits_line, passes_line, polled_line, asks_line, noted_line, rests_line, state_line, pending_end, in_gap_line, gap_line, within_line, activity_line, no_token, counts_from, gap_time, hold_line, core_line, offline_line, resting_line, fresh_line, starts_line, sound_line}
 use Rattle.theorem_sound.specs.Moves.{Known, KnownWith, Low, Other, OneOf, Clock, HeldFits, GapAsked, GapAddressed, GapCounted}
-use Rattle.theorem_sound.specs.Kept.{not-true, not_passive, not_online}
+use Rattle.theorem_sound.proofs.Kept.{not-true, not_passive, not_online}
 use Rattle.theorem_sound.specs.Follows.{FirstAttempt}
-use Rattle.theorem_sound.specs.Room.{less_within, hold_roomy}
+use Rattle.theorem_sound.proofs.Room.{less_within, hold_roomy}
 use Rattle.theorem_sound.specs.Lines.{Addressed, AskedInGap, CollidedOnce, KnownIn, HeldIn, UnaskedIn, LastToken, ActivityFits, NoToken, HoldSet, HoldMade, FreshBut, FreshIn, SoundCore}
 
 -- two tests that both hold, the other way
@@ -119,6 +119,7 @@ known_from (activity.At last) e = tt
 
 known_to : (a : Activity) → Known a → activity_known a ≡ true
 known_to (activity.At last) k = refl
+known_to activity.Unknown k = elim k [ ]
 
 -- what is asked of a state, line by line
 record StateSound (own n : ℕ) (x : State) (g : GapState) (a : Activity) (last : Micros) : Type 0 where

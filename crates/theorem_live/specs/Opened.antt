@@ -4,14 +4,14 @@ use Rattle.std.proofs.Common.{sym, ap, subst, ◌∙◌, arith, le-leb, ltb-true
 use Rattle.std.proofs.lemmas.Bool.{lt-leb}
 use borrow.Table.Steps.{cases}
 use Rattle.codec_fields.specs.Fields.{be, zero_or14}
-use Rattle.codec_fields.specs.Laws.{unpacked_within, zero_fields}
+use Rattle.codec_fields.proofs.Laws.{unpacked_within, zero_fields}
 use Rattle.settings.specs.declared.Parameters.{Parameters}
 use Rattle.settings.specs.declared.Created.{Created}
 use Rattle.settings.specs.declared.Created.TheVariants as created
 use Rattle.settings_build.specs.declared.PlainSettings.{PlainSettings}
 use Rattle.settings_build.specs.Build.{first_refusal, plain_of}
-use Rattle.settings_build.specs.Built.{built_passes}
-use Rattle.settings_build.specs.Passes.{address_low}
+use Rattle.settings_build.proofs.Built.{built_passes}
+use Rattle.settings_build.proofs.Passes.{address_low}
 use Rattle.station.specs.Whole.{Station}
 use Rattle.station.specs.Parts.{fresh_station}
 use Rattle.trace_headers.specs.declared.Header.{Header}
@@ -23,7 +23,7 @@ use Rattle.trace.specs.Trace.{settings_of, settings_at, TraceStart, Accepted, Re
 use Rattle.station_words.specs.Laws.{CountsFit, PlainFits}
 use Rattle.station_bytes.specs.Bytes.{station_bytes, station_into}
 use Rattle.live.specs.Live.{open_start, open_into_on, open_into}
-use Rattle.theorem_sound.specs.Sound.{new_sound}
+use Rattle.theorem_sound.proofs.Sound.{new_sound}
 use Rattle.theorem_every_trace.specs.Statement.{Entry, Whole, along}
 use Rattle.theorem_live.specs.Accepted.{HeaderAccepts, header_accepts}
 use Rattle.theorem_live.specs.Back.{Kept}

@@ -2,8 +2,8 @@
 use Rattle.std.specs.Prelude.{ℕ, zero, suc, ◌+◌, ◌*◌, ◌≤◌, ◌<◌, ◌^◌, ◌≡◌, refl, List, [], ◌∷◌, ◌++◌, length, get_or, take, drop}
 use Rattle.std.proofs.Common.{sym, ap, ◌∙◌, append_assoc, arith, length-append, take_at, drop_at, drop-drop, take-add, lit<, lit≤}
 use Rattle.codec_fields.specs.Fields.{be, bytes_of, load_of, Bytes}
-use Rattle.codec_fields.specs.Laws.{low_length, be_bytes}
-use Rattle.codec_fields.specs.Stores.{load_room, loaded_bytes}
+use Rattle.codec_fields.proofs.Laws.{low_length, be_bytes}
+use Rattle.codec_fields.proofs.Stores.{load_room, loaded_bytes}
 use Rattle.station_words.specs.declared.Words.{Words}
 use Rattle.station_words.specs.Laws.{WordsBelow}
 use Rattle.station_bytes.specs.Bytes.{words_in, set_in, word_list, all_bytes}

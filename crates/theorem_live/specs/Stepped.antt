@@ -3,7 +3,7 @@ use Rattle.std.specs.Prelude.{ℕ, suc, ◌+◌, ◌-◌, ◌*◌, ◌≤◌, �
 use Rattle.std.proofs.Common.{sym, ap, subst, ◌∙◌, append-nil, append_assoc, arith, le-ltb, length-append, take_all, drop_at, lit≤}
 use Rattle.std.proofs.Math.Nat.{min-le_left}
 use Rattle.codec_fields.specs.Fields.{bytes_of, stored_of}
-use Rattle.codec_fields.specs.Stores.{stored_room}
+use Rattle.codec_fields.proofs.Stores.{stored_room}
 use Rattle.codec_answers.specs.Answers.{answer_word}
 use Rattle.settings.specs.declared.Parameters.{Parameters}
 use Rattle.settings.specs.declared.Created.TheVariants as created
@@ -28,7 +28,8 @@ use Rattle.station_bytes.specs.Laws.{all_length, set_length}
 use Rattle.live.specs.Live.{Stepped, Answers, step_found, step_on, step_of, step_number, step_into, step_answer}
 use Rattle.live.specs.Laws.{found_answered}
 use Rattle.theorem_sound.specs.Keeps.{either}
-use Rattle.theorem_sound.specs.Sound.{SoundStation, Call, poll, online, offline, passive, call_made, call_sound, after}
+use Rattle.theorem_sound.specs.Sound.{SoundStation, Call, poll, online, offline, passive, after}
+use Rattle.theorem_sound.proofs.Sound.{call_made, call_sound}
 use Rattle.theorem_every_trace.specs.Statement.{Entry, Whole, along}
 use Rattle.theorem_live.specs.Back.{Kept, station_back}
 

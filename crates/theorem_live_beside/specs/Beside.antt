@@ -6,7 +6,7 @@ use Rattle.heard.specs.Laws.{Long, hear_all_long}
 use Rattle.live.specs.Live.{Stepped, Refusal, Answers, step_of, step_number, step_into, step_answer}
 use Rattle.live.specs.Laws.{Refuses, no_room_refuses}
 use Rattle.live_heard.specs.LiveHeard.{step_beside, step_table}
-use Rattle.live_heard.specs.Laws.{beside_long, beside_short, refuses_leaves}
+use Rattle.live_heard.proofs.Laws.{beside_long, beside_short, refuses_leaves}
 use Rattle.theorem_every_trace.specs.Statement.{Entry}
 use Rattle.theorem_live.specs.Stepped.{entry_bytes, bytes_after, bytes_said}
 use Rattle.theorem_live_beside.specs.Statement.{SameStep, NoStep, Lent, lent_after, lent_said, SameAlong}

@@ -2,7 +2,7 @@
 use Rattle.std.specs.Prelude.{◌≡◌, List, [], ◌∷◌}
 use Rattle.std.proofs.Common.{ap, ◌∙◌}
 use Rattle.station.specs.Whole.{Station}
-use Rattle.theorem_sound.specs.Sound.{call_made}
+use Rattle.theorem_sound.proofs.Sound.{call_made}
 use Rattle.theorem_every_trace.specs.Statement.{Entry, along}
 use Rattle.theorem_from_header.specs.FromHeader.{call_of, entry_leaves}
 use Rattle.theorem_live.specs.Back.{Kept}

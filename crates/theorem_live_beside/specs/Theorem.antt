@@ -16,14 +16,14 @@ use Rattle.trace.specs.Entries.{record_length, entry_of}
 use Rattle.trace.specs.Trace.{TraceStart, Accepted, start_of}
 use Rattle.trace_counts.specs.TraceCounts.{counts_length, counts_over, counted_after, counts_into, counts_into_on}
 use Rattle.trace_heard.specs.TraceHeard.{heard_in, found_after, heard_into, heard_into_on}
-use Rattle.trace_heard.specs.Laws.{heard_clocked}
+use Rattle.trace_heard.proofs.Laws.{heard_clocked}
 use Rattle.live.specs.Live.{Stepped, Answers, step_into}
 use Rattle.live_heard.specs.LiveHeard.{step_table}
 use Rattle.live_counts.specs.LiveCounts.{read_counts_number, read_counts_into}
 use Rattle.theorem_every_trace.specs.Statement.{Entry, Whole, along}
 use Rattle.theorem_from_header.specs.FromHeader.{from_header}
 use Rattle.theorem_heard.specs.Statement.{consumed_by}
-use Rattle.theorem_heard.specs.Theorem.{parts, parts_bytes, parts_stop, heard_is}
+use Rattle.theorem_heard.proofs.Theorem.{parts, parts_bytes, parts_stop, heard_is}
 use Rattle.theorem_live.specs.Back.{Kept}
 use Rattle.theorem_live.specs.Stepped.{entry_bytes, then, kept_back, step_is, entry_kept, stepped_along}
 use Rattle.theorem_live.specs.Opened.{opened_kept, started_opens, trace_stepped}

@@ -1,7 +1,3 @@
 -- The statements; then PassiveIdle, the other states, both together, the same over entries, and the premises shown met.
 pub mod Statement
-pub mod Idle
-pub mod Unclaimed
-pub mod Theorem
-pub mod InTrace
 pub mod Shown

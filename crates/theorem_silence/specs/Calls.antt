@@ -4,13 +4,14 @@ use Rattle.std.proofs.Common.{sym, ap, subst, ◌∙◌}
 use Rattle.settings.specs.declared.Parameters.{Parameters}
 use Rattle.settings_rules.specs.Rules.{applications_refusal}
 use Rattle.settings_build.specs.Build.{first_refusal, plain_of}
-use Rattle.settings_build.specs.Passes.{address_low}
+use Rattle.settings_build.proofs.Passes.{address_low}
 use Rattle.station.specs.declared.PassTokenAttempt.TheVariants.{First}
 use Rattle.station.specs.declared.State.TheVariants.{PassToken}
 use Rattle.station.specs.Whole.{Station}
 use Rattle.station.specs.Parts.{fresh_station}
-use Rattle.theorem_sound.specs.Sound.{Call, run, SoundStation, every_station_sound}
-use Rattle.theorem_sound.specs.Unchanged.{made_settings}
+use Rattle.theorem_sound.specs.Sound.{Call, run, SoundStation}
+use Rattle.theorem_sound.proofs.Sound.{every_station_sound}
+use Rattle.theorem_sound.proofs.Unchanged.{made_settings}
 use Rattle.theorem_silence.specs.Silence.{Start, Online, gap_due}
 
 -- a station that any list of polls and commands makes of a new one with accepted settings and an accepted number of applications

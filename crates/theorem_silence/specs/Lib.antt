@@ -5,19 +5,9 @@
 -- a run with settings that have no room for a gap poll.
 pub mod Silence
 pub mod Times
-pub mod Phases
-pub mod OnePoll
-pub mod Alone
-pub mod Theorem
-pub mod Question
 pub mod SilentRecords
-pub mod Sharp
 pub mod Calls
 pub mod Letter
-pub mod Asking
 pub mod Scripts
-pub mod Met
 pub mod Rings
-pub mod Made
-pub mod Shown
 pub mod Site

@@ -4,8 +4,8 @@ use Rattle.std.proofs.Common.{ap, ◌∙◌, arith, zero-add, suc-add, lit≤, e
 use Rattle.std.proofs.lemmas.List.{length-replicate}
 use Rattle.std.proofs.Math.Seq.{drop-append-add}
 use Rattle.codec_fields.specs.Fields.{field_of, zeros_or14, be, be_from, load_of, bytes_of}
-use Rattle.codec_fields.specs.Laws.{be_bytes}
-use Rattle.codec_fields.specs.Stores.{load_room}
+use Rattle.codec_fields.proofs.Laws.{be_bytes}
+use Rattle.codec_fields.proofs.Stores.{load_room}
 use Rattle.codec_decisions.specs.Decisions.{decision_refusal}
 use Rattle.codec_records.specs.Records.{head_of, count_of, decision_word_at, entry_refusal, record_refusal}
 use Rattle.codec_records.specs.Laws.{none_first}

@@ -6,7 +6,7 @@ use Rattle.std.proofs.Common.{sym, arith}
 use borrow.Author.Tests.{le-leb, lt-leb, leb-true}
 use Rattle.bit_times.specs.declared.Micros.{Micros}
 use Rattle.bit_times.specs.Times.{pause_bits, least_slot_bits, time_of}
-use Rattle.bit_times.specs.Laws.{listed, time_some, time_grows}
+use Rattle.bit_times.proofs.Laws.{listed, time_some, time_grows}
 use Rattle.settings.specs.declared.Parameters.{Parameters}
 use Rattle.ring_addresses.specs.SetLaws.{true≢false}
 use Rattle.station.specs.declared.Activity.{Activity}
@@ -16,10 +16,10 @@ use Rattle.station.specs.Parts.{with_activity}
 use Rattle.station.specs.Steps.{known_at, elapsed_of, busy_of, waited_of, pause_of, slot_expired_of}
 use Rattle.theorem_silence.specs.Silence.{slot_after}
 use Rattle.settings_rules.specs.Rules.{slot_bits_refusal}
-use Rattle.settings_rules.specs.Laws.{below_in}
+use Rattle.settings_rules.proofs.Laws.{below_in}
 use Rattle.settings.specs.Settings.{slot_time_of}
 use Rattle.settings_build.specs.Build.{first_refusal, plain_of}
-use Rattle.settings_build.specs.Passes.{passes}
+use Rattle.settings_build.proofs.Passes.{passes}
 
 -- accepted settings have at least the rate's least slot bits
 pub slot_bits_least : (p : Parameters) → first_refusal (plain_of p) ≡ 0 → least_slot_bits p.baudrate ≤ p.slot_bits

@@ -13,7 +13,7 @@ use Rattle.station.specs.declared.Core.{Core}
 use Rattle.station.specs.Parts.{with_activity, state_number}
 use Rattle.station.specs.Steps.{known_at, elapsed_of, waited_of, pause_of, slot_expired_of, token_lost_wait_of}
 use Rattle.theorem_sound.specs.Moves.{lists, listen_token_from, active_idle_from, use_token_from, claim_token_from, await_data_response_from, pass_token_from, check_token_pass_from, await_status_response_from, passive_idle_from}
-use Rattle.bit_times.specs.Laws.{time_grows}
+use Rattle.bit_times.proofs.Laws.{time_grows}
 
 -- For each state, the numbers of the states in which a poll can leave it.
 -- Offline: an online station goes to ListenToken and on from there, but has no request to answer yet. ListenToken: a second collision,

@@ -73,6 +73,7 @@ pub fn answer_entry(station: Station, links: &mut [u8; 252], kind: u8, bytes: &[
 
 // Answers the entries after the header one by one, from a fresh station: the tail of the buffer past the answers given is
 // handed on, and the next answer is written at its head.
+#[tactic(auto, using(station::specs::Whole::station_at, crate::proofs::Laws::begins, crate::proofs::Laws::cut, crate::proofs::Laws::full, crate::proofs::Laws::next, crate::proofs::Laws::done))]
 fn run(fresh: Station, links: &mut [u8; 252], trace: &[u8], answers: &mut [u8]) -> u64
     requires { (header_length trace.now ≤ length trace.now) × (length trace.now ≤ 2 ^ 32) }
     ensures value { result ≡ number_of (ran_of (station_at fresh links.old) trace.now (length answers.old)) }
@@ -110,7 +111,7 @@ fn run(fresh: Station, links: &mut [u8; 252], trace: &[u8], answers: &mut [u8]) 
 
 // Replays a trace and returns the entries answered × 256 + the ending number. Each entry's answer stands in the next eight
 // bytes of `answers`; the bytes past them stay as they were.
-#[tactic(auto, using(crate::specs::Laws::settings_long, crate::specs::Laws::start_refused, crate::specs::Laws::replay_settings, crate::specs::Laws::replay_refused))]
+#[tactic(auto, using(crate::proofs::Laws::settings_long, crate::proofs::Laws::start_refused, crate::proofs::Laws::replay_settings, crate::proofs::Laws::replay_refused))]
 pub fn replay_trace(trace: &[u8], answers: &mut [u8]) -> u64
     ensures value { result ≡ number_of (replay_of trace.now (length answers.old)) }
     ensures answers_after { answers.new ≡ buffer_of (replay_of trace.now (length answers.old)) answers.old }

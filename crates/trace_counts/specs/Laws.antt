@@ -3,7 +3,7 @@ use Rattle.std.specs.Prelude.{ℕ, ◌+◌, ◌-◌, ◌*◌, ◌^◌, ◌<◌, 
 use Rattle.std.proofs.Math.Path.{sym, ap}
 use Rattle.std.proofs.Common.{◌∙◌, append_assoc, arith, add-zero, lt-ltb, le-ltb, lit≤}
 use Rattle.codec_fields.specs.Fields.{low_bytes, stored_of}
-use Rattle.codec_fields.specs.Stores.{stored_room, store_next}
+use Rattle.codec_fields.proofs.Stores.{stored_room, store_next}
 use Rattle.codec_answers.specs.declared.Answer.{Answer}
 use Rattle.settings.specs.declared.Parameters.{Parameters}
 use Rattle.settings.specs.declared.Created.TheVariants as created
@@ -15,7 +15,8 @@ use Rattle.trace_headers.specs.declared.Header.{Header}
 use Rattle.trace_headers.specs.Headers.{header_length, header_of}
 use Rattle.trace.specs.Entries.{record_length, entry_of}
 use Rattle.trace.specs.Trace.{settings_at, Run, ended, run_of, ran_of, number_of, room_for, whole_replay, whole_number, whole_number_on}
-use Rattle.trace.specs.Laws.{Reached, preceded_by, reached_first, left_run, reached_end, left_none, left_cut, reached_next, start_settings, start_refused, replay_settings}
+use Rattle.trace.specs.Laws.{Reached, preceded_by}
+use Rattle.trace.proofs.Laws.{reached_first, left_run, reached_end, left_none, left_cut, reached_next, start_settings, start_refused, replay_settings}
 use Rattle.trace_counts.specs.TraceCounts.{counts_length, counts_bytes, counts_over, counted_after, counts_number, counts_into, counts_into_on}
 
 -- three stores are the counts' bytes

@@ -37,6 +37,7 @@ pub fn write_counts(bytes: &mut [u8], counts: Counts)
 }
 
 // Answers the entries after the header one by one, from a fresh station, and gives what it has counted at the end.
+#[tactic(auto, using(station::specs::Whole::station_at, crate::specs::Laws::counts_first, crate::specs::Laws::counts_cut, crate::specs::Laws::counts_next, crate::specs::Laws::counts_done))]
 fn count(fresh: Station, links: &mut [u8; 252], trace: &[u8]) -> Counted
     requires { (header_length trace.now ≤ length trace.now) × (length trace.now ≤ 2 ^ 32) }
     ensures { (result.number ≡ number_of (ran_of (station_at fresh links.old) trace.now (room_for trace.now))) × (result.counts ≡ counted_after (station_at fresh links.old) trace.now) }
@@ -71,7 +72,7 @@ fn count(fresh: Station, links: &mut [u8; 252], trace: &[u8]) -> Counted
 // Runs over a whole trace, and writes the counts of its station into the first 12 bytes of `counts`: claims, removals, meetings of its
 // own address. Returns the entries answered × 256 + the ending number. Refused with the header's numbers, or 18 where `counts` is too
 // short: then the number is returned and nothing is written.
-#[tactic(auto, using(trace::specs::Laws::settings_long, crate::specs::Laws::ends_header, crate::specs::Laws::ends_no_room, crate::specs::Laws::ends_run))]
+#[tactic(auto, using(trace::proofs::Laws::settings_long, crate::specs::Laws::ends_header, crate::specs::Laws::ends_no_room, crate::specs::Laws::ends_run))]
 pub fn trace_counts(trace: &[u8], counts: &mut [u8]) -> u64
     ensures value { result ≡ counts_number trace.now (length counts.old) }
     ensures counts_after { counts.new ≡ counts_into trace.now counts.old }

@@ -7,14 +7,14 @@ use mathlib.Core.List.{List, [], ◌∷◌}
 use borrow.Table.Steps.{cases}
 use Rattle.std.proofs.Math.ListN.{get_or}
 use Rattle.bit_times.specs.Times.{baud_of}
-use Rattle.bit_times.specs.Laws.{baud_unknown}
+use Rattle.bit_times.proofs.Laws.{baud_unknown}
 use Rattle.codec_fields.specs.Fields.{field_of, zero_or14, zeros_or14, be, pack, unpack, Within, low_bytes, Bytes}
-use Rattle.codec_fields.specs.Laws.{unpack_pack, unpacked_within, low_be, never, zero_fields}
-use Rattle.codec_slices.specs.Round.{read_written, written_read}
+use Rattle.codec_fields.proofs.Laws.{unpack_pack, unpacked_within, low_be, never, zero_fields}
+use Rattle.codec_slices.proofs.Round.{read_written, written_read}
 use Rattle.settings_rules.specs.Rules.{address_refusal, baud_refusal, hsa_refusal, rotation_refusal, gap_wait_refusal, retry_refusal, factors_refusal, applications_refusal}
-use Rattle.settings_rules.specs.Laws.{outside_in, none_refuses}
+use Rattle.settings_rules.proofs.Laws.{outside_in, none_refuses}
 use Rattle.settings_build.specs.Build.{early_refusal, first_refusal}
-use Rattle.settings_build.specs.Passes.{passes}
+use Rattle.settings_build.proofs.Passes.{passes}
 use Rattle.trace_headers.specs.declared.Header.{Header}
 use Rattle.trace_headers.specs.declared.Edition.{Edition}
 use Rattle.trace_headers.specs.declared.Edition.TheVariants.{First, Second}

@@ -33,7 +33,7 @@ fn lent_refusal(header: &[u8]) -> u8
 // Writes the header that `header` begins with in the other edition into the first bytes of `out`, and returns the bytes written
 // × 256. Refused with 17, the header's numbers, or 18 where `out` is too short: then the number is returned and nothing is
 // written.
-#[tactic(auto, using(crate::specs::Laws::move_refused, crate::specs::Laws::move_no_room, crate::specs::Laws::move_done))]
+#[tactic(auto, unfolding(crate::specs::Editions::move_number, crate::specs::Editions::move_into, crate::specs::Editions::move_refusal))]
 pub fn other_edition(header: &[u8], out: &mut [u8]) -> u64
     ensures value { result ≡ move_number header.now (length out.old) }
     ensures out_after { out.new ≡ move_into header.now out.old }

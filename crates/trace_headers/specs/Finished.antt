@@ -5,9 +5,10 @@ use Rattle.codec_fields.specs.Fields.{zeros_or14, field_of, be_from}
 use Rattle.settings.specs.declared.Parameters.{Parameters}
 use Rattle.settings.specs.declared.Changed.TheVariants as changed
 use Rattle.settings_rules.specs.Rules.{refuse_below, refuse_outside, address_refusal, baud_refusal, slot_bits_refusal, hsa_refusal, rotation_refusal, room_refusal, factors_refusal, applications_refusal}
-use Rattle.settings_rules.specs.Laws.{none_refuses}
+use Rattle.settings_rules.proofs.Laws.{none_refuses}
 use Rattle.settings_build.specs.Build.{early_refusal, first_refusal, plain_of, finish_of}
-use Rattle.settings_build.specs.Finish.{site, finished_passes}
+use Rattle.settings_build.specs.Finish.{site}
+use Rattle.settings_build.proofs.FinishLaws.{finished_passes}
 use Rattle.trace_headers.specs.declared.Header.{Header}
 use Rattle.trace_headers.specs.Headers.{edition_of, length_of, header_in, header_of, header_refusal}
 

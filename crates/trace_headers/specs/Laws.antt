@@ -3,7 +3,7 @@ use Rattle.std.specs.Prelude.{ℕ, ◌+◌, ◌*◌, ◌≡◌, refl, List, [], 
 use Rattle.std.proofs.Common.{ap, arith, lit≤}
 use Rattle.codec_fields.specs.Fields.{total, Bytes}
 use Rattle.codec_slices.specs.Slices.{fields_from, Short}
-use Rattle.codec_slices.specs.Round.{fields_are}
+use Rattle.codec_slices.proofs.Round.{fields_are}
 use Rattle.trace_headers.specs.declared.Header.{Header}
 use Rattle.trace_headers.specs.declared.Edition.{Edition}
 use Rattle.trace_headers.specs.declared.Edition.TheVariants.{First, Second}

@@ -60,7 +60,6 @@ pub fn header_length(trace: &[u8]) -> usize
 }
 
 // A field of at most 8 bits as a byte.
-#[tactic(auto, using(codec_slices::specs::Parts::field_small))]
 fn byte(bytes: &[u8], at: usize, width: usize) -> u8
     requires { width ≤ 8 }
     ensures { result ≡ field_at bytes.now at width }
@@ -69,7 +68,6 @@ fn byte(bytes: &[u8], at: usize, width: usize) -> u8
 }
 
 // A field of at most 16 bits.
-#[tactic(auto, using(codec_slices::specs::Parts::field_small))]
 fn short(bytes: &[u8], at: usize, width: usize) -> u16
     requires { width ≤ 16 }
     ensures { result ≡ field_at bytes.now at width }
@@ -78,7 +76,6 @@ fn short(bytes: &[u8], at: usize, width: usize) -> u16
 }
 
 // A field of at most 32 bits.
-#[tactic(auto, using(codec_slices::specs::Parts::field_small))]
 fn long(bytes: &[u8], at: usize, width: usize) -> u32
     requires { width ≤ 32 }
     ensures { result ≡ field_at bytes.now at width }
@@ -87,7 +84,6 @@ fn long(bytes: &[u8], at: usize, width: usize) -> u32
 }
 
 // What the 16 bytes of an edition 1 header say.
-#[tactic(auto, using(codec_slices::specs::Parts::bytes_known, crate::specs::Laws::read_in), unfolding(crate::specs::Laws::made_in, crate::specs::Headers::length_of))]
 fn read_first(bytes: &[u8]) -> Header
     requires { length bytes.now ≡ 16 }
     ensures { result ≡ header_in edition.First bytes.now }
@@ -111,7 +107,7 @@ fn read_first(bytes: &[u8]) -> Header
 }
 
 // The applications of edition 2, which holds one less in 3 bits.
-#[tactic(auto, using(codec_slices::specs::Parts::field_small))]
+#[tactic(auto, using(codec_slices::proofs::Parts::field_small))]
 fn applications(bytes: &[u8]) -> u8
     ensures { result ≡ field_at bytes.now 86 3 + 1 }
 {
@@ -119,7 +115,6 @@ fn applications(bytes: &[u8]) -> u8
 }
 
 // What the 14 bytes of an edition 2 header say.
-#[tactic(auto, using(codec_slices::specs::Parts::bytes_known, crate::specs::Laws::read_in), unfolding(crate::specs::Laws::made_in, crate::specs::Headers::length_of))]
 fn read_second(bytes: &[u8]) -> Header
     requires { length bytes.now ≡ 14 }
     ensures { result ≡ header_in edition.Second bytes.now }

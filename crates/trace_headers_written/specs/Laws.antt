@@ -2,9 +2,9 @@
 use Rattle.std.specs.Prelude.{ℕ, ◌≡◌, refl, List, length}
 use Rattle.std.proofs.Common.{ap, ◌∙◌}
 use Rattle.codec_fields.specs.Fields.{pack, low_bytes, Bytes}
-use Rattle.codec_fields.specs.Laws.{bytes_low, low_length}
+use Rattle.codec_fields.proofs.Laws.{bytes_low, low_length}
 use Rattle.codec_slices.specs.Slices.{put_from}
-use Rattle.codec_slices.specs.Round.{filled}
+use Rattle.codec_slices.proofs.Round.{filled}
 use Rattle.trace_headers.specs.declared.Header.{Header}
 use Rattle.trace_headers.specs.declared.Edition.{Edition}
 use Rattle.trace_headers.specs.declared.Edition.TheVariants.{First, Second}

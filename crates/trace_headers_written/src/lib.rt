@@ -32,7 +32,6 @@ fn put_long(out: &mut [u8], at: usize, width: usize, value: u32)
 }
 
 // Writes a header into the 16 bytes of edition 1.
-#[tactic(auto, using(codec_slices::specs::Parts::bytes_known, crate::specs::Laws::written_in, crate::specs::Laws::header_bytes_length), unfolding(trace_headers::specs::Headers::length_of))]
 fn write_first(out: &mut [u8], header: Header)
     requires { length out.old ≡ 16 }
     ensures { out.new ≡ header_bytes edition.First header }
@@ -63,7 +62,6 @@ fn less_one(n: u8) -> u8
 }
 
 // Writes a header into the 14 bytes of edition 2.
-#[tactic(auto, using(codec_slices::specs::Parts::bytes_known, crate::specs::Laws::written_in, crate::specs::Laws::header_bytes_length), unfolding(trace_headers::specs::Headers::length_of))]
 fn write_second(out: &mut [u8], header: Header)
     requires { length out.old ≡ 14 }
     ensures { out.new ≡ header_bytes edition.Second header }

@@ -15,6 +15,7 @@ use settings::{Created, Parameters};
 use station::Station;
 
 // Answers the entries after the header one by one, from a fresh station, and feeds the table with the telegrams that each consumed.
+#[tactic(auto, using(station::specs::Whole::station_at, crate::proofs::Laws::listens, crate::proofs::Laws::heard_cut, crate::proofs::Laws::heard_next, crate::proofs::Laws::heard_done))]
 fn listen(
     fresh: Station,
     links: &mut [u8; 252],
@@ -50,7 +51,7 @@ fn listen(
 // Runs over a whole trace, and writes what is then said of an address into the first 17 bytes of `entry`: times heard, first and last
 // clock, station type; 17 zero bytes for one that was never heard. Returns the entries answered × 256 + the ending number. Refused
 // with 26, the header's numbers, or 18 where `entry` is too short: then the number is returned and nothing is written.
-#[tactic(auto, using(trace::specs::Laws::settings_long, crate::specs::Laws::ends_refused, crate::specs::Laws::ends_header, crate::specs::Laws::ends_no_room, crate::specs::Laws::ends_run))]
+#[tactic(auto, using(trace::proofs::Laws::settings_long, crate::proofs::Laws::ends_refused, crate::proofs::Laws::ends_header, crate::proofs::Laws::ends_no_room, crate::proofs::Laws::ends_run))]
 pub fn trace_heard(trace: &[u8], address: u8, entry: &mut [u8]) -> u64
     ensures value { result ≡ heard_number trace.now address (length entry.old) }
     ensures after { entry.new ≡ heard_into trace.now address entry.old }

@@ -1,0 +1,2 @@
+pub mod ArrivesLaws
+pub mod Waits

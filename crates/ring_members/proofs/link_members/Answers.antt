@@ -1,0 +1,6 @@
+-- The members are linked one after the other.
+use Rattle.ring_members.proofs.Linked.{tables_stand}
+use Rattle.ring_members.proofs.link_members.Goals as goal
+
+pub returns : goal.returns
+returns c = tables_stand _ _ _ _ _ _ _ _ c.nobody.ensures c.highest.ensures.0 c.link_bytes-last.ensures.0 c.byte_at.ensures c.link_byte.ensures.0

@@ -1,0 +1,4 @@
+pub mod Built
+pub mod FinishLaws
+pub mod Made
+pub mod Passes

@@ -1,0 +1,4 @@
+pub mod Plain
+pub mod Meetings
+pub mod Removals
+pub mod Theorem

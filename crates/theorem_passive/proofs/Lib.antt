@@ -1,0 +1,4 @@
+pub mod Idle
+pub mod Unclaimed
+pub mod Theorem
+pub mod InTrace

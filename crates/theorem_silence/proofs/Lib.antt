@@ -1,0 +1,10 @@
+pub mod Phases
+pub mod OnePoll
+pub mod Alone
+pub mod Theorem
+pub mod Question
+pub mod Sharp
+pub mod Asking
+pub mod PremisesMet
+pub mod Made
+pub mod Shown

@@ -1,0 +1,13 @@
+pub mod Fits
+pub mod Guarded
+pub mod Hold
+pub mod Kept
+pub mod Listen
+pub mod Names
+pub mod Never
+pub mod Pass
+pub mod Room
+pub mod Sound
+pub mod Unchanged
+pub mod WaitsProof
+pub mod Walk

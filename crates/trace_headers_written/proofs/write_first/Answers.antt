@@ -1,0 +1,14 @@
+-- The fields are written one after the other: each call by what it ensures, the last first.
+use Rattle.std.proofs.Common.{arith}
+use Rattle.codec_slices.proofs.Parts.{bytes_known}
+use Rattle.trace_headers.specs.declared.Edition.TheVariants.{First}
+use Rattle.trace_headers.specs.Headers.{length_of}
+use Rattle.trace_headers_written.specs.Laws.{written_in}
+use Rattle.trace_headers_written.proofs.write_first.Goals as goal
+
+pub returns : goal.returns
+unfolding length_of
+returns c =
+    let bytes = bytes_known c.args.out.now (λ i. grind arith) in
+    rw (c.put_byte-10.ensures, c.put_byte-9.ensures, c.put_byte-8.ensures, c.put_byte-7.ensures, c.put_byte-6.ensures, c.put_byte-5.ensures, c.put_byte-4.ensures, c.put_byte-3.ensures, c.put_long.ensures, c.put_short.ensures, c.put_byte-2.ensures, c.put_byte.ensures)
+    (written_in First c.args.header c.args.out.now bytes c.requires)
