@@ -13,4 +13,4 @@ me="amsulfezd"
     echo "$me: the library is proved and the program built first, which takes some minutes" >&2
 build_desk
 cd "$here" || exit 1
-exec "${desk[@]}" "${words[@]}"
+exec "$desk" "${words[@]}"

@@ -14,11 +14,11 @@ build_desk
 folder=target/browser
 mkdir -p "$folder" ${PICTURES:+"$PICTURES"}
 python3 scripts/browser.py --repeat traces/night.trace "$folder/large.trace"
-"${desk[@]}" view traces/night.trace -o "$folder/night.html"
-"${desk[@]}" view traces/passive/spare-logger.trace -o "$folder/passive.html"
-"${desk[@]}" view traces/refused-entries.trace -o "$folder/refused.html"
-"${desk[@]}" view traces/passive/await-data-response.trace -o "$folder/timeout.html"
-"${desk[@]}" view "$folder/large.trace" -o "$folder/large.html"
+"$desk" view traces/night.trace -o "$folder/night.html"
+"$desk" view traces/passive/spare-logger.trace -o "$folder/passive.html"
+"$desk" view traces/refused-entries.trace -o "$folder/refused.html"
+"$desk" view traces/passive/await-data-response.trace -o "$folder/timeout.html"
+"$desk" view "$folder/large.trace" -o "$folder/large.html"
 python3 scripts/browser.py "$folder" ${PICTURES:+"$PICTURES"} || fail "the pages do not do in a browser what they should"
 if [ -n "${PICTURES:-}" ] && command -v pdftoppm >/dev/null 2>&1; then
     pdftoppm -r 70 -png "$PICTURES/night.pdf" "$PICTURES/night-paper"

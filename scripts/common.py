@@ -49,12 +49,14 @@ def write(path, text):
 
 @dataclass
 class Crate:
-    """A line of crates.txt: the heading that it stands under, what the line over it says, the crates that it reads."""
+    """A line of crates.txt: the heading that it stands under, what the line over it says, the crates that it reads, and whether it is
+    a static library. Such a one is NAME_c: it gives the calls of the library NAME to C and Rust hosts, and adds nothing to them."""
 
     name: str
     layer: str
     holds: str
     reads: list
+    is_static: bool
 
 
 def crates():
@@ -66,16 +68,16 @@ def crates():
         if line.startswith("# "):
             words += [line[2:].strip()] if layer else []
             continue
-        crate = re.fullmatch(r"(\w+):((?: \w+)*)", line)
+        crate = re.fullmatch(r"(\w+)( staticlib)?:((?: \w+)*)", line)
         if crate:
-            name, reads = crate[1], crate[2].split()
+            name, reads = crate[1], crate[3].split()
             if not layer:
                 wrong.append(f"{here} {name} stands under no heading")
             elif not words:
                 wrong.append(f"{here} {name} has no line over it that says what it holds")
             if name in found:
                 wrong.append(f"{here} {name} stands there twice")
-            found[name] = Crate(name, layer, " ".join(words), reads)
+            found[name] = Crate(name, layer, " ".join(words), reads, bool(crate[2]))
         elif words:
             wrong.append(f"{here} no crate follows '{words[-1]}'")
         if line.startswith("## "):

@@ -39,8 +39,7 @@ mapfile -t times <crates/run_watchdog/args
 target/oracle/release/watchdog_lines "${times[@]}" | cmp - "$shown" || fail "$shown is not what the published parameters.rs answers"
 echo "watchdog: ${#times[@]} times by the published parameters.rs, 0 differ"
 
-# The whole station: the proved trace call and the published active.rs. Where the library is linked, some traces also go
-# the way of the other machines, through a program that answers them.
+# The whole station: the proved trace call and the published active.rs. Some go through a program that answers them too.
 wait "$library" || true
 
 # by_program COUNT SCRIPT FAILURE: a comparison that goes that way. The last line that it prints is shown.
@@ -53,12 +52,10 @@ by_program() {
     echo "by a program: $(tail -n 1 <<<"$said")"
 }
 
-if [ "$(uname -m)" = x86_64 ]; then
-    by_program 500 scripts/compare_traces.sh "the trace call in a program is not the published station's"
-    by_program 1000 scripts/compare_frames.sh "the calls on frames in a program are not document 02's"
-    by_program 1000 scripts/compare_captures.sh "the calls on captures in a program are not document 02's"
-    by_program 50 scripts/compare_simulations.sh "the calls on a simulated bus in a program are not document 02's"
-fi
+by_program 500 scripts/compare_traces.sh "the trace call in a program is not the published station's"
+by_program 1000 scripts/compare_frames.sh "the calls on frames in a program are not document 02's"
+by_program 1000 scripts/compare_captures.sh "the calls on captures in a program are not document 02's"
+by_program 50 scripts/compare_simulations.sh "the calls on a simulated bus in a program are not document 02's"
 SEED=$seed COUNT=$frames bash scripts/compare_frames.sh || fail "the calls on frames are not document 02's (seed $seed)"
 SEED=$seed COUNT=$captures bash scripts/compare_captures.sh || fail "the calls on captures are not document 02's (seed $seed)"
 SEED=$seed COUNT=$simulations bash scripts/compare_simulations.sh || fail "the calls on a simulated bus are not document 02's (seed $seed)"

@@ -1,7 +1,7 @@
 #!/usr/bin/env bash
 # make compare SEED=n COUNT=m: runs m generated traces of seed n through the proved replay_trace and through the oracle and
-# compares the number and every byte of the answer buffer. On x86-64 both stand in one process; elsewhere, and on x86-64
-# with BY_PROGRAM=1, the proved call stands in a C program that answers one trace after the other.
+# compares the number and every byte of the answer buffer. Both stand in one process; with BY_PROGRAM=1 the proved call stands in
+# a C program that answers one trace after the other.
 set -euo pipefail
 cd "$(dirname "$0")/.." || exit 1
 me="make compare"

@@ -3,7 +3,8 @@
 where it changes the call's own code, code of its crate that the call goes through, or a definition that the contract of either
 cites; for a call for hosts, where it speaks for a call of another crate that it passes on; and, where a call has fewer than two of
 these, where it speaks for a function that calls it. Fails where fewer than two edits speak for a call. Constants and `requires`
-lines are not read: an edit of one speaks for no call here.
+lines are not read: an edit of one speaks for no call here. The calls of a static library are not listed: each is a call of the
+library that it is of, passed on (determined.py holds it to that), and its edits speak for that call as a caller's.
 
     python3 scripts/edits.py [--check]"""
 import glob
@@ -73,7 +74,7 @@ def connect(listed, functions, definitions):
     for crate, found in functions.items():
         names = {name for _, _, name, _ in definitions[crate]}
         for f in found:
-            contract = " ".join(re.findall(r"ensures \{(.*)\}", f.text))
+            contract = " ".join(re.findall(r"ensures (?:\w+ )?\{(.*)\}", f.text))
             f.cited = names & set(re.findall(r"[^\s(){}.,;]+", contract))
             body = f.text[re.search(r"\n *\{\n|\{\n", f.text).start():]
             used = set(re.findall(r"(?:(\w+)::)?(?:(\w+)::)?(\w+)\(", body)) | {("", "", m) for m in re.findall(r"\.(\w+)\(", body)}
@@ -155,7 +156,7 @@ def rows(listed):
             name = f"{crate}/{os.path.basename(edit)[:-5]}"
             edits[name] = (crate, touched(crate, edit, functions[crate], definitions[crate]))
     for f in by_name.values():
-        if f.public:
+        if f.public and not listed[f.crate].is_static:
             mine = sorted({name for g in [f] + passed_on(f, by_name) for name in own(g, by_name, edits)})
             callers = sorted({name for g in callers_of(f, by_name) for name in own(g, by_name, edits)} - set(mine))
             yield f, mine, callers if len(mine) < ENOUGH else []

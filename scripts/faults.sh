@@ -8,7 +8,6 @@ cd "$(dirname "$0")/.." || exit 1
 me="faults"
 . scripts/common.sh
 
-find_runner
 need_c_compiler
 build_staticlib
 build_replay
@@ -30,28 +29,24 @@ expect() {
 
 # replay on standard input, its last line.
 replay() {
-    "${runner[@]}" target/bin/run_replay
+    crates/run_replay/out/run_replay
 }
 
-if [ "$machine" = x86_64 ]; then
-    need valgrind valgrind
-    said=$(valgrind --quiet --error-exitcode=9 "$built/test" 2>&1) || {
-        echo "$said" >&2
-        fail "valgrind finds fault with the C host's test"
-    }
-    echo "faults: the C host's test under valgrind: $(tail -n 1 <<<"$said")"
-else
-    echo "faults: not run on this machine ($machine): the C host's test under valgrind"
-fi
+need valgrind valgrind
+said=$(valgrind --quiet --error-exitcode=9 "$built/test" 2>&1) || {
+    echo "$said" >&2
+    fail "valgrind finds fault with the C host's test"
+}
+echo "faults: the C host's test under valgrind: $(tail -n 1 <<<"$said")"
 for size in 1073741824 15000032; do
-    said=$("${emulator[@]}" "$built/large" polls "$size") || fail "a trace of $size bytes of polls was not answered"
+    said=$("$built/large" polls "$size") || fail "a trace of $size bytes of polls was not answered"
     echo "faults: $said"
 done
-said=$("${emulator[@]}" "$built/large" bad 1000000) || fail "a trace of bad records was not answered"
+said=$("$built/large" bad 1000000) || fail "a trace of bad records was not answered"
 echo "faults: a trace of nothing but bad records: $said"
 
 mapfile -t traces < <(find traces/ hosts/rust -name '*.trace' | sort)
-said=$("${emulator[@]}" "$built/random_station" "${STATIONS:-10000000}" "${traces[@]}") ||
+said=$("$built/random_station" "${STATIONS:-10000000}" "${traces[@]}") ||
     fail "a station of random bytes was neither refused nor sound"
 echo "faults: $said"
 

@@ -8,7 +8,8 @@ too, and the layers in README.md, between two marks.
 Sizes are counted anew each time. Time and memory stay those of the last measure, which the last column names by its commit.
 --check writes nothing and fails if a table is not what crates.txt and the sources say; time and memory are not compared.
 --measure takes them anew, of the crates named or of all: each crate is proved from nothing in a copy of the tree, one after
-the other, with what it leans on proved before and not counted. Nothing else should run on the machine meanwhile."""
+the other, with what it leans on proved before and not counted. Nothing else should run on the machine meanwhile. rt begins a
+check with what another checkout on the machine kept of the crate, if one did: then this fails, and says where."""
 import glob
 import os
 import re
@@ -24,6 +25,8 @@ TABLE, README = "docs/CRATES.md", "README.md"
 BEGIN, END = "<!-- crates: made from crates.txt by make figures -->", "<!-- end -->"
 HEAD = ["Layer", "Crate", "Functions", "Source", "Definitions", ".. without comments", "Laws", "Proofs", "Must-fail edits", "Seconds", "MiB", "Measured at"]
 NOT_MEASURED = ["-", "-", "-"]
+# What was measured at this commit was measured with the kit before this one.
+OLDER = "7c9adb0"
 
 
 def lines(paths):
@@ -34,15 +37,15 @@ def lines(paths):
 CLAIMS = {
     name + ".antt"
     for name in (
-        "AnswersRead AnyStart Asked Claim EveryTrace Follows FromHeader HostCall Letter Lines Met Moves Question Run Silence"
-        " SilentTrace Sizes Statement Table Waits"
+        "AnswersRead AnyStart Asked Claim EveryTrace Follows FromHeader HostCall Letter Lines Moves PremisesMet Question Run"
+        " Silence SilentTrace Sizes Statement Table Waits"
     ).split()
 }
 
 
 def is_law(path, has_code):
-    """Is this file of specs/ read by the checker alone? The others are what a reader holds beside the Rust or document 01, or,
-    in a crate of theorems, what is claimed."""
+    """Is this file of specs/ or proofs/ read by the checker alone? The others are what a reader holds beside the Rust or document
+    01, or, in a crate of theorems, what is claimed."""
     name = os.path.basename(path)
     if not has_code:
         return name not in CLAIMS
@@ -89,16 +92,17 @@ def is_law(path, has_code):
 
 
 def sizes(crate):
-    """Functions, lines of source, of definitions with and without comments (never `use` or blank lines), of laws and of
-    proofs, and the number of must-fail edits."""
+    """Functions, lines of source, of definitions with and without comments (never `use` or blank lines), of laws and of the
+    functions' proofs, and the number of must-fail edits. Files of specs/ whose theorems an edit would keep from being read stand in
+    proofs/: they count as those of specs/ do."""
     folder = os.path.join("crates", crate)
     source = lines(sorted(glob.glob(f"{folder}/src/*.rt")))
     functions = sum(bool(re.match(r' *(pub )?(extern "C" )?fn ', line)) for line in source)
-    specs = [path for path in sorted(glob.glob(f"{folder}/specs/*.antt")) if not path.endswith("/Lib.antt")]
+    specs = [path for part in ("specs", "proofs") for path in sorted(glob.glob(f"{folder}/{part}/*.antt")) if not path.endswith("/Lib.antt")]
     laws = [path for path in specs if is_law(path, functions > 0)]
     definitions = [line for line in lines(path for path in specs if path not in laws) if not re.match(r"use |$", line)]
     bare = [line for line in definitions if not re.match(r" *--", line)]
-    proofs = lines(glob.glob(f"{folder}/proofs/**/*.antt", recursive=True))
+    proofs = lines(glob.glob(f"{folder}/proofs/*/**/*.antt", recursive=True))
     edits = glob.glob(f"{folder}/must-fail/*.edit")
     return [str(n) for n in (functions, len(source), len(definitions), len(bare), len(lines(laws)), len(proofs), len(edits))]
 
@@ -123,16 +127,22 @@ def commit():
 
 def prove(crate, copy):
     """Proves a crate in the copy. Gives the seconds that it took and the memory of the largest process in MiB."""
-    log = os.path.join(copy, "said")
+    log, folder = os.path.join(copy, "said"), os.path.join(copy, "crates", crate)
     begun = time.monotonic()
     with open(log, "w", encoding="utf-8") as said:
-        child = subprocess.Popen(["rt", "check", crate], cwd=copy, stdout=said, stderr=said)
+        child = subprocess.Popen(["rt", "check"], cwd=folder, stdout=said, stderr=said)
         _, status, usage = os.wait4(child.pid, 0)
         child.returncode = os.waitstatus_to_exitcode(status)
     seconds = time.monotonic() - begun
     text = read(log)
-    if child.returncode != 0 or not any(line.startswith(f"rt: {crate} proved") for line in text):
+    if child.returncode != 0 or not any(line.startswith("logic=proved ") for line in text):
         fail(f"{crate} was not proved: " + (text or ["rt said nothing"])[-1])
+    kept = [line for line in text if "begins with what a check kept in" in line]
+    if kept:
+        fail(f"no check from nothing, since another checkout on this machine keeps proofs: {kept[0]}")
+    if os.path.exists(os.path.join(folder, "src", "lib.rt")):
+        # the library that the crates above read is built here, so that no check of theirs is charged with it
+        subprocess.run(["rt", "lib"], cwd=folder, stdout=subprocess.DEVNULL, stderr=subprocess.DEVNULL, check=False)
     return f"{seconds:.0f}", f"{usage.ru_maxrss / 1024:.0f}"
 
 
@@ -145,7 +155,9 @@ def measure(wanted, listed):
     order = [crate for crate in listed if crate in needed]
     found, at = {}, commit()
     with tempfile.TemporaryDirectory() as copy:
-        shutil.copytree("crates", os.path.join(copy, "crates"))
+        os.mkdir(os.path.join(copy, ".git"))  # it is the top of a repository
+        for name in listed:
+            shutil.copytree(os.path.join("crates", name), os.path.join(copy, "crates", name), ignore=lambda at, names: {"out"} & set(names))
         shutil.copy("crates.txt", copy)
         for crate in order:
             seconds, memory = prove(crate, copy)
@@ -181,9 +193,10 @@ def table(measured, listed):
         "## In figures",
         "",
         "Source, definitions, laws and proofs are lines. Definitions",
-        "are the files of `specs/` that a reader holds beside the Rust or document 01, without `use` and blank lines; laws are its",
-        "other files, which the checker reads. Seconds and MiB (of the largest process) are those of a check from nothing with what",
-        "the crate leans on proved before, measured at the commit in the last column (a + says that it was changed);",
+        "are the files of `specs/` and `proofs/` that a reader holds beside the Rust or document 01, without `use` and blank lines; laws",
+        "are the other files there, which the checker reads; proofs are the folders of `proofs/`, one for a function. Seconds and MiB (of",
+        "the largest process) are those of a check from nothing with what the crate leans on proved before, measured at the commit in the",
+        f"last column (a + says that it was changed; {OLDER} is of the older kit of Rattle);",
         "`python3 scripts/figures.py --measure` takes them anew. `-` is not measured.",
         "",
         row(HEAD),

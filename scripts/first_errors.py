@@ -5,7 +5,7 @@ name that a proof file misses.
 
     python3 scripts/first_errors.py [CRATE | CRATE/EDIT ..]
 
-Proved libraries are taken from target/, so run 'rt check' before."""
+What rt check kept in the crates' folders out/ goes along, so run 'rt all check' before."""
 import os
 import re
 import shutil
@@ -28,33 +28,44 @@ def pairs(path):
     return edits
 
 
-def copy_tree(copy):
-    """Copies what a check reads; the files of target/ are linked, which a folder on another disk cannot have."""
-    for words in (["-a", "crates.txt", "crates"], ["-al", "target"]):
-        said = subprocess.run(["cp", *words, copy], capture_output=True, text=True)
-        if said.returncode != 0:
-            fail(f"the tree could not be copied (TMPDIR=folder names another place): {said.stderr.splitlines()[0]}")
+def copy_tree(copy, wanted):
+    """Copies what a check reads, and what rt kept of the crates wanted and of those that they lean on."""
+    listed, needed = crates(), set(wanted)
+    for crate in reversed(listed.values()):
+        if crate.name in needed:
+            needed.update(name for name in crate.reads if name in listed)
+    try:
+        os.mkdir(os.path.join(copy, ".git"))  # it is the top of a repository
+        shutil.copy("crates.txt", copy)
+        for name in listed:
+            left = {"data"} if name in needed else {"data", "out"}
+            shutil.copytree(os.path.join("crates", name), os.path.join(copy, "crates", name), ignore=lambda at, names, left=left: left & set(names))
+    except (OSError, shutil.Error) as error:
+        fail(f"the tree could not be copied (TMPDIR=folder names another place): {str(error)[:200]}")
 
 
-def first_error(crate, edit):
-    """What the check says first of the crate with the edit."""
-    with tempfile.TemporaryDirectory() as copy:
-        copy_tree(copy)
+def first_error(copy, crate, edit):
+    """What the check says first of the crate with the edit, in the copy, which is as it was after it."""
+    folder, before = os.path.join(copy, "crates", crate), {}
+    try:
         for file, replacements in pairs(edit).items():
-            path = os.path.join(copy, "crates", crate, file)
-            text = "\n".join(read(path)) + "\n"
+            path = os.path.join(folder, file)
+            before[path] = text = "\n".join(read(path)) + "\n"
             for old, new in replacements:
                 if text.count(old) != 1:
                     return f"'{old}' stands {text.count(old)} times in {file}"
                 text = text.replace(old, new)
             write(path, text)
-        shown = subprocess.run(["rt", "dev", crate], cwd=copy, capture_output=True, text=True)
-        if shown.returncode == 0:
-            return "NOT REFUSED"
-        lines = (shown.stdout + shown.stderr).splitlines()
-        errors = [line for line in lines if re.search(r"\.(antt|rt):\d+:\d+: .*error|error:", line)]
-        rest = [line for line in lines if re.match(r"fn .*(not proved|no proof)", line)]
-        return (errors + rest + lines + ["refused without a word"])[0].replace(copy + "/", "")
+        shown = subprocess.run(["rt", "check"], cwd=folder, capture_output=True, text=True)
+    finally:
+        for path, text in before.items():
+            write(path, text)
+    if shown.returncode == 0:
+        return "NOT REFUSED"
+    lines = (shown.stdout + shown.stderr).splitlines()
+    errors = [line for line in lines if re.search(r"\.(antt|rt):\d+:\d+: .*error|error:|\.rt:\d+:\d+: it is not proved", line)]
+    rest = [line for line in lines if re.match(r"fn .*(not proved|no proof)", line)]
+    return (errors + rest + lines + ["refused without a word"])[0].replace(copy + "/", "")
 
 
 def edits_of(word):
@@ -76,10 +87,10 @@ def main():
     wanted = [edit for word in given.words or list(crates()) for edit in edits_of(word)]
     if shutil.which("rt") is None:
         fail("the Rattle toolchain's command 'rt' is not on the PATH")
-    if not os.path.isdir("target"):
-        fail("nothing is proved yet: run 'rt check' first")
-    for crate, edit in wanted:
-        print(f"{crate}/{os.path.basename(edit)}: {first_error(crate, edit)[:300]}", flush=True)
+    with tempfile.TemporaryDirectory() as copy:
+        copy_tree(copy, {crate for crate, _ in wanted})
+        for crate, edit in wanted:
+            print(f"{crate}/{os.path.basename(edit)}: {first_error(copy, crate, edit)[:300]}", flush=True)
 
 
 main()

@@ -22,7 +22,7 @@ FILES = ("active.rs", "parameters.rs")
 
 SHAPE = "`&mut` into an enum's fields: the state comes in and goes back by value (document 01, \"What must change shape\")"
 ASKED = "a question that no part that is taken asks"
-MATCHED = "the field `connectivity_state` of `Core`, matched where it is needed (`enteredOf`)"
+MATCHED = "the field `connectivity_state` of `Core`, matched where it is needed (`entered_of`)"
 
 # The functions of the Rust that have no definition, each with the reason.
 NOT_TAKEN = {
@@ -32,11 +32,11 @@ NOT_TAKEN = {
     "debug_assert_state!": "a check of debug builds: no transition is called from a state that it forbids, but for document 02's two (DIFFERENCES A11, A12)",
     "State::have_token": ASKED,
     "State::transition_offline": "never called: going offline makes a fresh station",
-    "State::transition_claim_token": "the state itself, `ClaimToken true`: `handleLostToken` enters it by `claimTokenOf .. true`",
-    "State::transition_await_data_response": "the state itself, `AwaitDataResponse address held`: `appTransmitOf` enters it",
-    "State::transition_pass_token": "the state itself, `PassToken gap attempt`: `usePassOf`, `statusAnswered`; the resends begin in it",
-    "State::transition_check_token_pass": "the state itself, `CheckTokenPass attempt`: `passSentOn` enters it",
-    "State::transition_await_status_response": "the state itself, `AwaitStatusResponse current`: `passPollOn` enters it",
+    "State::transition_claim_token": "the state itself, `ClaimToken true`: `handle_lost_token` enters it by `claim_token_of .. true`",
+    "State::transition_await_data_response": "the state itself, `AwaitDataResponse address held`: `app_transmit_of` enters it",
+    "State::transition_pass_token": "the state itself, `PassToken gap attempt`: `use_pass_of`, `status_answered`; the resends begin in it",
+    "State::transition_check_token_pass": "the state itself, `CheckTokenPass attempt`: `pass_sent_on` enters it",
+    "State::transition_await_status_response": "the state itself, `AwaitStatusResponse current`: `pass_poll_on` enters it",
     "State::get_listen_token_status_request": SHAPE,
     "State::get_listen_token_collision_count": SHAPE,
     "State::get_active_idle_status_request": SHAPE,
@@ -182,7 +182,7 @@ def names_at_head(comment, rust):
 
 def imported(line):
     """What a `use` line takes from the specs of a crate: each name with that crate."""
-    use = re.match(r"(?:ghost )?use Rattle·(\w+?)(?:·specs)?\.specs\.\w+\.\{(.*)\}", line)
+    use = re.match(r"(?:ghost )?use Rattle\.(\w+)\.specs\.\w+\.\{(.*)\}", line)
     if not use:
         return {}
     return {name.split(" as ")[-1].strip(): use.group(1) for name in use.group(2).split(",")}
@@ -214,7 +214,7 @@ def definitions_of(path, crate):
 
 def contract(line, word):
     """The text of a `requires` or `ensures` line, without its brackets."""
-    inner = re.fullmatch(r"\s*" + word + r" \{ (?:λ \w+\. )?⌜ (.*) ⌝ \}", line)
+    inner = re.fullmatch(r"\s*" + word + r" (?:\w+ )?\{ (.*) \}", line)
     if not inner:
         fail(f"this line is not read: {line.strip()}")
     return inner.group(1)
@@ -251,9 +251,10 @@ def functions_of(path, crate):
 
 def sources():
     """The definitions and functions of each crate that is no program, in the order of crates.txt, in which a crate comes after
-    those that it reads. Each public function of such a crate has a contract."""
+    those that it reads. Each public function of such a crate has a contract. A static library says again what another library
+    says, which determined.py holds it to, and is left out."""
     definitions, functions = [], []
-    for crate in (crate.name for crate in crates().values() if crate.layer != "Programs"):
+    for crate in (crate.name for crate in crates().values() if crate.layer != "Programs" and not crate.is_static):
         specs = os.path.join("crates", crate, "specs")
         for name in sorted(os.listdir(specs)) if os.path.isdir(specs) else []:
             if name.endswith(".antt"):
@@ -403,7 +404,7 @@ def table(folder):
         f"The published Rust has {len(rust)} functions and macros in `oracle/published/active.rs` and `parameters.rs`: {len(definitions_by)} are",
         f"taken and have definitions, {len(NOT_TAKEN)} are not and have a reason. Each number is a line. Files are under `crates/`.",
         "",
-        "A row is one definition of the Rust function, the Rattle function whose contract cites it, and that contract: `r` is what",
+        "A row is one definition of the Rust function, the Rattle function whose contract cites it, and that contract: `result` is what",
         "the function gives back, and `requires` what its callers have to show first. A definition that no contract cites by itself",
         "is part of one that is named. (01) marks a name that document 01 lists as lacking in the printed text: there its own rule",
         "is built, and not the published lines.",

@@ -1,7 +1,5 @@
 #!/usr/bin/env bash
 # Builds the C and Rust hosts of the proved library and runs their tests and examples. Part of make test.
-# On a machine that is not x86-64 what has the library linked, in C and in Rust, is cross-compiled and run under the
-# toolchain's emulator.
 set -euo pipefail
 cd "$(dirname "$0")/.." || exit 1
 me="hosts"
@@ -25,13 +23,13 @@ test_c() {
     shift 2
     for call in "$@"; do calls+=("-Damsulfezd_$call=faulty_$call"); done
     c_host "$built/test" "$test"
-    "${emulator[@]}" "$built/test" "${test_words[@]}" || fail "the C host's $test does not hold"
+    "$built/test" "${test_words[@]}" || fail "the C host's $test does not hold"
     faults=$(grep -c '^    case [0-9]' "$faulty") || fail "$faulty has no faults"
     "${compile[@]}" "${calls[@]}" -c "$test" -o "$built/renamed.o" || fail "$test does not build with other calls"
     for fault in $(seq "$faults"); do
         "${compile[@]}" -DFAULT="$fault" -c "$faulty" -o "$built/faulty.o" || fail "$faulty does not build"
         c_host "$built/test-faulty" "$built/renamed.o" "$built/faulty.o"
-        ! "${emulator[@]}" "$built/test-faulty" "${test_words[@]}" >/dev/null 2>&1 ||
+        ! "$built/test-faulty" "${test_words[@]}" >/dev/null 2>&1 ||
             fail "the C host's $test does not find planted fault $fault"
     done
     echo "C host: that test finds each of $faults planted faults"
@@ -47,14 +45,8 @@ compiles() {
 # The header is C99 and C++11 by gcc and, where it is there, by clang, with the call and without it; its readers and
 # writers are right in both languages; and it says which processor it is for.
 test_header() {
-    local cc=("${compile[0]}" -x c -std=c99) cpp=(c++ -x c++ -std=c++11) link=() compiler said compiled=0
-    if [ "$machine" = x86_64 ]; then
-        need c++ g++
-    else
-        need x86_64-linux-gnu-g++ g++-x86-64-linux-gnu
-        cpp[0]=x86_64-linux-gnu-g++
-        link=(-static -L"$cross")
-    fi
+    local cc=("${compile[0]}" -x c -std=c99) cpp=(c++ -x c++ -std=c++11) compiler said compiled=0
+    need c++ g++
     compiles "${cc[@]}"
     compiles "${cc[@]}" -DAMSULFEZD_WITHOUT_CALL
     compiles "${cpp[@]}"
@@ -72,11 +64,11 @@ test_header() {
     echo "C host: its header compiles as C99 and C++11 without a warning, in $compiled ways"
     for compiler in cc cpp; do
         local -n words=$compiler
-        "${words[@]}" "${link[@]}" hosts/c/fields.c -o "$built/fields" || fail "hosts/c/fields.c does not build"
-        said=$("${emulator[@]}" "$built/fields") || fail "the C host's readers and writers are not right (${words[*]})"
+        "${words[@]}" hosts/c/fields.c -o "$built/fields" || fail "hosts/c/fields.c does not build"
+        said=$("$built/fields") || fail "the C host's readers and writers are not right (${words[*]})"
     done
     echo "$said, as C99 and as C++11"
-    test_planted_fields "${cc[@]}" "${link[@]}"
+    test_planted_fields "${cc[@]}"
 }
 
 # test_planted_fields COMPILER WORD..: the test of the readers and writers finds each number of the header that is one
@@ -90,7 +82,7 @@ test_planted_fields() {
     for at in $(seq "$count"); do
         awk -v at="$at" -v by=1 -f hosts/c/plant.awk hosts/c/amsulfezd.h >"$folder/amsulfezd.h"
         "$@" -w "$folder/fields.c" -o "$folder/fields" || fail "hosts/c/fields.c does not build with planted fault $at"
-        ! "${emulator[@]}" "$folder/fields" >/dev/null 2>&1 ||
+        ! "$folder/fields" >/dev/null 2>&1 ||
             fail "hosts/c/fields.c does not find: $(diff hosts/c/amsulfezd.h "$folder/amsulfezd.h")"
     done
     echo "C host: that test finds each of $count planted faults"
@@ -101,9 +93,9 @@ test_stack() {
     local files
     mapfile -t files < <(find traces/ hosts/rust -name '*.trace' -o -name '*.capture' | sort)
     c_host "$built/stack" hosts/c/stack.c
-    "${emulator[@]}" "$built/stack" "$at_random" "${files[@]}" || fail "a call takes more stack than amsulfezd.h says"
+    "$built/stack" "$at_random" "${files[@]}" || fail "a call takes more stack than amsulfezd.h says"
     c_host "$built/stack-faulty" -DFAULT hosts/c/stack.c
-    ! "${emulator[@]}" "$built/stack-faulty" "$at_random" >/dev/null 2>&1 || fail "a call that takes more stack is not found"
+    ! "$built/stack-faulty" "$at_random" >/dev/null 2>&1 || fail "a call that takes more stack is not found"
 }
 
 # The calls on a station and those beside it, on every stored trace, and on bytes made at random.
@@ -122,7 +114,7 @@ test_stations() {
 # The C example prints what is stored.
 test_c_example() {
     c_host "$built/example" hosts/c/example.c
-    "${emulator[@]}" "$built/example" | cmp - hosts/c/example.txt || fail "hosts/c/example.c does not print what is stored"
+    "$built/example" | cmp - hosts/c/example.txt || fail "hosts/c/example.c does not print what is stored"
     echo "C host: its example prints what is stored"
 }
 
@@ -160,7 +152,7 @@ asked_all() {
     local kind=$1 least=$2 words=$3 count=0 stated
     c_host "$built/${kind}_file" "hosts/c/${kind}_file.c"
     while read -r stated; do
-        "${emulator[@]}" "$built/${kind}_file" "${stated%."$kind"}.trace" | cmp - "$stated" ||
+        "$built/${kind}_file" "${stated%."$kind"}.trace" | cmp - "$stated" ||
             fail "the C host asks otherwise than $stated"
         count=$((count + 1))
     done < <(find traces/ -name "*.$kind" | sort)
@@ -186,36 +178,24 @@ test_stored_captures() {
     for left in "$folder"/*.imported "$folder"/*.exported; do
         given=${left%.*ported}.capture
         [ "${left##*.}" = imported ] || given=${left%.*ported}.entries
-        "${emulator[@]}" "$built/capture_file" "${left##*.}" "$given" "$(sed -n '1s/^room //p' "$left")" | cmp - "$left" ||
+        "$built/capture_file" "${left##*.}" "$given" "$(sed -n '1s/^room //p' "$left")" | cmp - "$left" ||
             fail "the C host leaves otherwise than its story: $left"
         count=$((count + 1))
     done
     echo "C host: $count captures from files, each as its story says"
 }
 
-# The Rust host's tests hold with the proved library linked, and its example replays every trace. Where another machine
-# than x86-64 cannot have a Rust that links the library, one line says why this was not run.
+# The Rust host's tests hold with the proved library linked, and its example replays every trace.
 test_rust_linked() {
-    local why
-    if [ "$machine" != x86_64 ] && ! why=$( (need_linked_rust) 2>&1); then
-        echo "hosts: not run on this machine ($machine): the Rust host's calls of the proved library: ${why#hosts: }"
-        return 0
-    fi
-    need_linked_rust
     test_rust "the proved library linked" linked_cargo test --package amsulfezd
     linked_cargo build --package amsulfezd --examples || fail "the Rust host's examples do not build"
-    replay_all Rust "${emulator[@]}" "$linked/examples/replay_file"
-    test_logger Rust "${emulator[@]}" "$linked/examples/logger"
+    replay_all Rust "$linked/examples/replay_file"
+    test_logger Rust "$linked/examples/logger"
 }
 
 # The service desk's program: its tests; each story's trace answered, the stored pictures drawn anew; captures as other programs
 # open them; the tour; make's lines over it, and its installation.
 test_desk() {
-    local why
-    if [ "$machine" != x86_64 ] && ! why=$( (need_desk) 2>&1); then
-        echo "hosts: not run on this machine ($machine): the service desk: ${why#hosts: }"
-        return 0
-    fi
     build_desk
     export DESK_BUILT=yes
     test_rust "the service desk" desk_cargo test
@@ -231,11 +211,10 @@ test_desk() {
 # words that are not typed; no bytes that are no text on the screen.
 test_terminal() {
     local folder=target/hosts/terminal entries=300000 said
-    [ "$machine" = x86_64 ] || entries=30000 # under an emulator that takes more than a second too
     { rm -rf "$folder" && mkdir -p "$folder"; } || fail "$folder could not be made"
     need script bsdutils
     python3 scripts/browser.py --repeat traces/night.trace "$folder/long.trace" "$entries" || fail "no long trace is made"
-    said=$("${desk[@]}" heard "$folder/long.trace" -o "$folder/heard" 2>&1) || fail "amsulfezd heard fails"
+    said=$("$desk" heard "$folder/long.trace" -o "$folder/heard" 2>&1) || fail "amsulfezd heard fails"
     [ -z "$said" ] || fail "a bar where standard error is no terminal: $said"
     said=$(at_terminal heard "$folder/long.trace" -o "$folder/again") || fail "amsulfezd heard fails at a terminal"
     [[ "$said" = *"asking for each address"* ]] || fail "no bar at a terminal after a second: $said"
@@ -256,7 +235,7 @@ test_terminal() {
 # at_terminal WORD..: what the service desk writes to a terminal with these words.
 at_terminal() {
     local line
-    line=$(printf '%q ' "${desk[@]}" "$@")
+    line=$(printf '%q ' "$desk" "$@")
     script -qec "$line" /dev/null </dev/null
 }
 
@@ -265,7 +244,7 @@ desk_answers() {
     local trace count=0 status wanted
     while read -r trace; do
         status=0
-        "${desk[@]}" replay "$trace" >target/hosts/desk.answers 2>/dev/null || status=$?
+        "$desk" replay "$trace" >target/hosts/desk.answers 2>/dev/null || status=$?
         cmp target/hosts/desk.answers "${trace%.trace}.answers" || fail "the service desk answers $trace otherwise than its story"
         wanted=1
         [ "$(awk 'END { print $2 }' target/hosts/desk.answers)" != 0 ] || wanted=0
@@ -285,14 +264,14 @@ test_pictures() {
         trace=traces/$name.trace
         [ -f "$trace" ] || trace=traces/${name/-//}.trace
         # A trace that ends inside an entry is drawn, and refused.
-        "${desk[@]}" picture "$trace" -o "$folder/$name.svg" 2>/dev/null || [ "$name" = cut-entry ] ||
+        "$desk" picture "$trace" -o "$folder/$name.svg" 2>/dev/null || [ "$name" = cut-entry ] ||
             fail "amsulfezd picture does not draw $trace"
         cmp "$stored" "$folder/$name.svg" || fail "amsulfezd picture draws $trace otherwise than it is stored"
         count=$((count + 1))
     done
-    "${desk[@]}" picture traces/night.trace --from 18 --to 30 | cmp docs/night.svg - ||
+    "$desk" picture traces/night.trace --from 18 --to 30 | cmp docs/night.svg - ||
         fail "amsulfezd picture draws entries 18 to 30 of traces/night.trace otherwise than docs/night.svg"
-    "${desk[@]}" picture "$tests/long.trace" -o "$folder/long.svg" || fail "amsulfezd picture does not draw the long trace"
+    "$desk" picture "$tests/long.trace" -o "$folder/long.svg" || fail "amsulfezd picture does not draw the long trace"
     [ "$(grep -c '<g class="entry"' "$folder/long.svg")" -eq 500 ] || fail "the picture of the long trace does not have 500 entries"
     [ "$(find "$folder" -type f | wc -l)" -eq $((count + 1)) ] || fail "amsulfezd picture left other files in $folder"
     echo "Pictures: $count and README's drawn as they are stored, and one of 500 entries"
@@ -305,8 +284,8 @@ test_pcap() {
     { rm -rf "$folder" && mkdir -p "$folder"; } || fail "$folder could not be made"
     need capinfos wireshark-common
     need tshark tshark
-    "${desk[@]}" export "$text" -o "$folder/site.pcap" || fail "amsulfezd export makes no pcap file"
-    "${desk[@]}" export "$text" --private -o "$folder/private.pcap" || fail "amsulfezd export makes no pcap file"
+    "$desk" export "$text" -o "$folder/site.pcap" || fail "amsulfezd export makes no pcap file"
+    "$desk" export "$text" --private -o "$folder/private.pcap" || fail "amsulfezd export makes no pcap file"
     said=$({ cmp -l "$folder/site.pcap" "$folder/private.pcap" || true; } | awk '{ printf "%d:%s-%s ", $1, $2, $3 }')
     [ "$said" = "21:1-223 22:1-0 " ] || fail "the two pcap files differ in more than the link type: $said"
     said=$(capinfos -r -T -m -c "$folder/private.pcap") || fail "capinfos does not open the pcap file"
@@ -344,7 +323,6 @@ test_lines() {
     echo "Service desk: make's lines over it, and installed"
 }
 
-find_runner
 need cargo cargo
 need_c_compiler
 build_staticlib
@@ -363,9 +341,9 @@ test_header
 test_stack
 test_c_example
 c_host "$built/logger" hosts/c/logger.c
-test_logger C "${emulator[@]}" "$built/logger"
+test_logger C "$built/logger"
 c_host "$built/replay_file" hosts/c/replay_file.c
-replay_all C "${emulator[@]}" "$built/replay_file"
+replay_all C "$built/replay_file"
 test_stored_captures
 asked_all heard 6 "every address that was heard"
 asked_all counts 40 "their counts"

@@ -1,6 +1,5 @@
 #!/usr/bin/env bash
-# Prints what a poll costs: the instructions of a poll in each of some cases, counted on the program run_polls by valgrind or, on
-# a machine that is not x86-64, by the toolchain's emulator, one instruction at a time.
+# Prints what a poll costs: the instructions of a poll in each of some cases, counted on the program run_polls by valgrind.
 # A case is a start and a round of polls that is repeated; the counts of two runs are subtracted, so that what comes
 # before the rounds and after them falls away. PROGRAM in the environment measures another build of the program.
 set -euo pipefail
@@ -8,10 +7,10 @@ cd "$(dirname "$0")/.." || exit 1
 me="measure"
 . scripts/common.sh
 
-program=${PROGRAM:-target/bin/run_polls}
-[ -x "$program" ] || fail "$program is not there: run 'rt check run_polls' first"
-find_runner
-[ "$machine" != x86_64 ] || need valgrind valgrind
+program=${PROGRAM:-crates/run_polls/out/run_polls}
+[ -n "${PROGRAM:-}" ] || build_program run_polls
+[ -x "$program" ] || fail "$program is not there"
+need valgrind valgrind
 need cargo cargo
 # The cases are a program over the Rust host, so that records are written in one way.
 host_cargo build --package rounds || fail "hosts/rust/rounds does not build"
@@ -21,15 +20,9 @@ trap 'rm -rf "$folder"' EXIT
 # instructions CASE ROUNDS: the instructions of a run.
 instructions() {
     target/hosts/release/rounds "$1" "$2" >"$folder/input" || fail "the polls of $1 were not written"
-    if [ "$machine" = x86_64 ]; then
-        valgrind --tool=callgrind --callgrind-out-file=/dev/null "$program" <"$folder/input" >/dev/null 2>"$folder/said" ||
-            fail "$program did not run"
-        sed -n 's/.*Collected : //p' "$folder/said"
-    else
-        "${runner[0]}" -one-insn-per-tb -d exec,nochain -D "$folder/said" "${runner[@]:1}" "$program" <"$folder/input" >/dev/null ||
-            fail "$program did not run"
-        grep -c '^Trace' "$folder/said"
-    fi
+    valgrind --tool=callgrind --callgrind-out-file=/dev/null "$program" <"$folder/input" >/dev/null 2>"$folder/said" ||
+        fail "$program did not run"
+    sed -n 's/.*Collected : //p' "$folder/said"
 }
 
 echo "| Case | Polls a round | Instructions a poll |"

@@ -1,7 +1,7 @@
 #!/usr/bin/env bash
 # Prints what reading a frame costs: the instructions of the proved program run_frames and of a plain C reader
-# (hosts/c/plain_frames.c) on the same frames, counted by valgrind or, on a machine that is not x86-64, by the toolchain's
-# emulator, one instruction at a time. The C reader is built with -O2, and with -O3, by which gcc adds many bytes at a time.
+# (hosts/c/plain_frames.c) on the same frames, counted by valgrind. The C reader is built with -O2, and with -O3, by which gcc
+# adds many bytes at a time.
 # The counts of a run on 3 frames are taken from those on 13, so that what comes before and after falls away; the walk from
 # frame to frame is counted with both. PROGRAM in the environment measures another build of the program.
 set -euo pipefail
@@ -9,10 +9,10 @@ cd "$(dirname "$0")/.." || exit 1
 me="measure frames"
 . scripts/common.sh
 
-program=${PROGRAM:-target/bin/run_frames}
-[ -x "$program" ] || fail "$program is not there: run 'rt check run_frames' first"
-find_runner
-[ "$machine" != x86_64 ] || need valgrind valgrind
+program=${PROGRAM:-crates/run_frames/out/run_frames}
+[ -n "${PROGRAM:-}" ] || build_program run_frames
+[ -x "$program" ] || fail "$program is not there"
+need valgrind valgrind
 need_c_compiler
 plain=target/hosts/c/plain_frames
 mkdir -p "$(dirname "$plain")"
@@ -44,27 +44,20 @@ frame() {
     esac
 }
 
-# count FRAMES COMMAND..: the instructions of a run on so many frames; what it prints goes to the file said.
+# count FRAMES PROGRAM: the instructions of a run on so many frames; what it prints goes to the file said.
 count() {
     local frames=$1 i
-    shift
     for ((i = 0; i < frames; i++)); do cat "$folder/frame"; done >"$folder/input"
-    if [ "$machine" = x86_64 ]; then
-        valgrind --tool=callgrind --callgrind-out-file=/dev/null "${@: -1}" <"$folder/input" >"$folder/said" 2>"$folder/counted" ||
-            fail "${*: -1} did not run"
-        sed -n 's/.*Collected : //p' "$folder/counted"
-    else
-        "$1" -one-insn-per-tb -d exec,nochain -D "$folder/counted" "${@:2}" <"$folder/input" >"$folder/said" ||
-            fail "${*: -1} did not run"
-        grep -c '^Trace' "$folder/counted"
-    fi
+    valgrind --tool=callgrind --callgrind-out-file=/dev/null "$2" <"$folder/input" >"$folder/said" 2>"$folder/counted" ||
+        fail "$2 did not run"
+    sed -n 's/.*Collected : //p' "$folder/counted"
 }
 
-# a_frame COMMAND..: the instructions of one frame more.
+# a_frame PROGRAM: the instructions of one frame more.
 a_frame() {
     local few many
-    few=$(count 3 "$@")
-    many=$(count 13 "$@")
+    few=$(count 3 "$1")
+    many=$(count 13 "$1")
     echo $(((many - few) / 10))
 }
 
@@ -82,10 +75,10 @@ echo "| Frame | Bytes | Proved, instructions a frame | Plain C, -O2 | Plain C, -
 echo "|---|---|---|---|---|"
 for name in SC SD4 SD1 SD3 SD2; do
     frame "$name" >"$folder/frame"
-    level_3=$(a_frame "${emulator[@]}" "$plain-3")
-    level_2=$(a_frame "${emulator[@]}" "$plain-2")
+    level_3=$(a_frame "$plain-3")
+    level_2=$(a_frame "$plain-2")
     cp "$folder/said" "$folder/plain-said"
-    proved=$(a_frame "${runner[@]}" "$program")
+    proved=$(a_frame "$program")
     agree
     echo "| $name | $(($(wc -c <"$folder/frame") - 1)) | $proved | $level_2 | $level_3 |"
 done

@@ -8,11 +8,10 @@ cd "$(dirname "$0")/.." || exit 1
 me="measure_station"
 . scripts/common.sh
 
-find_runner
 need cargo cargo
 need_c_compiler
 build_staticlib
-[ "$machine" != x86_64 ] || need valgrind valgrind
+need valgrind valgrind
 host_cargo build --package rounds || fail "hosts/rust/rounds does not build"
 folder=$(mktemp -d) || fail "no temporary folder could be made"
 trap 'rm -rf "$folder"' EXIT
@@ -25,13 +24,8 @@ c_host "$rings" hosts/c/speed_station.c
 counted() {
     local output=$1
     shift
-    if [ "$machine" = x86_64 ]; then
-        valgrind --tool=callgrind --callgrind-out-file=/dev/null "$@" <"$folder/input" >"$output" 2>"$folder/said" || fail "$1 did not run"
-        sed -n 's/.*Collected : //p' "$folder/said"
-    else
-        "${emulator[@]}" -one-insn-per-tb -d exec,nochain -D "$folder/said" "$@" <"$folder/input" >"$output" || fail "$1 did not run"
-        grep -c '^Trace' "$folder/said"
-    fi
+    valgrind --tool=callgrind --callgrind-out-file=/dev/null "$@" <"$folder/input" >"$output" 2>"$folder/said" || fail "$1 did not run"
+    sed -n 's/.*Collected : //p' "$folder/said"
 }
 
 # instructions CASE ROUNDS WAY: the instructions of a run, which leaves its answers in a file with the way's name.

@@ -11,8 +11,6 @@ me="speed of captures"
 megabytes=${MB:-100}
 [[ "$megabytes" =~ ^[1-9][0-9]{0,3}$ ]] || fail "MB is a whole number above 0 of at most 4 digits, not '$megabytes'"
 
-find_runner
-[ "$machine" = x86_64 ] || fail "speed is measured on x86-64 alone, this machine is $machine"
 need_c_compiler
 build_staticlib
 folder=target/captures

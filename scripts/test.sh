@@ -1,7 +1,7 @@
 #!/usr/bin/env bash
-# make test: first what is checked in seconds, then every crate of crates.txt proved from nothing, the must-fail edits and the
-# programs (rt ci), then the comparisons and, beside them, the hosts' tests. Each part says how long it took. The last line printed
-# is rt ci's own, 'N passed, 0 failed', and only if all of it held.
+# make test: first what is checked in seconds, then every crate of crates.txt proved from nothing, the files' layout, the must-fail
+# edits and the programs (rt ci), then the comparisons and, beside them, the hosts' tests. Each part says how long it took. The last
+# line printed is rt ci's own, 'N passed, 0 failed', and only if all of it held.
 set -euo pipefail
 cd "$(dirname "$0")/.." || exit 1
 me="make test"
@@ -28,42 +28,30 @@ joined() {
     [ "$status" -eq 0 ] || fail "this does not hold: $beside_name"
 }
 
-# Builds the Rust that needs no proof while the proofs go on, on what they leave of the processors: crates of one level wait for
-# each other. What fails here fails again in its part, and is said there.
+# Builds the Rust that needs no proof while the proofs go on, on what they leave of the processors. What fails here fails again in its
+# part, and is said there.
 build_early() {
-    while [ ! -d target/stamp ]; do
-        kill -0 $$ 2>/dev/null || return
-        sleep 1
-    done
     nice -n 19 bash scripts/build_early.sh >/dev/null 2>&1 || true
 }
 
-# Sets RT_JOBS, how many crates or edits rt checks at a time. A check takes up to 1.9 GB, and 0.6 GB of files that it removes at its end.
-# Crates of one level are proved side by side, and the next level waits for all of them; edits go in batches, and the next batch
-# waits too: with nine at a time two cores wait less.
-choose_jobs() {
-    local free
-    if [ -n "${RT_JOBS:-}" ]; then
-        [[ "$RT_JOBS" =~ ^[1-9][0-9]?$ ]] || fail "RT_JOBS is a whole number from 1 to 99, not '$RT_JOBS'"
-        echo "$me: $RT_JOBS crates at a time, as RT_JOBS says"
-        return
-    fi
-    free=$(awk '/^MemAvailable:/ { print int($2 / 1024) }' /proc/meminfo 2>/dev/null) || free=0
-    RT_JOBS=$((${free:-0} / 2500))
-    [ "$RT_JOBS" -ge 1 ] || RT_JOBS=1
-    [ "$RT_JOBS" -le 9 ] || RT_JOBS=9
-    export RT_JOBS
-    echo "$me: $RT_JOBS crates at a time, by ${free:-0} MiB of memory that are free; RT_JOBS=n says otherwise"
+# RT_JOBS says how many crates or edits rt proves at a time; without it rt decides that, by the processors and the memory that is free.
+check_jobs() {
+    [ -n "${RT_JOBS:-}" ] || return 0
+    [[ "$RT_JOBS" =~ ^[1-9][0-9]?$ ]] || fail "RT_JOBS is a whole number from 1 to 99, not '$RT_JOBS'"
+    echo "$me: $RT_JOBS crates at a time, as RT_JOBS says"
 }
 
-# Runs rt ci. All that it prints goes on at once but for its last line, which is kept back in `verdict`.
+# Runs rt ci on the checkout as it stands. All that it prints goes on at once but for its last line, which is kept back in `verdict`.
+# rt ci says how many must-fail edits are bad, as one that cannot be applied, and passes all the same; here that is a failure.
 prove() {
-    rm -rf target || fail "target/ could not be removed"
+    local ok
     build_early &
     rt ci 2>&1 | tee "$log" | awk 'NR > 1 { print line; fflush() } { line = $0 }' ||
         fail "rt ci ended with status ${PIPESTATUS[0]}: $(tail -n 1 "$log")"
     verdict=$(tail -n 1 "$log")
     [[ "$verdict" =~ ^[1-9][0-9]*\ passed,\ 0\ failed$ ]] || fail "rt ci's last line is not a verdict: $verdict"
+    ok=$(grep '^rt: ok' "$log") || fail "rt ci does not say 'rt: ok'"
+    [[ ! "$ok" =~ ,\ [0-9]+\ bad ]] || fail "must-fail edits are bad: $ok"
 }
 
 # All that any part needs, before the first one runs.
@@ -73,13 +61,11 @@ need shellcheck shellcheck
 need cargo cargo
 need capinfos wireshark-common
 need tshark tshark
-find_runner
 need_c_compiler
-choose_jobs
+check_jobs
 log=$(mktemp) || fail "no temporary file could be made"
 trap 'rm -f "$log" "$log.beside"; jobs -pr | xargs -r kill 2>/dev/null || true' EXIT
 
-part "the formatter's layout (rt fmt)" rt fmt --check
 part "the shell scripts (shellcheck)" shellcheck --external-sources .ci/run scripts/*.sh
 part "docs/FUNCTIONS.md" python3 scripts/functions.py --check
 part "the tables of crates" python3 scripts/figures.py --check

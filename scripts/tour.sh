@@ -12,7 +12,7 @@ bin=target/tour-bin
 rm -rf target/tour "$bin"
 mkdir -p target/tour "$bin"
 printf '#!/bin/sh\nexec' >"$bin/amsulfezd"
-printf ' %q' "${desk[@]}" >>"$bin/amsulfezd"
+printf ' %q' "$desk" >>"$bin/amsulfezd"
 printf ' "$@"\n' >>"$bin/amsulfezd"
 chmod +x "$bin/amsulfezd"
 

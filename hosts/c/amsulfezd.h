@@ -33,8 +33,9 @@
  * example.c replays a trace; logger.c is on a bus, with settings, a station, frames, counts and who was heard. The field widths are document 01's, "Station"
  * and "Trace", and document 02's, P6, P7 and P9; a frame's bytes are document 02's, P1, a setup's P12, a capture's text P13.
  *
- * Linking. `rt staticlib amsulfezd` proves the library and writes target/staticlib/libamsulfezd.a. From the
- * repository's root:
+ * Linking. `rt lib` in crates/amsulfezd_c proves the library and writes out/libamsulfezd_c.a there, which every command of
+ * the repository's Makefile that needs it does and copies to target/staticlib/libamsulfezd.a. From the repository's root,
+ * after `make replay`:
  *
  *   cc -Ihosts/c program.c target/staticlib/libamsulfezd.a -o program
  *   cc -Ihosts/c program.c -Ltarget/staticlib -lamsulfezd -o program

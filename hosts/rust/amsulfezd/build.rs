@@ -12,7 +12,7 @@ fn main() {
         let library = Path::new(&folder).join("libamsulfezd.a");
         assert!(
             library.is_file(),
-            "AMSULFEZD_STATICLIB_DIR holds no libamsulfezd.a: run 'rt staticlib amsulfezd' first"
+            "AMSULFEZD_STATICLIB_DIR holds no libamsulfezd.a: 'make replay' proves it and writes target/staticlib"
         );
         let processor = std::env::var("CARGO_CFG_TARGET_ARCH").unwrap_or_default();
         assert!(

@@ -19,22 +19,9 @@ fn folder(name: &str) -> PathBuf {
     folder
 }
 
-/// The words that run the program: on another machine than x86-64 the emulator's before it, which scripts/common.sh says.
-fn program_words() -> Vec<String> {
-    let emulator = std::env::var("AMSULFEZD_EMULATOR").unwrap_or_default();
-    emulator
-        .split_whitespace()
-        .chain([env!("CARGO_BIN_EXE_amsulfezd")])
-        .map(String::from)
-        .collect()
-}
-
 /// The program, still without words.
 fn program() -> Command {
-    let words = program_words();
-    let mut command = Command::new(&words[0]);
-    command.args(&words[1..]);
-    command
+    Command::new(env!("CARGO_BIN_EXE_amsulfezd"))
 }
 
 /// What came of the program with these words, and with these bytes on standard input.
@@ -761,7 +748,7 @@ fn examples_run() {
         for example in examples {
             let line = example
                 .trim()
-                .replacen("amsulfezd", &program_words().join(" "), 1);
+                .replacen("amsulfezd", env!("CARGO_BIN_EXE_amsulfezd"), 1);
             let status = Command::new("sh")
                 .args(["-c", &line])
                 .current_dir(&folder)
