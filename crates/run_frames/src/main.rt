@@ -5,7 +5,7 @@
 ghost use Rattle.std.specs.Prelude.{◌≤◌};
 
 use std::io;
-use std::io::Read;
+use std::io::{Cursor, Read};
 
 // A frame's length, cut where the input ends.
 fn cut(length: u8, rest: usize) -> usize
@@ -31,8 +31,11 @@ fn read_all(s: &[u8]) -> u64 {
 }
 
 fn main(rt: HostRuntime) -> io::Result<()> {
-    let mut space = Vec::new(rt.alloc());
-    rt.reader().take(65536).read_to_end(&mut space)?;
-    let last = read_all(&space);
+    let mut space = [0u8; 65536];
+    let n = io::copy(
+        &mut rt.reader().take(65536),
+        &mut Cursor::new(&mut space[..]),
+    )?;
+    let last = read_all(&space[..(n as usize).min(65536)]);
     println!(rt; "{last:016x}")
 }

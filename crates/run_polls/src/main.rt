@@ -10,7 +10,7 @@ use settings::{Created, Parameters};
 use station::Station;
 use station_answer::Polled;
 use std::io;
-use std::io::Read;
+use std::io::{Cursor, Read};
 
 // A record's length, cut where the input ends.
 fn cut(length: u8, rest: usize) -> usize
@@ -43,19 +43,25 @@ fn run(rt: &impl Print, start: Station, links: &mut [u8; 252], s: &[u8]) -> io::
     println!(rt; "{last:016x}")
 }
 
-// A station at 500 kbit/s, which is code 6, with the settings that belong to it. A byte that the input lacks is 0.
+// A station at 500 kbit/s, which is code 6, with the settings that belong to it.
 fn main(rt: HostRuntime) -> io::Result<()> {
-    let mut space = Vec::new(rt.alloc());
-    rt.reader().take(65536).read_to_end(&mut space)?;
-    let address = space.get(0).copied().unwrap_or(0);
-    let applications = space.get(1).copied().unwrap_or(0);
-    let Created::Accepted(p) = Parameters::new(address, 6) else {
+    let mut space = [0u8; 65536];
+    let n = io::copy(
+        &mut rt.reader().take(65536),
+        &mut Cursor::new(&mut space[..]),
+    )?;
+    let Created::Accepted(p) = Parameters::new(space[0], 6) else {
         return println!(rt; "run_polls: the first byte is no address");
     };
     let mut links = [127u8; 252];
-    let started = Station::new(p, applications, &mut links);
+    let started = Station::new(p, space[1], &mut links);
     if started.refusal != 0 {
         return println!(rt; "run_polls: the second byte is no number of applications");
     }
-    run(&rt, started.station, &mut links, &space)
+    run(
+        &rt,
+        started.station,
+        &mut links,
+        &space[..(n as usize).min(65536)],
+    )
 }

@@ -3,12 +3,15 @@
 #![tactic(auto)]
 
 use std::io;
-use std::io::Read;
+use std::io::{Cursor, Read};
 
 fn main(rt: HostRuntime) -> io::Result<()> {
-    let mut bytes = Vec::new(rt.alloc());
-    rt.reader().take(4096).read_to_end(&mut bytes)?;
-    if run_replay_print::replay(&rt, &bytes).is_err() {
+    let mut bytes = [0u8; 4096];
+    let n = io::copy(
+        &mut rt.reader().take(4096),
+        &mut Cursor::new(&mut bytes[..]),
+    )?;
+    if run_replay_print::replay(&rt, &bytes[..(n as usize).min(4096)]).is_err() {
         return eprintln!(rt; "replay: the answers could not all be written");
     }
     Ok(())

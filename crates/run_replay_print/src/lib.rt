@@ -4,15 +4,19 @@
 
 use std::io;
 
-// Prints the first `entries` answers, as far as they lie in `answers`, a line for each.
+// Prints a line with an answer.
+fn show_answer(rt: &impl Print, word: u64) -> io::Result<()> {
+    println!(rt; "{word:016x}")
+}
+
+// Prints the first `entries` answers, as far as they lie in `answers`.
 fn show(rt: &impl Print, answers: &[u8], entries: u64) -> io::Result<()> {
     let mut at: usize = 0;
     for _ in 0..entries {
         if answers.len() - at < 8 {
             return Ok(());
         }
-        let word = codec_fields::load(answers, at, 8);
-        println!(rt; "{word:016x}")?;
+        show_answer(rt, codec_fields::load(answers, at, 8))?;
         at += 8;
     }
     Ok(())
