@@ -1,4 +1,5 @@
--- What other crates may use of bit times, each with the sentence that it proves.
+-- What other crates may use of bit times, each with the sentence that it proves: of the rows of the baud table (`Listed`) and of how
+-- long bits last (`Lasts`).
 use Rattle.std.specs.Prelude.{ℕ, zero, suc, ◌+◌, ◌-◌, ◌*◌, ◌/◌, ◌<◌, ◌≤◌, ◌≡◌, refl, map, eqb, ltb, Bool, true, false, ◌&&◌}
 use Rattle.std.proofs.Common.{lit≤, arith, eq-or-lt_of_le, div-mul-le_self, div-lt_iff_lt-mul, le-div_iff_mul-le, le_of_suc-le-suc, lt-suc_self, mul-le-mul_right, suc-mul, ⊎_elim, eqb-true, ltb-true, ltb-false}
 use Rattle.std.proofs.Math.ListN.{get_or-eq_default}

@@ -1,5 +1,5 @@
--- Why what the code keeps of a bus is enough: of all that was sent at most one telegram can still arrive, it is the one that was sent
--- last, and it meets none. Assumes nothing.
+-- Why what the code keeps of a bus (`OnWire`) is enough: of all that was sent at most one telegram can still arrive, it is the one that
+-- was sent last, and it meets none. Assumes nothing.
 use Rattle.std.specs.Prelude.{ℕ, ◌+◌, ◌<◌, ◌≤◌, ◌≡◌, Bool, true, false, cond, ◌&&◌, ◌⊎◌, eqb, ltb, leb}
 use Rattle.std.proofs.Math.Path.{refl, sym, ap, subst}
 use Rattle.std.proofs.Common.{◌∙◌}

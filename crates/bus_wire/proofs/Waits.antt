@@ -1,4 +1,5 @@
--- The telegrams that wait for a station: what the code keeps are their words. Assumes nothing.
+-- The telegrams that wait for a station: what the code keeps are their words (`Waits`), at the start and whatever joins or leaves.
+-- Assumes nothing.
 use Rattle.std.specs.Prelude.{ℕ, zero, suc, ◌+◌, ◌-◌, ◌<◌, ◌≤◌, ◌≡◌, refl, take, drop, get_or, ltb}
 use Rattle.std.proofs.Common.{sym, ◌∙◌, add-one, length-append, length-drop, length-take-le, drop-drop, take-suc-set, lit≤}
 use Rattle.std.proofs.Math.Path.{ap}

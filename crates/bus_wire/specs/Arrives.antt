@@ -1,5 +1,5 @@
--- Why what the code keeps of a bus is enough: of all that was sent at most one telegram can still arrive, it is the one that was sent
--- last, and it meets none. Assumes nothing.
+-- What it is that the code keeps enough of a bus: of all that was sent at most one telegram can still arrive, it is the one that was
+-- sent last, and it meets none. That it does is proved in proofs/ArrivesLaws. Assumes nothing.
 use Rattle.std.specs.Prelude.{ℕ, ◌+◌, ◌<◌, ◌≤◌, ◌≡◌, Bool, true, false, cond, ◌⊎◌, eqb}
 use mathlib.Core.List.{List, [], ◌∷◌}
 use Rattle.codec_telegrams.specs.Words.{telegram_word}

@@ -1,5 +1,5 @@
 -- What the code keeps of a bus, and how its calls change it: of what was sent until when the bus is busy, and the one telegram that may
--- still arrive; for a station the words of the telegrams that wait. (`Laws` says why that is enough.) Assumes nothing.
+-- still arrive; for a station the words of the telegrams that wait. (Waits and ArrivesLaws in proofs/ say why that is enough.) Assumes nothing.
 use Rattle.std.specs.Prelude.{ℕ, zero, suc, ◌+◌, ◌-◌, List, [], ◌∷◌, Bool, true, false, cond, take, set, get_or, eqb, ltb, leb}
 use Rattle.bus_wire.specs.declared.Wire.{Wire}
 use Rattle.bus_wire.specs.declared.Waiting.{Waiting}

@@ -1,4 +1,5 @@
--- The telegrams that wait for a station: what the code keeps are their words. Assumes nothing.
+-- The telegrams that wait for a station, as the code keeps them: eight places, and words that are those of telegrams. The laws are in
+-- proofs/Waits. Assumes nothing.
 use Rattle.std.specs.Prelude.{◌≤◌, ◌≡◌}
 use mathlib.Core.List.{List, map}
 use Rattle.std.proofs.Math.ListN.{length}

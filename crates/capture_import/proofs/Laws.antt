@@ -1,4 +1,5 @@
--- What the code writes is what the definitions say: an entry, one telegram more in it, a line, the loop over lines. Assumes nothing.
+-- What the code writes is what the definitions say: an entry, one telegram more in it, a line (`Standing`), the loop over lines
+-- (`Going`). Assumes nothing.
 use Rattle.std.specs.Prelude.{ℕ, zero, suc, ◌+◌, ◌-◌, ◌*◌, ◌<◌, ◌≤◌, ◌≡◌, set, leb}
 use Rattle.std.proofs.Math.Path.{refl, sym, ap}
 use Rattle.std.proofs.Common.{◌∙◌, add-one, le_refl, drop_of_length-le, take_all, lit≤}

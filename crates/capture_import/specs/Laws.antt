@@ -1,4 +1,5 @@
--- What the code writes is what the definitions say: an entry, one telegram more in it, a line, the loop over lines. Assumes nothing.
+-- What stands in the caller's slice after polls, and where the loop over lines stands. That the code writes this is proved in
+-- proofs/Laws. Assumes nothing.
 use Rattle.std.specs.Prelude.{ℕ, ◌≤◌, ◌≡◌}
 use mathlib.Core.List.{List, [], ◌∷◌, ◌++◌}
 use Rattle.std.proofs.Math.ListN.{length, drop}

@@ -1,4 +1,4 @@
--- A line as the code takes it: by the newest entry, in place. Laws.antt has what this comes to. Assumes nothing.
+-- A line as the code takes it: by the newest entry, in place. proofs/Laws.antt has what this comes to. Assumes nothing.
 use Rattle.std.specs.Prelude.{ℕ, ◌+◌, ◌-◌, ◌*◌, ◌≤◌, List, ◌∷◌, ◌++◌, Bool, false, cond, length, take, drop, eqb, ltb}
 use Rattle.codec_telegrams.specs.declared.Telegram.{Telegram}
 use Rattle.codec_records_written.specs.Stored.{head_stored, telegram_stored}

@@ -1,4 +1,5 @@
--- The reader of a line as the code goes is what the line says, and what import and export cite of lines. Assumes nothing.
+-- The reader of a line as the code goes is what the line says, and what import and export cite of lines (`FirstLine`, `Accepts`).
+-- Assumes nothing.
 use Rattle.std.specs.Prelude.{ℕ, suc, ◌+◌, ◌-◌, ◌*◌, ◌<◌, ◌≤◌, ◌≡◌, Bool, true, false, cond, not, ◌&&◌, length, get_or, set, eqb, ltb, leb}
 use Rattle.std.proofs.Math.Path.{refl}
 use Rattle.std.proofs.Common.{sym, ap, ◌∙◌, arith, add-zero, zero-add, le_refl, length-set, length-append, drop_of_length-le, length-take-le, drop_at, drop-drop, drop-cons, lit≤}

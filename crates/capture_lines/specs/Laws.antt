@@ -1,4 +1,5 @@
--- The reader of a line as the code goes is what the line says, and what import and export cite of lines. Assumes nothing.
+-- What the laws of lines speak of: how a text begins, where the loop over pairs stands, a text's first line and an accepted one. The
+-- laws are in proofs/Laws. Assumes nothing.
 use Rattle.std.specs.Prelude.{ℕ, ◌+◌, ◌*◌, ◌≤◌, ◌≡◌, false, length, eqb}
 use mathlib.Core.List.{List, [], ◌∷◌, ◌++◌}
 use Rattle.std.proofs.Math.ListN.{drop}

@@ -1,4 +1,4 @@
--- The reader of a line as the code goes, over the whole text that the line begins; Laws.antt has that it is `line_at`. Assumes
+-- The reader of a line as the code goes, over the whole text that the line begins; proofs/Laws.antt has that it is `line_at`. Assumes
 -- nothing.
 use Rattle.std.specs.Prelude.{ℕ, ◌+◌, ◌*◌, List, [], ◌∷◌, Bool, false, cond, not, length, get_or, drop, eqb, leb}
 use Rattle.codec_frames.specs.Frames.{frame_of}

@@ -1,5 +1,5 @@
--- Fields put below one another and read again undo each other, once for every list of widths and any number of bits (`unpack-pack`,
--- `pack-unpack`). A word of 64 bits is one case of it, bytes and their number another; bytes that fields of other widths lie across
+-- Fields put below one another and read again undo each other, once for every list of widths and any number of bits (`unpack_pack`,
+-- `pack_unpack`). A word of 64 bits is one case of it, bytes and their number another; bytes that fields of other widths lie across
 -- are in codec_slices. Assumes nothing.
 use Rattle.std.specs.Prelude.{ℕ, zero, suc, ◌+◌, ◌*◌, ◌/◌, ◌%◌, ◌^◌, ◌<◌, ◌≤◌, ◌≡◌, refl, List, [], ◌∷◌, Bool, true, false, cond, length, get_or, replicate, eqb}
 use Rattle.std.proofs.Common.{sym, ap, ◌∙◌, add-zero, div-one, mod-lt, mod-eq_of_lt, lt_of_lt_of_le, arith, ne_eqb, eqb-true, shr-shr, pow_pos, pow_mono, lit<}

@@ -1,4 +1,5 @@
--- What a poll record is, byte by byte, and what the calls write (document 01, "Station": poll record).
+-- What a poll record is, byte by byte, and what the calls write (document 01, "Station": poll record). And that writing and reading
+-- undo each other, as a statement; the proof is in proofs/Written.
 use Rattle.std.specs.Prelude.{ℕ, zero, suc, ◌+◌, ◌*◌, ◌<◌, ◌≡◌, List, [], ◌++◌, Bool, true, false, length}
 use Rattle.codec_fields.specs.Fields.{low_bytes, Bytes}
 use Rattle.codec_telegrams.specs.Words.{telegram_word, TelegramFits}

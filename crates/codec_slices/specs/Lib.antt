@@ -1,2 +1,3 @@
--- Definitions, then the one law over a field's place and width, then what the calls lean on, then the round trip over lists of widths.
+-- The definitions. In proofs/ are the one law over a field's place and width (Places), what the calls lean on (Parts), and the round
+-- trip over lists of widths (Round).
 pub mod Slices

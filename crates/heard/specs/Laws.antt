@@ -1,4 +1,4 @@
--- A table that was fed with telegrams says what is worked out from them afresh (`lookup-afresh`). Assumes nothing.
+-- A table that was fed with telegrams says what is worked out from them afresh (`lookup_afresh`). Assumes nothing.
 use Rattle.std.specs.Prelude.{ℕ, zero, suc, ◌+◌, ◌^◌, ◌<◌, ◌≤◌, ◌≡◌, Bool, drop, eqb, ltb}
 use Rattle.std.proofs.Math.Path.{refl, sym, ap}
 use Rattle.std.proofs.Common.{◌∙◌, subst, arith, add-zero, zero-add, le_refl, lit≤, lit<}

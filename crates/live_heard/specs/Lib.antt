@@ -1,2 +1,2 @@
--- Definitions first, then what the proof uses.
+-- The definitions. What the proof uses is in proofs/Laws.
 pub mod LiveHeard

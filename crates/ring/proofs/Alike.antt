@@ -7,22 +7,14 @@ use Rattle.ring_addresses.specs.SetLaws.{walk_ext}
 use Rattle.ring_addresses.specs.WordLaws.{has_words, has_out as bits_out}
 use Rattle.ring.specs.declared.NextStation.{NextStation}
 use Rattle.ring.specs.declared.GapState.TheVariants.{Waiting, DoPoll}
-use Rattle.ring.specs.Ring.{Ring, has, others, first_of, next_of, prev_of, fresh_of, add_of, remove_of, laps_of, witness_of, candidate_of, polls_on, polls, gap_of}
+use Rattle.ring.specs.Ring.{Ring, has, others, first_of, next_of, fresh_of, add_of, remove_of, laps_of, witness_of, candidate_of, polls_on, polls, gap_of}
 use Rattle.ring_links.specs.Sets.{nearest_ext}
-use Rattle.ring.proofs.Laws.{SoundRing, MadeWith, has_out, fresh_made, fresh_has, claim_made, claim_has, add_made, add_has, add_out, remove_out, remove_made, remove_has, remove_me, witness_made, witness_has, witness_out_s, witness_out_d, laps_after, next_first, previous_nearest, sound_fresh, sound_after, sound_made, RingCall, claim, add, remove, witness, after_call, after_calls}
-use Rattle.ring.proofs.BitRing.{BitRing, has_bit, make_bits, next_bits, prev_bits, gap_bits, fresh_bits, passed_bits, after_bits, after_all_bits}
+use Rattle.ring.specs.Laws.{SoundRing, MadeWith, laps_after, RingCall, claim, add, remove, witness, after_call, after_calls}
+use Rattle.ring.proofs.Laws.{has_out, fresh_made, fresh_has, claim_made, claim_has, add_made, add_has, add_out, remove_out, remove_made, remove_has, remove_me, witness_made, witness_has, witness_out_s, witness_out_d, next_first, previous_nearest, sound_fresh, sound_after, sound_made}
+use Rattle.ring.specs.BitRing.{BitRing, has_bit, make_bits, next_bits, prev_bits, gap_bits, fresh_bits, passed_bits, after_bits, after_all_bits}
+use Rattle.ring.specs.Alike.{AnswerAlike}
 
--- the two forms answer alike, whatever is asked: own, laps, ready, each member, who is next, who is previous, and the gap walk
-pub record AnswerAlike (r : Ring) (b : BitRing) : Type 0 where
-  pub own_same : r.own ≡ b.own
-  pub laps_same : r.laps ≡ b.laps
-  pub ready_same : r.ready ≡ b.ready
-  pub members_same : (x : ℕ) → has r x ≡ has_bit b x
-  pub next_same : next_of r ≡ next_bits b
-  pub previous_same : prev_of r ≡ prev_bits b
-  pub gap_same : (a hsa : ℕ) → gap_of r a hsa ≡ gap_bits b a hsa
-
--- they hold the same set, own, laps and ready
+-- the two forms hold the same set, own, laps and ready
 record HoldAlike (r : Ring) (b : BitRing) : Type 0 where
   own_same : r.own ≡ b.own
   laps_same : r.laps ≡ b.laps

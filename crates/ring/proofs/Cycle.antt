@@ -1,39 +1,14 @@
--- The links close into a single cycle through own, and a non-member holds 127 in both tables.
+-- The links of a sound ring close into a single cycle through own, and a non-member holds 127 in both tables.
 use Rattle.std.specs.Prelude.{ℕ, zero, suc, ◌+◌, ◌-◌, ◌<◌, ◌≤◌, ◌≡◌, refl, Bool, true, false, cond, List, [], ◌∷◌, ◌⊎◌}
 use Rattle.std.proofs.Common.{sym, ap, subst, ◌∙◌, arith, eq-or-lt_of_le, inl, inr}
 use Rattle.ring_addresses.specs.Set.{up, walk, head_or, nearest}
-use Rattle.ring_addresses.specs.SetLaws.{true≢false, Distinct, first, nobody, dist_of, place_lt}
+use Rattle.ring_addresses.specs.SetLaws.{true≢false, first, nobody, dist_of, place_lt}
 use Rattle.ring.specs.Ring.{Ring, after, before, has, others, fresh_of}
 use Rattle.ring_links.specs.Sets.{after_at, before_at, after_none, before_none, nearest_low, nearest_in}
 use Rattle.ring_links.specs.Near.{near_member, head_at_lem, there_and_back}
-use Rattle.ring.proofs.Laws.{SoundRing, Other, others_distinct, RingCall, after_calls, sound_made}
-
--- y stands after x in the first table, and x before y in the second
-abbrev pub Link : List ℕ → ℕ → ℕ → Type 0
-Link l x y = (after l x ≡ y) × (before l y ≡ x)
-
--- links lead from x through ys, in this order, and then to z
-abbrev pub Chain : List ℕ → ℕ → List ℕ → ℕ → Type 0
-Chain l x [] z = Link l x z
-Chain l x (y ∷ ys) z = Link l x y × Chain l y ys z
-
--- x stands in a list
-abbrev pub Among : ℕ → List ℕ → Type 0
-Among x [] = ⊥
-Among x (y ∷ ys) = (x ≡ y) ⊎ Among x ys
-
--- the tables are one cycle through own. Own is a member; the neighbours of a member are members, and after and before undo each
--- other; who is no member holds 127 twice, and a member holds addresses; going after from own meets the others, in ring order, and
--- comes back; and these are all other members, each once
-pub record Linked (r : Ring) : Type 0 where
-  pub own_in : has r r.own ≡ true
-  pub both_in : (x : ℕ) → x < 126 → has r x ≡ true → (has r (after r.links x) ≡ true) × (has r (before r.links x) ≡ true)
-  pub undone : (x : ℕ) → x < 126 → has r x ≡ true → (before r.links (after r.links x) ≡ x) × (after r.links (before r.links x) ≡ x)
-  pub out : (x : ℕ) → x < 126 → has r x ≡ false → (after r.links x ≡ 127) × (before r.links x ≡ 127)
-  pub low : (x : ℕ) → x < 126 → has r x ≡ true → (after r.links x < 126) × (before r.links x < 126)
-  pub cycle : Chain r.links r.own (others r) r.own
-  pub each : (x : ℕ) → Other r x → Among x (others r)
-  pub once : Distinct (others r)
+use Rattle.ring.specs.Laws.{SoundRing, RingCall, after_calls}
+use Rattle.ring.proofs.Laws.{others_distinct, sound_made}
+use Rattle.ring.specs.Cycle.{Link, Chain, Among, Linked}
 
 -- the member after one at distance d from own: the first further up, else own
 next_from : (f : ℕ → Bool) (own d k : ℕ) → own < 126 → f own ≡ true → suc d + k ≡ 126 → nearest true f (up own d) ≡ head_or own (walk f (up own) k (suc d))

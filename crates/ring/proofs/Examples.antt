@@ -4,7 +4,8 @@ use Rattle.std.proofs.Common.{lit<, lit≤}
 use Rattle.ring_addresses.specs.Set.{walk, nearest, between_of, only, keeps, same_set}
 use Rattle.ring.specs.declared.GapState.TheVariants.{Waiting, DoPoll}
 use Rattle.ring.specs.Ring.{listed, after_of, before_of, link_at, tab, links_of, has, make, others, next_of, fresh_of, round_of, laps_of, witness_of, candidate_of, polls, gap_of}
-use Rattle.ring.proofs.Worked.{among, witness_of_members}
+use Rattle.ring.specs.Worked.{among}
+use Rattle.ring.proofs.Worked.{witness_of_members}
 
 -- own 5 alone, highest station address 126: the walk from 5 polls 6, from 125 polls 0, from 4 waits
 pub example_8 : (gap_of (fresh_of 5) 5 126 ≡ DoPoll 6) × (gap_of (fresh_of 5) 125 126 ≡ DoPoll 0) × (gap_of (fresh_of 5) 4 126 ≡ Waiting 0)

@@ -9,11 +9,11 @@ use Rattle.ring_addresses.specs.SetLaws.{true≢false, walk_ext, walk_length, fi
 use Rattle.ring.specs.declared.NextStation.TheVariants.{Nobody, Neighbour}
 use Rattle.ring.specs.declared.GapState.{GapState}
 use Rattle.ring.specs.declared.GapState.TheVariants.{Waiting, DoPoll}
-pub use Rattle.ring.specs.Sound.{SoundRing}
 use Rattle.ring.specs.Ring.{Ring, after, before, listed, links_of, unlink_of, insert_of, relink_of, has, make, claim_of, others, first_of, next_of, next_number, prev_of, fresh_of, with_links, add_of, remove_of, round_of, laps_of, passed, confirms_of, counted, witness_of, candidate_of, polls_on, polls, gap_of}
 use Rattle.ring_links.specs.Sets.{links_same, after_at, before_at, listed_links}
 use Rattle.ring_links.specs.LinkLaws.{unlink_links, insert_links}
 use Rattle.ring_links.specs.Passes.{confirms_is, relink_links}
+use Rattle.ring.specs.Laws.{MadeWith, SoundRing, laps_after, RingCall, add, claim, remove, witness, after_call, after_calls, first_or_own, Other, Polled}
 
 -- How a ring is kept.
 
@@ -26,12 +26,6 @@ has_out r a l = rw (le-ltb a 126 l)
 pub has_make : (own : ℕ) (f : ℕ → Bool) (laps : ℕ) (ready : Bool) (x : ℕ) → x < 126 → has (make own f laps ready) x ≡ f x
 unfolding has make
 has_make own f laps ready x l = listed_links f x l
-
--- a ring's own address, laps and ready
-pub record MadeWith (r : Ring) (own laps : ℕ) (ready : Bool) : Type 0 where
-  pub own_is : r.own ≡ own
-  pub laps_is : r.laps ≡ laps
-  pub ready_is : r.ready ≡ ready
 
 -- the ring made of a set has the own address, laps and ready that it was made with
 pub make_made : (own : ℕ) (f : ℕ → Bool) (laps : ℕ) (ready : Bool) → MadeWith (make own f laps ready) own laps ready
@@ -87,10 +81,6 @@ remove_made r a = go (eqb a r.own) (ltb a 126)
     go true c = record { own_is = refl; laps_is = refl; ready_is = refl }
     go false true = record { own_is = refl; laps_is = refl; ready_is = refl }
     go false false = record { own_is = refl; laps_is = refl; ready_is = refl }
-
--- laps after a pass from s to d: from 0 if the set changed, and one more if d is at most s, at most 2
-abbrev pub laps_after : Ring → ℕ → ℕ → ℕ
-laps_after r s d = laps_of (same_set (has r) (keeps_all r.own s d (has r)) 126) r.laps s d
 
 -- What the links that a call stores mean on a sound ring.
 
@@ -357,25 +347,6 @@ sound_witness r s d w = seen SoundRing r s d pass w
 
 -- Calls in any order.
 
--- a call that changes a ring
-pub data RingCall : Type 0 where
-  claim : RingCall
-  add : ℕ → RingCall
-  remove : ℕ → RingCall
-  witness : ℕ → ℕ → RingCall
-
--- the ring after a call
-unfoldable pub after_call : Ring → RingCall → Ring
-after_call r claim = claim_of r
-after_call r (add a) = add_of r a
-after_call r (remove a) = remove_of r a
-after_call r (witness s d) = witness_of r s d
-
--- the ring after a list of calls
-unfoldable pub after_calls : Ring → List RingCall → Ring
-after_calls r [] = r
-after_calls r (c ∷ cs) = after_calls (after_call r c) cs
-
 -- a call keeps a ring sound
 pub sound_after : (r : Ring) (c : RingCall) → SoundRing r → SoundRing (after_call r c)
 unfolding after_call
@@ -454,15 +425,11 @@ next_is r x xs s e = next_first r s ∙ ap first_of e
 pub next_alone : (r : Ring) → SoundRing r → others r ≡ [] → next_of r ≡ Nobody
 next_alone r s e = next_first r s ∙ ap first_of e
 
--- the first of the others, own if there is none: whom we pass the token to
-abbrev pub first_or_own : Ring → ℕ
-first_or_own r = head_or r.own (others r)
-
--- with others it is their head
+-- with others the first of them is their head
 pub first_is : (r : Ring) (x : ℕ) (xs : List ℕ) → others r ≡ x ∷ xs → first_or_own r ≡ x
 first_is r x xs e = ap (head_or r.own) e
 
--- with no others it is own
+-- with no others the first is own
 pub first_alone : (r : Ring) → others r ≡ [] → first_or_own r ≡ r.own
 first_alone r e = ap (head_or r.own) e
 
@@ -471,13 +438,7 @@ pub previous_last : (r : Ring) → SoundRing r → prev_of r ≡ last_or r.own (
 unfolding nearest others
 previous_last r s = previous_nearest r s ∙ last_walk (has r) r.own r.own 125 (omega arith)
 
--- one of the others is an address, a member, and not own
-pub record Other (r : Ring) (x : ℕ) : Type 0 where
-  pub low : x < 126
-  pub in_set_lem : has r x ≡ true
-  pub not_own : x ≡ r.own → ⊥
-
--- each of the others is such
+-- each of the others is an address, a member, and not own
 pub others_all : (r : Ring) → SoundRing r → All (Other r) (others r)
 unfolding others
 others_all r s = walk_all (Other r) (has r) (up r.own) 125 1 (λ e l u i. record { low = omega arith; in_set_lem = i; not_own = away r.own e s.own_low l (omega arith) })
@@ -550,7 +511,7 @@ previous_low r s = (previous_member r s).0
 pub previous_in : (r : Ring) → SoundRing r → has r (prev_of r) ≡ true
 previous_in r s = (previous_member r s).1
 
--- next is nobody exactly if there is no other: this is one way, `next-alone` the other
+-- next is nobody exactly if there is no other: this is one way, `next_alone` the other
 pub alone : (r : Ring) → SoundRing r → next_of r ≡ Nobody → others r ≡ []
 alone r s n = go (others r) refl
   where
@@ -661,14 +622,6 @@ witness_laps r w =
 
 -- The gap walk.
 
--- an address that is polled is the candidate: an address below the highest station address or 0, not own, and no member
-pub record Polled (r : Ring) (a hsa x : ℕ) : Type 0 where
-  pub is : x ≡ candidate_of a hsa
-  pub below : (x < hsa) ⊎ (x ≡ 0)
-  pub low : x < 126
-  pub not_own : x ≡ r.own → ⊥
-  pub not_in : has r x ≡ false
-
 candidate_below : (a hsa : ℕ) → (candidate_of a hsa < hsa) ⊎ (candidate_of a hsa ≡ 0)
 unfolding candidate_of
 candidate_below a hsa = go (ltb (a + 1) hsa) refl
@@ -706,7 +659,7 @@ pub alone_polls : (r : Ring) (x : ℕ) → SoundRing r → others r ≡ [] → x
 unfolding polls
 alone_polls r x s e l n = rw (lt-ltb x 126 l, next_alone r s e, ne_eqb x r.own n)
 
--- what the gap walk polls is such
+-- what the gap walk polls is an address as `Polled` says
 pub gap_polls_lem : (r : Ring) (a hsa x : ℕ) → SoundRing r → gap_of r a hsa ≡ DoPoll x → Polled r a hsa x
 unfolding gap_of
 gap_polls_lem r a hsa x s e = go (polls r (candidate_of a hsa)) refl

@@ -8,7 +8,8 @@ use Rattle.ring_addresses.specs.SetLaws.{true≢false, All, first, nobody, dist_
 use Rattle.ring.specs.declared.NextStation.TheVariants.{Neighbour}
 use Rattle.ring.specs.Ring.{Ring, has, others, next_of, prev_of}
 use Rattle.ring_links.specs.Distances.{dist_low, dist_some, up_dist, dist_up, dist_by, between_from}
-use Rattle.ring.proofs.Laws.{SoundRing, Other, others_all, last_all, next_is, previous_nearest, previous_last, previous_low, alone_has}
+use Rattle.ring.specs.Laws.{SoundRing, Other}
+use Rattle.ring.proofs.Laws.{others_all, last_all, next_is, previous_nearest, previous_last, previous_low, alone_has}
 
 -- the other members going down from own
 abbrev down_from : Ring → List ℕ
@@ -29,7 +30,7 @@ previous_other r x xs s e =
     let all = subst (All (Other r)) e (others_all r s) in
     subst (Other r) (sym (previous_last r s ∙ ap (last_or r.own) e)) (last_all (Other r) x xs all.0 all.1)
 
--- previous is own exactly if there is no other: this is one way, `previous-alone` the other
+-- previous is own exactly if there is no other: this is one way, `previous_alone` the other
 pub alone_previous : (r : Ring) → SoundRing r → prev_of r ≡ r.own → others r ≡ []
 alone_previous r s n = go (others r) refl
   where

@@ -1,18 +1,15 @@
 -- Passes worked out on sets, for rings that are written down by their members: where the definitions were computed link by link,
 -- the checker would walk the tables anew for each entry.
-use Rattle.std.specs.Prelude.{ℕ, ◌<◌, ◌≤◌, ◌≡◌, refl, Bool, true, false, ◌&&◌, ◌||◌, List, [], ◌∷◌, ltb, leb, eqb}
+use Rattle.std.specs.Prelude.{ℕ, ◌<◌, ◌≤◌, ◌≡◌, refl, Bool, true, ◌&&◌, ◌||◌, List, [], ◌∷◌, ltb, leb}
 use Rattle.std.proofs.Common.{ap, ◌∙◌, ltb-true}
 use Rattle.ring_addresses.specs.Set.{keeps, keeps_all, same_set}
 use Rattle.ring_addresses.specs.SetLaws.{and_left, and_right, same_then}
 use Rattle.ring.specs.Ring.{Ring, links_of, has, make, laps_of, passed, witness_of}
 use Rattle.ring_links.specs.Sets.{links_same}
-use Rattle.ring.proofs.Laws.{SoundRing, make_sound, has_make, witness_is, witness_has, witness_own, sound_witness}
+use Rattle.ring.specs.Laws.{SoundRing}
+use Rattle.ring.proofs.Laws.{make_sound, has_make, witness_is, witness_has, witness_own, sound_witness}
 use Rattle.ring.proofs.Alike.{same_alike}
-
--- the set of these
-abbrev pub among : List ℕ → ℕ → Bool
-among [] x = false
-among (a ∷ more) x = eqb x a || among more x
+use Rattle.ring.specs.Worked.{witness_all, kept_after, addresses_only}
 
 -- a pass from s to d, seen by the ring with the members f, makes the ring with the members g, if these are what the pass leaves of
 -- f, which a test tells
@@ -44,21 +41,6 @@ witness_of_members own laps s d ready f g low own_in two ls ld left =
         laps_of (same_set (has (make own f laps ready)) (keeps_all own s d (has (make own f laps ready))) 126) laps s d
         ≡ laps_of (same_set f g 126) laps s d
     counts = ap (λ (b : Bool). laps_of b laps s d) (same_alike (has (make own f laps ready)) f (keeps_all own s d (has (make own f laps ready))) g 126 held stays)
-
--- the ring after passes, each from the first to the second, one after the other
-abbrev pub witness_all : Ring → List (ℕ × ℕ) → Ring
-witness_all r [] = r
-witness_all r (pass ∷ more) = witness_all (witness_of r pass.0 pass.1) more
-
--- is x a member after them, if it was one before or not
-abbrev pub kept_after : ℕ → Bool → List (ℕ × ℕ) → ℕ → Bool
-kept_after own b [] x = b
-kept_after own b (pass ∷ more) x = kept_after own (keeps own pass.0 pass.1 b x) more x
-
--- are all of them between addresses
-abbrev pub addresses_only : List (ℕ × ℕ) → Bool
-addresses_only [] = true
-addresses_only (pass ∷ more) = (ltb pass.0 126 && ltb pass.1 126) && addresses_only more
 
 -- passes leave own
 pub witnessed_own : (passes : List (ℕ × ℕ)) (r : Ring) → (witness_all r passes).own ≡ r.own

@@ -17,7 +17,8 @@ use Rattle.ring_addresses.specs.Set.{only}
 use Rattle.ring_links.specs.Tables.{tab_is}
 use Rattle.ring_links.specs.Sets.{links_same}
 use Rattle.ring.specs.Ring.{Ring, has, make}
-use Rattle.ring.proofs.Laws.{SoundRing, has_out, has_make}
+use Rattle.ring.specs.Laws.{SoundRing}
+use Rattle.ring.proofs.Laws.{has_out, has_make}
 use Rattle.ring_members.specs.Members.{byte_at, in_set, set_added, bits_of, set_written, set_bytes}
 use Rattle.ring_members.proofs.Laws.{members_make}
 

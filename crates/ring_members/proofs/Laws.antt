@@ -1,4 +1,4 @@
--- A sound ring to which the addresses of a set are added is sound, and has them: nothing is asked of the bytes.
+-- A sound ring to which the addresses of a set are added is sound, and has them (`Grown`): nothing is asked of the bytes.
 use Rattle.std.specs.Prelude.{ℕ, zero, suc, ◌+◌, ◌-◌, ◌*◌, ◌/◌, ◌%◌, ◌^◌, ◌<◌, ◌≤◌, ◌≡◌, refl, Bool, true, false, cond, ◌&&◌, ◌||◌, List, eqb, ltb, leb}
 use Rattle.std.proofs.Math.Nat.{div-eq_of_lt}
 use Rattle.std.proofs.Common.{pow_pos, sym, ap, ◌∙◌, arith, eq-eqb, ne_eqb, lt-ltb, le-ltb, le-leb, eqb-true, ltb-true, ltb-false, leb-true}
@@ -8,11 +8,10 @@ use Rattle.codec_fields.specs.Fields.{field_of, bit_at}
 use Rattle.ring_addresses.specs.Set.{only, add_to}
 use Rattle.ring_links.specs.Sets.{links_same}
 use Rattle.ring.specs.Ring.{Ring, links_of, has, make, add_of}
-use Rattle.ring.proofs.Laws.{MadeWith, has_make, make_sound, SoundRing, add_made, add_is}
+use Rattle.ring.specs.Laws.{MadeWith, SoundRing}
+use Rattle.ring.proofs.Laws.{has_make, make_sound, add_made, add_is}
 use Rattle.ring_members.specs.Members.{byte_at, in_set, bit_added, bits_added, byte_added, set_added}
 use Rattle.ring_members.specs.Laws.{Grown}
-
--- Its proof.
 
 or_assoc : (a b c : Bool) → (a || (b || c)) ≡ ((a || b) || c)
 or_assoc true b c = refl

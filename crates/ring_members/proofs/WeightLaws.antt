@@ -1,4 +1,4 @@
--- The weights of a byte's members, added, are the byte. Assumes nothing.
+-- The weights of a byte's members, weighed one after the other (`Weighed`) and added, are the byte. Assumes nothing.
 use Rattle.std.specs.Prelude.{ℕ, ◌+◌, ◌-◌, ◌*◌, ◌%◌, ◌^◌, ◌<◌, ◌≤◌, ◌≡◌, refl, Bool, true, false, cond, not, List, length, get_or, set, eqb, ltb}
 use Rattle.std.proofs.Common.{sym, ap, subst, ◌∙◌, arith, eqb-true, length-set, get_or-set_same, get_or-set_other}
 use Rattle.std.proofs.lemmas.Bool.{eqb-false}

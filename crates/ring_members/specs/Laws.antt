@@ -1,9 +1,7 @@
--- A sound ring to which the addresses of a set are added is sound, and has them: nothing is asked of the bytes.
+-- What is said of a ring to which the addresses of a set are added: it is sound, and has them. The proof is in proofs/Laws.
 use Rattle.std.specs.Prelude.{ℕ, ◌<◌, ◌≡◌, Bool, ◌||◌}
 use Rattle.ring.specs.Ring.{Ring, has}
-use Rattle.ring.proofs.Laws.{SoundRing}
-
--- What is said.
+use Rattle.ring.specs.Laws.{SoundRing}
 
 -- a ring r to which the addresses of g were added: it is sound, has them besides its own, and all else stays
 pub record Grown (r grown : Ring) (g : ℕ → Bool) : Type 0 where

@@ -1,8 +1,7 @@
--- The weights of a byte's members, added, are the byte. Assumes nothing.
+-- How far the weights of a set's members are weighed, one after the other. That those of a byte, added, are the byte is proved in
+-- proofs/WeightLaws. Assumes nothing.
 use Rattle.std.specs.Prelude.{ℕ, ◌<◌, ◌≤◌, ◌≡◌, List, length, get_or}
 use Rattle.ring_members.specs.Members.{weight_of, weighed}
-
--- One after the other.
 
 -- the first a of the weights weighed
 pub record Weighed (l : List ℕ) (a : ℕ) (w : List ℕ) : Type 0 where

@@ -1,5 +1,5 @@
--- Settings as calls make them: every record that `new` and accepted setters make is sound. And: a refused setter leaves the
--- settings as they were.
+-- Settings as calls make them (`MadeSettings`): every record that `new` and accepted setters make is sound (`SoundSettings`). And: a
+-- refused setter leaves the settings as they were.
 use Rattle.std.specs.Prelude.{ℕ, ◌+◌, ◌-◌, ◌*◌, ◌/◌, ◌≤◌, Bool, true, false, ◌≡◌, refl, ◌⊎◌, eqb}
 use Rattle.std.proofs.Common.{subst, inl, inr, arith, le-div_iff_mul-le, eqb-true}
 use Rattle.std.proofs.lemmas.Bool.{eqb-false}

@@ -1,4 +1,4 @@
--- What `build` accepts: a record whose fields have no refusal, and its settings are the same numbers again.
+-- What `build` accepts has no refusal, and its settings are the same numbers again (`Built`); so they pass the check of a whole record.
 use Rattle.std.specs.Prelude.{ℕ, ◌≡◌, refl, eqb}
 use Rattle.std.proofs.Common.{sym, ap, ◌∙◌, arith, eqb-true}
 use borrow.Table.Steps.{cases}

@@ -1,4 +1,5 @@
--- Settings finished: what `finish` answers of settings as calls make them, that the order of setting does not matter, and the site's case.
+-- Settings finished: what `finish` answers of settings as calls make them (`Finishes`), that the order of setting does not matter
+-- (`EitherOrder`), and the site's case.
 use Rattle.std.specs.Prelude.{ℕ, ◌+◌, ◌<◌, ◌≤◌, true, false, ◌≡◌, refl, leb, eqb}
 use Rattle.std.proofs.Common.{sym, ap, ◌∙◌, arith, eqb-true, le-leb, leb-true, leb-false}
 use Rattle.std.proofs.lemmas.Bool.{lt-leb}
@@ -23,8 +24,6 @@ use Rattle.settings_build.proofs.Built.{built_passes}
 use Rattle.settings_build.specs.Made.{room_of}
 use Rattle.settings_build.proofs.Made.{sound_number}
 use Rattle.settings_build.specs.Finish.{EitherOrder, Finishes, site}
-
--- Its proof.
 
 -- an accepted answer is not a refused one
 not_both : (n : ℕ) (p q : Parameters) → changed.Accepted p ≡ changed.Refused n q → ⊥

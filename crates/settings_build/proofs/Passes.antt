@@ -1,4 +1,4 @@
--- What the check of a whole record says of each field: no rule refuses it.
+-- A record without a refusal passes the rule of each field (`Passes`); and what accepted settings are by the numbers.
 use Rattle.std.specs.Prelude.{ℕ, ◌+◌, ◌<◌, ◌≤◌, ◌≡◌, List, [], ◌∷◌}
 use Rattle.std.proofs.Common.{arith}
 use Rattle.bit_times.specs.Times.{baud_of}

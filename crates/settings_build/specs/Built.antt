@@ -1,4 +1,5 @@
--- What `build` accepts: a record whose fields have no refusal, and its settings are the same numbers again.
+-- What it is that `build` accepts: a record whose fields have no refusal, and its settings are the same numbers again. The proof is in
+-- proofs/Built.
 use Rattle.std.specs.Prelude.{◌≡◌}
 use Rattle.settings.specs.declared.Parameters.{Parameters}
 use Rattle.settings_build.specs.declared.PlainSettings.{PlainSettings}

@@ -1,4 +1,5 @@
--- Settings finished: what `finish` answers of settings as calls make them, that the order of setting does not matter, and the site's case.
+-- Settings finished, as statements: what `finish` answers, and that the order of setting does not matter; and the site's settings. The
+-- proofs are in proofs/FinishLaws.
 use Rattle.std.specs.Prelude.{◌+◌, ◌<◌, ◌≤◌, ◌≡◌, ◌↔◌}
 use Rattle.bit_times.specs.declared.Baud.TheVariants as baud
 use Rattle.settings_watchdog.specs.declared.WatchdogFactors.TheVariants as wf
@@ -7,8 +8,6 @@ use Rattle.settings.specs.declared.Changed.{Changed}
 use Rattle.settings.specs.declared.Changed.TheVariants as changed
 use Rattle.settings.specs.Settings.{changed_number, changed_settings}
 use Rattle.settings_build.specs.Build.{finish_of}
-
--- What is said.
 
 -- finishing accepts the settings, as they are, exactly if the rotation is at least slot bits + 100; and refuses them with 25, and hands
 -- them back as they were, exactly if it is less

@@ -1,5 +1,5 @@
--- The theorem on settings as calls make them: of a record that `new` and accepted setters make, the check of a whole record asks rule
--- 25 alone. One whose rotation has room for a gap poll passes it and is built from its own fields again.
+-- The room that a rotation leaves for a gap poll, by rule 25. That of settings as calls make them the check of a whole record asks this
+-- rule alone is proved in proofs/Made.
 use Rattle.std.specs.Prelude.{ℕ}
 use Rattle.settings.specs.declared.Parameters.{Parameters}
 use Rattle.settings_rules.specs.Rules.{room_refusal}

@@ -1,4 +1,4 @@
--- What the check of a whole record says of each field: no rule refuses it.
+-- What the check of a whole record says of each field: no rule refuses it. The laws are in proofs/Passes.
 use Rattle.std.specs.Prelude.{◌≡◌}
 use Rattle.bit_times.specs.Times.{baud_of}
 use Rattle.settings_rules.specs.Rules.{address_refusal, baud_refusal, least_of, slot_bits_refusal, hsa_refusal, rotation_refusal, room_refusal, gap_wait_refusal, retry_refusal, min_tsdr_refusal, factors_refusal}

@@ -39,7 +39,7 @@ with_header_rotation h rotation =
     }
 
 -- the header with the greatest rotation, which has room for a gap poll beside every slot; as it is where its own rotation is refused.
--- Its first refusal is the header's first for another reason than 25 (`but-25` in Laws.antt)
+-- Its first refusal is the header's first for another reason than 25 (`but_25` in Laws.antt)
 unfoldable pub loosened : Header → Header
 loosened h = cond (eqb (rotation_refusal h.settings.token_rotation_bits) 0) (with_header_rotation h greatest_rotation) h
 

@@ -28,7 +28,7 @@ made_left : (p : Parameters) (r : Changed) → MadeSettings p → ((q : Paramete
 made_left p (changed.Accepted set) m by = by set refl
 made_left p (changed.Refused n kept) m by = m
 
--- settings that calls made stay such under each setter on the caller's record, and so stay sound (`made-sound` of settings)
+-- settings that calls made stay such under each setter on the caller's record, and so stay sound (`made_sound` of settings)
 pub stays_made :
     (p : Parameters) (v : ℕ) →
     MadeSettings p →

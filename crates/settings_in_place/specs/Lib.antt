@@ -1,2 +1,2 @@
--- Definitions first: what the setters on the caller's record promise. Then its laws.
+-- What the setters on the caller's record promise. The laws are in proofs/Laws.
 pub mod InPlace

@@ -1,2 +1,2 @@
--- Definitions first, then the laws that other crates cite.
+-- The definitions. The laws that other crates cite are in proofs/Laws.
 pub mod Rules

@@ -1,4 +1,4 @@
--- What other crates may use of the watchdog factors, each with the sentence that it proves.
+-- What other crates may use of the watchdog factors, each with the sentence that it proves. What the least factor is says `LeastFrom`.
 use Rattle.std.specs.Prelude.{ℕ, zero, suc, ◌+◌, ◌*◌, ◌/◌, ◌<◌, ◌≤◌, true, false, cond, ◌≡◌, refl, ltb, eqb}
 use Rattle.std.proofs.Common.{⊎_elim, arith, div-lt_iff_lt-mul, le-div_iff_mul-le, eq-or-lt_of_le, lt-ltb, le-ltb, ltb-true, ltb-false, ne_eqb}
 use borrow.Table.Steps.{cases}

@@ -1,4 +1,4 @@
--- What other crates may use of the watchdog factors, each with the sentence that it proves.
+-- What it is that a factor is the least that will do, and the other its quotient. The laws of the watchdog factors are in proofs/Laws.
 use Rattle.std.specs.Prelude.{ℕ, ◌+◌, ◌<◌, ◌≤◌, ◌≡◌}
 use Rattle.settings_watchdog.specs.Watchdog.{ceil_of}
 

@@ -47,7 +47,7 @@ abbrev pub first_factor : ℕ → ℕ
 first_factor u = max 1 (ceil_of u 255)
 
 -- document 02, P2: the factors without a trial. 0 ms have none; more than 65,025 units are refused with 9; else they are the
--- first factor, and the units divided by it, rounded up. It gives what `factors_of` gives (factors-by-rule of Laws.antt).
+-- first factor, and the units divided by it, rounded up. It gives what `factors_of` gives (`factors_by_rule` of proofs/Laws.antt).
 unfoldable pub factors_rule : ℕ → Factored
 factors_rule ms =
     let u = units_of ms in

@@ -23,7 +23,7 @@ removal_of Nobody = event.Nothing
 removal_of (Neighbour a) = event.Removal
 
 -- do_check_token_pass: sent again up to the third attempt, then the station that it went to is taken out and the one behind it gets its
--- first attempt (`removed-alone` of station_pass: alone nobody is taken out); the removal is counted (document 02)
+-- first attempt (`removed_alone` of station_pass: alone nobody is taken out); the removal is counted (document 02)
 unfoldable pub resend_of : Parameters → Core → Ring → Micros → PassTokenAttempt → RingStep
 resend_of p c ring now First = pass_token_of p c ring now false Second
 resend_of p c ring now Second = pass_token_of p c ring now false Third

@@ -2,7 +2,8 @@
 use Rattle.std.specs.Prelude.{ℕ, ◌<◌, ◌≡◌, refl, List, [], ◌∷◌}
 use Rattle.std.proofs.Common.{sym, ap, subst, ◌∙◌}
 use Rattle.ring.specs.Ring.{Ring, others, next_of, witness_of, remove_of}
-use Rattle.ring.proofs.Laws.{SoundRing, first_or_own, first_is, first_alone, first_low, next_is, next_alone, next_witness, remove_me}
+use Rattle.ring.specs.Laws.{SoundRing, first_or_own}
+use Rattle.ring.proofs.Laws.{first_is, first_alone, first_low, next_is, next_alone, next_witness, remove_me}
 use Rattle.station_pass.specs.Pass.{destination_of}
 
 module _ (r : Ring) (own : ℕ) (s : SoundRing r) (is : r.own ≡ own) where

@@ -34,7 +34,7 @@ pass_sent_on Nobody p c now attempt destination witnessed = ring_step_of (transm
 pass_sent_on (Neighbour a) p c now attempt destination witnessed = ring_step_of (transmit_of p (CheckTokenPass attempt) c now (sent.Token destination)) witnessed
 
 -- do_pass_token: the token is sent, and the ring witnesses the pass. Who is next is asked for before that and again after it, as in
--- the Rust (`asked-again` of Laws: both answers are the same)
+-- the Rust (`asked_again` of Laws: both answers are the same)
 unfoldable pub pass_send : Parameters → Core → Ring → Micros → PassTokenAttempt → RingStep
 pass_send p c ring now attempt =
     let destination = destination_of p.address (next_of ring) in

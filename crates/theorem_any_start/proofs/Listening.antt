@@ -8,14 +8,12 @@ use Rattle.bit_times.specs.declared.Micros.{Micros}
 use Rattle.settings.specs.declared.Parameters.{Parameters}
 use Rattle.settings.specs.Settings.{slot_time_of, token_lost_of}
 use Rattle.ring.specs.Ring.{Ring}
-use Rattle.codec_telegrams.specs.declared.ResponseState.{ResponseState}
 use Rattle.codec_answers.specs.declared.Sent.TheVariants as sent
 use Rattle.station.specs.declared.OptionAddress.{OptionAddress}
 use Rattle.station.specs.declared.OptionAddress.TheVariants as optionAddress
 use Rattle.station.specs.declared.Activity.{Activity}
 use Rattle.station.specs.declared.Activity.TheVariants as activity
 use Rattle.station.specs.declared.State.{State}
-use Rattle.station.specs.declared.State.TheVariants.{ListenToken, ActiveIdle}
 use Rattle.station.specs.declared.Core.{Core}
 use Rattle.station.specs.Whole.{RingStep}
 use Rattle.station.specs.Steps.{pause_of, token_lost_wait_of, busy_of, done_of, transmit_of, heard_of}
@@ -24,25 +22,11 @@ use Rattle.station_poll.specs.Poll.{connected_of, dispatch_of}
 use Rattle.theorem_sound.specs.Follows.{slot_lost}
 use Rattle.theorem_silence.specs.Silence.{slot_after}
 use Rattle.theorem_silence.specs.Times.{Slotted, after_shorter, after_over, counted_free, waited_paused}
-use Rattle.theorem_silence.proofs.Phases.{claiming}
-use Rattle.theorem_silence.proofs.OnePoll.{Ready, active_ready, known_ready, Sends, claim_sent, quiet_step, not_counted, not_counted_busy, counted_too}
+use Rattle.theorem_silence.specs.Phases.{claiming}
+use Rattle.theorem_silence.specs.OnePoll.{Ready, Sends, quiet_step}
+use Rattle.theorem_silence.proofs.OnePoll.{active_ready, known_ready, claim_sent, not_counted, not_counted_busy, counted_too}
 use Rattle.theorem_any_start.specs.AnyStart.{lost_after}
-
--- a state that waits for the lost token, with this status request noted; Offline and PassiveIdle lead to ListenToken first
-pub data Hears (request : OptionAddress) (s : State) : Type 0 where
-  listening : (collisions : ℕ) → connected_of s ≡ ListenToken request collisions → Hears request s
-  idle : (newPreviousStation : OptionAddress) (collisions : ℕ) → connected_of s ≡ ActiveIdle request newPreviousStation collisions → Hears request s
-
--- a station that waits so, with these others in its ring
-abbrev pub Listens : OptionAddress → List ℕ → Parameters → State → Core → Ring → Type 0
-Listens request os p s c r = Ready p c r os × Hears request s
-
--- One such poll, with whether it is counted: the token is claimed; or a request that was noted is answered; or nothing happens. The last
--- two are not counted.
-pub data ListenTurn (p : Parameters) (now : Micros) (request : OptionAddress) (os : List ℕ) (counts : Bool) (x : RingStep) : Type 0 where
-  claims : Sends p now (sent.Token p.address) (claiming false os) x → ListenTurn p now request os counts x
-  answers : counts ≡ false → (source : ℕ) (state : ResponseState) → request ≡ optionAddress.Some source → x.step.sent ≡ sent.StatusResponse source state → Listens optionAddress.None os p x.step.state x.step.core x.ring → ListenTurn p now request os counts x
-  waits : counts ≡ false → x.step.sent ≡ sent.Nothing → Listens request os p x.step.state x.step.core x.ring → ListenTurn p now request os counts x
+use Rattle.theorem_any_start.specs.Listening.{Hears, idle, listening, ListenTurn, answers, claims, waits}
 
 -- The lost-token timeout.
 

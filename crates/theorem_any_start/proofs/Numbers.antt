@@ -1,34 +1,14 @@
--- How many counted polls each state needs at most: as many as its plan has telegrams (`by_state` of AnyStart). None is above 3k + 2.
-use Rattle.std.specs.Prelude.{ℕ, ◌+◌, ◌*◌, ◌≤◌, true, false, ◌≡◌, refl, List, length}
+-- The proof of Numbers: how many telegrams each state's plan has.
+use Rattle.std.specs.Prelude.{ℕ, ◌*◌, ◌≤◌, refl, List, length}
 use Rattle.std.proofs.Common.{arith}
 use Rattle.ring.specs.declared.GapState.{GapState}
-use Rattle.ring.specs.declared.GapState.TheVariants.{Waiting, DoPoll}
-use Rattle.station.specs.declared.OptionAddress.{OptionAddress}
 use Rattle.station.specs.declared.PassTokenAttempt.{PassTokenAttempt}
 use Rattle.station.specs.declared.PassTokenAttempt.TheVariants.{First, Second, Third}
-use Rattle.station.specs.declared.State.TheVariants.{Offline, ListenToken, ActiveIdle, ClaimToken, PassToken, CheckTokenPass, AwaitStatusResponse, PassiveIdle}
+use Rattle.station.specs.declared.State.TheVariants.{CheckTokenPass}
 use Rattle.theorem_silence.proofs.Phases.{tokens_length}
 use Rattle.theorem_any_start.specs.AnyStart.{plan_on, in_plan}
 use Rattle.theorem_any_start.proofs.Theorem.{from_length}
-
--- by the state, with k others
-pub record Numbers (gap : GapState) (stations : List ℕ) (own k : ℕ) : Type 0 where
-  pub offline : in_plan (plan_on Offline gap stations own) ≡ 2
-  pub was_passive : (request : OptionAddress) → in_plan (plan_on (PassiveIdle request) gap stations own) ≡ 2
-  pub listening : (request : OptionAddress) (collisions : ℕ) → in_plan (plan_on (ListenToken request collisions) gap stations own) ≡ 2
-  pub idle : (request newPreviousStation : OptionAddress) (collisions : ℕ) → in_plan (plan_on (ActiveIdle request newPreviousStation collisions) gap stations own) ≡ 2
-  -- ClaimToken with its first token sent; that it stands before its first is covered, but no call leaves a station so
-  pub claiming : in_plan (plan_on (ClaimToken false) gap stations own) ≡ 1
-  pub before_claiming : in_plan (plan_on (ClaimToken true) gap stations own) ≡ 2
-  -- PassToken with a gap question due, at any attempt
-  pub question_due : (a : ℕ) (attempt : PassTokenAttempt) → in_plan (plan_on (PassToken true attempt) (DoPoll a) stations own) ≡ 3 * k + 2
-  -- with none due, at the first attempt
-  pub no_question : (count : ℕ) → in_plan (plan_on (PassToken true First) (Waiting count) stations own) ≡ 3 * k + 1
-  pub no_look : in_plan (plan_on (PassToken false First) gap stations own) ≡ 3 * k + 1
-  pub awaiting : (address : ℕ) → in_plan (plan_on (AwaitStatusResponse address) gap stations own) ≡ 3 * k + 1
-  -- CheckTokenPass with somebody else in the ring: at most 3k, and that after a first token
-  pub checking : 1 ≤ k → in_plan (plan_on (CheckTokenPass First) gap stations own) ≡ 3 * k
-  pub checking_most : 1 ≤ k → (attempt : PassTokenAttempt) → in_plan (plan_on (CheckTokenPass attempt) gap stations own) ≤ 3 * k
+use Rattle.theorem_any_start.specs.Numbers.{Numbers}
 
 check_most : (stations : List ℕ) (own : ℕ) (gap : GapState) → 1 ≤ length stations → (attempt : PassTokenAttempt) → in_plan (plan_on (CheckTokenPass attempt) gap stations own) ≤ 3 * length stations
 check_most stations own gap l First = omega (arith, from_length 1 stations own)

@@ -1,5 +1,4 @@
--- Why AnyStart asks that no byte is pending: a poll that reports more pending bytes than the station knew of marks the bus active. A
--- station that waits for the lost token then sends nothing, however late the poll comes.
+-- The proof of Pending: with more pending bytes the bus is active now, and a station that waits for the lost token sends nothing.
 use Rattle.std.specs.Prelude.{ℕ, ◌+◌, ◌≤◌, ◌<◌, Bool, true, false, ◌≡◌, refl, List}
 use Rattle.std.proofs.Common.{ap, ◌∙◌, arith, eq-eqb, lt-ltb, le-ltb, leb-false}
 use borrow.Table.Steps.{cases}
@@ -9,9 +8,8 @@ use Rattle.bit_times.specs.Times.{pause_bits, time_of}
 use Rattle.bit_times.proofs.Laws.{time_some}
 use Rattle.settings.specs.declared.Parameters.{Parameters}
 use Rattle.settings.specs.Settings.{token_lost_of}
-use Rattle.settings_build.specs.Build.{first_refusal, plain_of}
 use Rattle.ring.specs.Ring.{Ring}
-use Rattle.codec_records.specs.Records.{head_of, record_refusal}
+use Rattle.codec_records.specs.Records.{head_of}
 use Rattle.codec_answers.specs.declared.Sent.TheVariants.{Nothing}
 use Rattle.station.specs.declared.OptionAddress.{OptionAddress}
 use Rattle.station.specs.declared.OptionAddress.TheVariants as optionAddress
@@ -19,17 +17,17 @@ use Rattle.station.specs.declared.Activity.{Activity}
 use Rattle.station.specs.declared.Activity.TheVariants as activity
 use Rattle.station.specs.declared.Core.{Core}
 use Rattle.station.specs.declared.State.{State}
-use Rattle.station.specs.Whole.{Station, RingStep}
+use Rattle.station.specs.Whole.{RingStep}
 use Rattle.station.specs.Parts.{with_activity, with_pending}
 use Rattle.station.specs.Steps.{known_at, elapsed_of, marked_at, busy_of, ongoing_of, waited_of, pause_of, token_lost_wait_of, bus_activity_of, done_of, heard_of}
 use Rattle.station_listen.specs.Listen.{handle_lost_token, respond_of, listen_response, heard_all, received_all, consumed_all, listen_token_on, listen_token_of, active_response, active_idle_on, active_idle_of}
 use Rattle.station_answer.specs.Answer.{polled_of, step_answer}
 use Rattle.station_poll.specs.Poll.{connected_of, dispatch_of, poll_online, accepted_after, accepted_poll, poll_of}
-use Rattle.theorem_silence.specs.Silence.{Online}
 use Rattle.theorem_silence.specs.Times.{slotted}
 use Rattle.theorem_silence.proofs.Theorem.{inner_online}
 use Rattle.theorem_sound.specs.Follows.{slot_lost}
-use Rattle.theorem_any_start.proofs.Listening.{Hears, listening, idle}
+use Rattle.theorem_any_start.specs.Listening.{Hears, listening, idle}
+use Rattle.theorem_any_start.specs.Pending.{PendingHoldsOff}
 
 -- a time that is not zero has not passed since now
 not_over : (c : Core) (now time : Micros) → c.last_bus_activity ≡ activity.At now → 1 ≤ time.0 → (waited_of c now time).over ≡ false
@@ -82,8 +80,8 @@ online_quiet request s p l c r now false pending bytes n h more =
     cases (busy_of c.last_bus_activity now) (λ e. rw e)
     (λ e. rw e (dispatch_quiet request s p l (bus_activity_of c now pending) r now bytes n h (active_now c now pending more e)))
 
--- the poll is accepted and hears no telegram; its clock and whether a transmission goes on are free
-pub pending_holds_off : (s : Station) (bytes : List ℕ) (request : OptionAddress) → first_refusal (plain_of s.p) ≡ 0 → Online s → Hears request s.state → record_refusal bytes s.applications ≡ 0 → (head_of bytes).telegrams ≡ 0 → s.core.pending_bytes < (head_of bytes).pending → (poll_of s bytes).answer.sent ≡ Nothing
+-- the statement
+pub pending_holds_off : PendingHoldsOff
 unfolding poll_of accepted_poll accepted_after polled_of step_answer
 pending_holds_off s bytes request settings on h accepted none more =
     let some : 1 ≤ (token_lost_of s.p).0 = omega (arith, (slotted s.p settings).some, slot_lost s.p) in

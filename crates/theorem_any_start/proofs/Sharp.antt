@@ -1,11 +1,10 @@
 -- 3k + 2 is sharp: where a token pass has a gap question due, 3k + 1 polls never lead to the token, and there is a run of 3k + 1 polls
 -- that are all counted. And so is the number of every other state that does not wait for the lost token.
-use Rattle.std.specs.Prelude.{ℕ, ◌+◌, ◌*◌, ◌^◌, ◌<◌, ◌≤◌, true, false, ◌≡◌, refl, List, [], ◌∷◌, length}
+use Rattle.std.specs.Prelude.{ℕ, ◌+◌, ◌*◌, ◌^◌, ◌<◌, ◌≤◌, true, ◌≡◌, refl, List, [], ◌∷◌, length}
 use Rattle.std.proofs.Common.{subst, ◌∙◌, arith, one-add, le-leb}
 use Rattle.bit_times.specs.declared.Micros.{Micros}
 use Rattle.bit_times.specs.Times.{byte_bits}
 use Rattle.bit_times.proofs.Laws.{time_grows}
-use Rattle.settings.specs.declared.Parameters.{Parameters}
 use Rattle.settings.specs.Settings.{token_lost_of}
 use Rattle.settings_build.specs.Build.{first_refusal, plain_of}
 use Rattle.ring.specs.declared.GapState.TheVariants.{DoPoll}
@@ -17,34 +16,19 @@ use Rattle.station.specs.declared.State.TheVariants.{PassToken}
 use Rattle.station.specs.Whole.{Station}
 use Rattle.station_pass.specs.Pass.{gap_advanced}
 use Rattle.station_poll.specs.Poll.{poll_of}
-use Rattle.theorem_silence.specs.Silence.{AllQuiet, holds_token, until, slot_after}
+use Rattle.theorem_silence.specs.Silence.{slot_after}
 use Rattle.theorem_silence.specs.Times.{slotted}
-use Rattle.theorem_silence.proofs.Phases.{Phase, asking, todo, longest, longest_most, tokens_length}
-use Rattle.theorem_silence.proofs.OnePoll.{At}
+use Rattle.theorem_silence.specs.Phases.{Phase, asking, todo, longest}
+use Rattle.theorem_silence.proofs.Phases.{longest_most, tokens_length}
+use Rattle.theorem_silence.specs.OnePoll.{At}
 use Rattle.theorem_silence.proofs.Theorem.{run_from_lem}
-use Rattle.theorem_silence.proofs.Sharp.{evenly, evenly_length, evenly_quiet, evenly_after, room_less, AllAfter, bytes_time, too_few_from}
+use Rattle.theorem_silence.specs.Sharp.{evenly, AllAfter}
+use Rattle.theorem_silence.proofs.Sharp.{evenly_length, evenly_quiet, evenly_after, room_less, too_few_from}
 use Rattle.theorem_sound.specs.Follows.{slot_lost}
 use Rattle.theorem_any_start.specs.AnyStart.{AnyStart, lost_counted, lost_counted_in}
 use Rattle.theorem_any_start.proofs.Listening.{lost_is}
 use Rattle.theorem_any_start.proofs.Theorem.{lost_fewer}
-
--- m silent polls, each of them counted
-pub record LateRun (s : Station) (m : ℕ) : Type 0 where
-  pub records : List (List ℕ)
-  pub quiet : AllQuiet s.applications records
-  pub long : length records ≡ m
-  pub all_counted : lost_counted_in s records ≡ m
-
--- m + 1 is sharp: m counted polls that do not lead to the token, and m + 1 that do
-pub record SharpAt (s : Station) (m : ℕ) : Type 0 where
-  pub too_short : LateRun s m
-  pub not_held : holds_token (until s too_short.records) ≡ false
-  pub long_enough : LateRun s (m + 1)
-  pub held : holds_token (until s long_enough.records) ≡ true
-
--- the time of a status request and of the lost-token timeout
-abbrev pub late_time : Parameters → ℕ
-late_time p = bytes_time p 6 + (token_lost_of p).0
+use Rattle.theorem_any_start.specs.Sharp.{LateRun, SharpAt, late_time}
 
 -- polls that all come after the timeout are all counted
 after_late : (records : List (List ℕ)) (s : Station) → AllAfter token_lost_of s records → lost_counted_in s records ≡ length records

@@ -1,5 +1,5 @@
--- The proof of Met: calls that lead a new station of address 0 to each state, with 1, .. k as its others (in PassToken with a question due
--- and in AwaitStatusResponse 2, .. k + 1). The calls up to ListenToken and PassToken are those of theorem_silence's Scripts.
+-- The proof of PremisesMet: calls that lead a new station of address 0 to each state, with 1, .. k as its others (in PassToken with a
+-- question due and in AwaitStatusResponse 2, .. k + 1). The calls up to ListenToken and PassToken are those of theorem_silence's Scripts.
 use Rattle.std.specs.Prelude.{ℕ, zero, suc, ◌+◌, ◌*◌, ◌^◌, ◌≤◌, ◌<◌, true, false, ◌≡◌, refl, List, [], ◌∷◌, ◌++◌, length}
 use Rattle.std.proofs.Common.{sym, ap, subst, ◌∙◌, arith}
 use Rattle.codec_fields.specs.Fields.{field_of, be_from, load_of, zeros_or14}
@@ -31,16 +31,20 @@ use Rattle.theorem_sound.proofs.Sound.{part_ring}
 use Rattle.theorem_sound.specs.Sound as call
 use Rattle.theorem_silence.specs.Silence.{Online, Quiet, slot_after, counted}
 use Rattle.theorem_silence.specs.Times.{slotted}
-use Rattle.theorem_silence.proofs.Phases.{starting}
-use Rattle.theorem_silence.proofs.OnePoll.{At}
+use Rattle.theorem_silence.specs.Phases.{starting}
+use Rattle.theorem_silence.specs.OnePoll.{At}
 use Rattle.theorem_silence.proofs.Theorem.{counted_moves}
 use Rattle.theorem_silence.specs.Calls.{sound_of_calls}
-use Rattle.theorem_silence.specs.Scripts.{token, declines, expects_reply_lem, record_of, poll_hearing, poll_silent, lowest, begins_look, others_look, begins_question, others_question, claims, calls_for}
-use Rattle.theorem_silence.proofs.Made.{lowest_with, core_at, listens_look, pass_look, pass_question, awaits_one, calls_none, calls_on, one_gets_asked}
+use Rattle.theorem_silence.specs.Scripts.{token, declines, expects_reply, record_of, poll_hearing, poll_silent, lowest, begins_look, others_look, begins_question, others_question, claims, calls_for}
+use Rattle.theorem_silence.specs.Made.{lowest_with, core_at, listens_look, pass_look, pass_question, awaits_one}
+use Rattle.theorem_silence.proofs.Made.{calls_none, calls_on, one_gets_asked}
 use Rattle.theorem_silence.specs.Rings.{others_up_to, others_but_one}
-use Rattle.theorem_silence.proofs.Shown.{made_by, lowest_accepted, ring_of_lem, members_look, own_of, heard_at_lem, made_listens, made_on, made_look, no_question, before_one, own_before, one_absent, with_one, made_due, one_due, premises_met}
-use Rattle.theorem_any_start.proofs.Sharp.{SharpAt, late_time, sharp}
-use Rattle.theorem_any_start.proofs.PremisesMet.{met_by_calls, Met, MetSharp, PremisesMet}
+use Rattle.theorem_silence.specs.Shown.{ring_of, heard_at, before_one}
+use Rattle.theorem_silence.proofs.Shown.{made_by, lowest_accepted, members_look, own_of, made_listens, made_on, made_look, no_question, own_before, one_absent, with_one, made_due, one_due, premises_met}
+use Rattle.theorem_any_start.specs.Sharp.{SharpAt, late_time}
+use Rattle.theorem_any_start.proofs.Sharp.{sharp}
+use Rattle.theorem_any_start.specs.PremisesMet.{Met, MetSharp, PremisesMet}
+use Rattle.theorem_any_start.proofs.PremisesMet.{met_by_calls}
 
 -- these calls make a station in this state with this ring
 met_by : (number k : ℕ) (s : Station) (cs : List Call) → run (fresh_station lowest 1) cs ≡ s → Online s → state_number s.state ≡ number → (number ≡ 3 → ⊥) → (number ≡ 5 → ⊥) → length (others s.token_ring) ≡ k → Met number k
@@ -74,14 +78,14 @@ met_passive : Met 9 0
 met_passive = met_by 9 0 back_online went_passive refl back.0 back.1.0 (λ e. omega arith) (λ e. omega arith) (ap (λ (r : Ring). length (others r)) back.1.1 ∙ ap length (others_fresh 0 (omega arith)))
 
 -- ListenToken: the others were heard. Claiming changes no member.
-listens_size : (k : ℕ) → k ≤ 125 → length (others (ring_of_lem k)) ≡ k
-listens_size k l = others_up_to (ring_of_lem k) k (own_of k) l (members_look k l)
+listens_size : (k : ℕ) → k ≤ 125 → length (others (ring_of k)) ≡ k
+listens_size k l = others_up_to (ring_of k) k (own_of k) l (members_look k l)
 
 claimed_size : (r : Ring) (k : ℕ) → length (others r) ≡ k → length (others (claim_of r)) ≡ k
 claimed_size r k e = ap length (others_claim r) ∙ e
 
 met_listening : (k : ℕ) → k ≤ 125 → Met 1 k
-met_listening k l = met_by 1 k (listens_look (heard_at_lem k) (ring_of_lem k)) (begins_look ++ others_look k) (made_listens k l) refl refl (λ e. omega arith) (λ e. omega arith) (listens_size k l)
+met_listening k l = met_by 1 k (listens_look (heard_at k) (ring_of k)) (begins_look ++ others_look k) (made_listens k l) refl refl (λ e. omega arith) (λ e. omega arith) (listens_size k l)
 
 -- ClaimToken: the token was lost and is sent for the first time.
 abbrev claims_first : Ring → Station
@@ -89,7 +93,7 @@ claims_first r = lowest_with 1 0 (ClaimToken false) (core_at 0 0 3366 (Waiting 0
 
 -- ActiveIdle: the claimed token is used, the application sends and expects a reply, and a token between two others comes instead.
 abbrev loses_token : List Call
-loses_token = poll_silent 3300 ∷ poll_silent 3500 ∷ poll (record_of 3700 expects_reply_lem []) ∷ poll_hearing 4100 (token 2 3 ∷ []) ∷ []
+loses_token = poll_silent 3300 ∷ poll_silent 3500 ∷ poll (record_of 3700 expects_reply []) ∷ poll_hearing 4100 (token 2 3 ∷ []) ∷ []
 
 abbrev idles : Ring → Station
 idles r = lowest_with 1 0 steps.to_active_idle (core_at 3500 64872 4100 (Waiting 0)) r
@@ -103,19 +107,19 @@ from_listening : (r : Ring) → FromListening 0 r × FromListening 900 r
 unfolding rounded time_of slot_time_of token_lost_of rotation_time_of with_activity with_gap with_pending with_token_times with_next_application with_connectivity is_offline after run field_of be_from load_of zeros_or14 words.response_state_of words.telegram_refusal words.telegram_of decisions.length_refusal decisions.decision_refusal decisions.decision_of records.head_of records.telegram_at records.decision_at records.entry_refusal records.words_refusal records.record_refusal steps.known_at steps.elapsed_of steps.waited_of steps.marked_at steps.busy_of steps.ongoing_of steps.bus_activity_of steps.done_of polling.connected_of polling.entered_of polling.dispatch_of polling.poll_online polling.poll_inner polling.accepted_after polling.accepted_poll polling.poll_of raised_by counted_of answering.polled_of steps.rx_of steps.token_lost_wait_of steps.heard_of steps.collision_of listening.heard_telegram listening.heard_all listening.received_all listening.met_too listening.met_in listening.meetings_of listening.consumed_all listening.listen_token_on listening.handle_lost_token listening.listen_token_of steps.pause_of steps.sent_at steps.transmit_of steps.with_event steps.with_token_time claiming.claim_next claiming.claim_token_of holding.declines_on holding.declines_at holding.use_pass_of holding.app_transmit_of holding.first_or holding.turn_of holding.asked_from holding.asked_of holding.hold_less holding.capped holding.end_of holding.hold_end_of holding.holds_of holding.use_apps_after holding.use_apps_of holding.use_token_timed holding.use_token_of holding.valid_response holding.received_of holding.await_data_of
 from_listening r = (record { claims_it = refl; loses_it = refl }, record { claims_it = refl; loses_it = refl })
 
-from_heard : (k : ℕ) (r : Ring) → FromListening (heard_at_lem k) r
+from_heard : (k : ℕ) (r : Ring) → FromListening (heard_at k) r
 from_heard zero r = (from_listening r).0
 from_heard (suc k) r = (from_listening r).1
 
 met_claiming : (k : ℕ) → k ≤ 125 → Met 4 k
 met_claiming k l =
-    let r = ring_of_lem k in
+    let r = ring_of k in
     met_by 4 k (claims_first (claim_of r)) ((begins_look ++ others_look k) ++ (poll_silent 3300 ∷ [])) (made_on k l (poll_silent 3300 ∷ []) ∙ (from_heard k r).claims_it) refl refl (λ e. omega arith) (λ e. omega arith)
     (claimed_size r k (listens_size k l))
 
 met_idle : (k : ℕ) → k ≤ 125 → Met 2 k
 met_idle k l =
-    let r = ring_of_lem k in
+    let r = ring_of k in
     met_by 2 k (idles (claim_of (claim_of r))) ((begins_look ++ others_look k) ++ loses_token) (made_on k l loses_token ∙ (from_heard k r).loses_it) refl refl (λ e. omega arith) (λ e. omega arith)
     (claimed_size (claim_of r) k (claimed_size r k (listens_size k l)))
 
@@ -168,7 +172,7 @@ unfolding run after
 one_call s bytes = refl
 
 abbrev look_ring : ℕ → Ring
-look_ring k = claim_of (claim_of (ring_of_lem k))
+look_ring k = claim_of (claim_of (ring_of k))
 
 quiet_4000 : Quiet 1 (record_of 4000 declines [])
 unfolding field_of be_from load_of zeros_or14 decisions.length_refusal decisions.decision_refusal records.head_of records.entry_refusal records.words_refusal records.record_refusal
@@ -188,7 +192,7 @@ met_checking k one l = go (others (look_ring k)) refl
     last = record_of 4000 declines []
 
     size : length (others (look_ring k)) ≡ k
-    size = claimed_size (claim_of (ring_of_lem k)) k (claimed_size (ring_of_lem k) k (listens_size k l))
+    size = claimed_size (claim_of (ring_of k)) k (claimed_size (ring_of k) k (listens_size k l))
 
     makes : run (fresh_station lowest 1) (calls_for k true ++ (poll last ∷ [])) ≡ (polling.poll_of s last).station
     makes = calls_on (calls_for k true) (poll last ∷ []) (fresh_station lowest 1) ∙ ap (λ (t : Station). run t (poll last ∷ [])) (made_look k l) ∙ one_call s last

@@ -26,13 +26,18 @@ use Rattle.station_answer.specs.Answer.{polled_of}
 use Rattle.station_poll.specs.Poll.{connected_of, poll_of}
 use Rattle.theorem_silence.specs.Silence.{gap_due, AllQuiet, holds_token, until, told, sent_until, counted, counted_in, thrice}
 use Rattle.theorem_silence.specs.Times.{Slotted, slotted}
-use Rattle.theorem_silence.proofs.Phases.{Phase, asking, awaiting, starting, checking, claiming, holding, tried_before, tokens_from, claim_tokens, todo, in_ring, tokens_length}
-use Rattle.theorem_silence.proofs.OnePoll.{Ready, At, quiet_step, no_gap}
-use Rattle.theorem_silence.proofs.Theorem.{station_of, clock_of, poll_quiet, until_on, sent_on, one_less, run_from_lem}
-use Rattle.theorem_silence.proofs.Asking.{Found, found_later, uncounted, found}
+use Rattle.theorem_silence.specs.Phases.{Phase, asking, awaiting, starting, checking, claiming, holding, tried_before, tokens_from, claim_tokens, todo, in_ring}
+use Rattle.theorem_silence.proofs.Phases.{tokens_length}
+use Rattle.theorem_silence.specs.OnePoll.{Ready, At, quiet_step}
+use Rattle.theorem_silence.proofs.OnePoll.{no_gap}
+use Rattle.theorem_silence.specs.Theorem.{station_of, clock_of}
+use Rattle.theorem_silence.proofs.Theorem.{poll_quiet, until_on, sent_on, one_less, run_from_lem}
+use Rattle.theorem_silence.specs.Asking.{Found}
+use Rattle.theorem_silence.proofs.Asking.{found_later, uncounted, found}
 use Rattle.theorem_any_start.specs.AnyStart.{AnyStart, lost_after, lost_counted, lost_counted_in, Plan, claim_plan, plan_on, plan_of, in_plan, Before, asked, answered, FromAnyStart, Theorem}
 use Rattle.theorem_any_start.specs.Asked.{AskedAgain, LetterTheorem}
-use Rattle.theorem_any_start.proofs.Listening.{Hears, listening, idle, Listens, ListenTurn, claims, answers, waits, lost_slot, listen_turn}
+use Rattle.theorem_any_start.specs.Listening.{Hears, listening, idle, Listens, ListenTurn, claims, answers, waits}
+use Rattle.theorem_any_start.proofs.Listening.{lost_slot, listen_turn}
 
 -- Counted polls.
 

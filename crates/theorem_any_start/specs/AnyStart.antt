@@ -1,6 +1,6 @@
--- What silence does from any start (document 02, P11), as a statement. Its proof is in Theorem.antt, over Listening and theorem_silence's
--- places. Beside it: Numbers (how many polls each state needs), Sharp (3k + 2 cannot be smaller), Met (calls make such stations, in each
--- state), Asked (the letter from any start). Document 02's words:
+-- What silence does from any start (document 02, P11), as a statement. Its proof is in proofs/Theorem.antt, over Listening and
+-- theorem_silence's places. Beside it: Numbers (how many polls each state needs), Sharp (3k + 2 cannot be smaller), PremisesMet (calls make
+-- such stations, in each state), Asked (the letter from any start). Document 02's words:
 --
 --   "take a station that is online, with k others in its ring, in any state but UseToken and AwaitDataResponse. Let no further command
 --   come, and let every poll be accepted and report no telegram, no pending byte and no transmission. Then it enters UseToken by the
@@ -31,9 +31,10 @@ use Rattle.station_pass.specs.Pass.{gap_advanced}
 use Rattle.station_poll.specs.Poll.{poll_of}
 use Rattle.theorem_sound.specs.Keeps.{RingGood}
 use Rattle.theorem_silence.specs.Silence.{AllQuiet, holds_token, until, sent_until, counted_in, tokens}
-use Rattle.theorem_silence.proofs.Phases.{tried_before, tokens_from, claim_tokens}
+use Rattle.theorem_silence.specs.Phases.{tried_before, tokens_from, claim_tokens}
 
--- What is assumed of the station. Every station that calls make with accepted settings meets the first two lines (`met-by-calls` of Met).
+-- What is assumed of the station. Every station that calls make with accepted settings meets the first two lines (`met_by_calls` of
+-- PremisesMet).
 pub record AnyStart (s : Station) : Type 0 where
   -- its settings pass the check of a whole record
   pub settings : first_refusal (plain_of s.p) ≡ 0
@@ -111,7 +112,7 @@ pub data Before (plan : Plan) (first : List Sent) : Type 0 where
   answered : (source : ℕ) (state : ResponseState) → plan.noted ≡ optionAddress.Some source → first ≡ StatusResponse source state ∷ [] → Before plan first
 
 -- What is claimed, for any such station and any list of later polls. `others` are the other stations in its ring, in ring order; k is
--- their number, which is at most 125 (`others-length` of ring).
+-- their number, which is at most 125 (`others_length` of ring).
 pub record FromAnyStart (s : Station) (records : List (List ℕ)) : Type 0 where
   -- The bound: it enters UseToken by the (3k+2)th counted poll. (Counted polls after that count too; applied to the shortest run with
   -- 3k + 2 of them, it says "by".)

@@ -1,4 +1,4 @@
--- The letter from any start, as a statement; its proof is in Theorem.antt. Whatever the station was doing, silence ends with its
+-- The letter from any start, as a statement; its proof is in proofs/Theorem.antt. Whatever the station was doing, silence ends with its
 -- applications, which are the cabinets, being asked again: by the (3k+3)th counted poll.
 use Rattle.std.specs.Prelude.{ℕ, ◌+◌, ◌*◌, ◌≤◌, ◌≡◌, List, ◌∷◌, ◌++◌, length}
 use Rattle.ring.specs.Ring.{others}

@@ -38,7 +38,7 @@ one_more_lem : (ts : List Telegram) (t : Telegram) → AllFit ts → TelegramFit
 one_more_lem [] t f h = (h, tt)
 one_more_lem (x ∷ ts) t f h = (f.0, one_more_lem ts t f.1 h)
 
--- the numbers of such a poll's record fit
+-- the numbers of a poll's record fit, where its clock and its telegrams do
 pub poll_fits : (p : Poll) → length p.telegrams ≤ 8 → p.time < 2 ^ 48 → AllFit p.telegrams → RecordFits (head_of p.time (length p.telegrams)) 1 declines (telegram_of p.telegrams)
 poll_fits p few clock fit = record { head = (clock, few, lit< tt); decided = λ a high h. tt; heard = all_fit p.telegrams fit }
 

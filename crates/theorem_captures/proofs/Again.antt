@@ -227,6 +227,8 @@ imported_again text room wide fits =
     let h = import_holds text room in
     polls_again (import_of text room).polls wide h.0 h.1 fits
 
+-- Line by line
+
 -- one telegram more of a time
 telegrams_more : (time : ℕ) (ts : List Telegram) (t : Telegram) → telegrams_text time (ts ++ (t ∷ [])) ≡ telegrams_text time ts ++ telegram_line time t
 telegrams_more time [] t = append-nil (telegram_line time t)

@@ -1,5 +1,5 @@
--- An import after an export gives the entries back, where every telegram can be written and the times rise. The statement stands
--- first, its proof below. Assumes nothing.
+-- An import after an export gives the entries back, where every telegram can be written and the times rise. `Theorem` of specs/Back is
+-- proved as `entries_back`; the other theorems have their statements here. Assumes nothing.
 use Rattle.std.specs.Prelude.{ℕ, suc, ◌+◌, ◌*◌, ◌^◌, ◌<◌, ◌≤◌, ◌≡◌, refl, List, [], ◌∷◌, ◌++◌, false, length, take, drop, leb}
 use Rattle.std.proofs.Common.{sym, ap, ◌∙◌, append-nil, append_assoc, arith, add-zero, le-ltb, ne_eqb, eq-eqb, length-append}
 use Rattle.std.proofs.lemmas.Bool.{lt-leb}

@@ -62,6 +62,8 @@ hex_again (a ∷ b ∷ rest) =
     rw (e, first, second, digit_again a high, digit_again b low, hex_again rest))
     (λ e. rw e)
 
+-- Decimal digits
+
 digits_decimal : (text : List ℕ) → Decimals (digits_at text)
 digits_decimal [] = tt
 digits_decimal (b ∷ rest) = cases (is_decimal b) (λ a. rw a (ltb-true (digit_of b) 10 a, digits_decimal rest)) (λ a. rw a tt)
@@ -117,6 +119,8 @@ last_again l (behind {l = m} e b) d =
     let tens : (n * 10 + digit_of b) / 10 ≡ n = omega (arith, parts.1) in
     let ones : (n * 10 + digit_of b) % 10 ≡ digit_of b = omega (arith, parts.1) in
     rw (size, decimal_behind 0 m b, tens, ones, last_again m e parts.0, digit_is b parts.1)
+
+-- How many digits
 
 tens_grow : (k m : ℕ) → tens k ≤ tens (k + m)
 tens_grow k zero = let e : k + 0 ≡ k = omega arith in rw e (omega arith)
@@ -225,7 +229,7 @@ built_again l h =
     rw (time_again d (digits_decimal l) two.0, hex)
     (sym (ap lower_case (sym whole) ∙ lower_append d (space ∷ r) ∙ rw (digits_lower d (digits_decimal l))))
 
--- comes back as it was, in lower case
+-- a line whose frame is an SD1, SD4 or SC of a telegram that P1 writes comes back as it was, in lower case
 pub line_again : (l : List ℕ) → WrittenLine l → said_again (line_of l) ≡ lower_case l
 line_again l w =
     let f = pairs_at (after_time l) in

@@ -1,5 +1,5 @@
--- What an import writes: entries that a trace accepts, within the room, over bytes that otherwise stay. The theorems have their
--- statements here. Assumes nothing.
+-- What is said of an import: entries that a trace accepts, and polls that fit their fields, with times that rise. The theorems have
+-- their statements in proofs/Accepted. Assumes nothing.
 use Rattle.std.specs.Prelude.{ℕ, ◌^◌, ◌<◌, ◌≤◌, ◌≡◌, List, [], ◌∷◌, ◌++◌, length}
 use Rattle.codec_telegrams.specs.declared.Telegram.{Telegram}
 use Rattle.codec_telegrams.specs.Words.{TelegramFits}

@@ -1,5 +1,5 @@
--- An export after an import gives the lines back, without those that P1 cannot write. The theorems have their statements here.
--- Assumes nothing.
+-- The lines that an export gives again: of a telegram, of polls, and of a capture's lines. The theorems have their statements in
+-- proofs/Again. Assumes nothing.
 use Rattle.std.specs.Prelude.{ℕ, List, [], ◌∷◌, ◌++◌, cond}
 use Rattle.codec_telegrams.specs.declared.Telegram.{Telegram}
 use Rattle.codec_frames.specs.Frames.{frame_bytes, is_other_request}

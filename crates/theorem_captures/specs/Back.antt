@@ -1,5 +1,5 @@
--- An import after an export gives the entries back, where every telegram can be written and the times rise. The statement stands
--- first, its proof below. Assumes nothing.
+-- An import after an export gives the entries back, where every telegram can be written and the times rise: what this speaks of, and
+-- the statement, `Theorem`. Its proof is in proofs/Back. Assumes nothing.
 use Rattle.std.specs.Prelude.{ℕ, ◌≤◌, ◌≡◌, List, [], ◌∷◌, false, length}
 use Rattle.codec_telegrams.specs.declared.Telegram.{Telegram}
 use Rattle.codec_frames.specs.Frames.{is_other_request}

@@ -1,4 +1,5 @@
--- A line whose frame is one that P1 writes comes back as it was, in lower case. The theorem has its statement here. Assumes nothing.
+-- Lower case, decimal digits, and a line whose frame is one that P1 writes. The theorem, that such a line comes back as it was, in lower
+-- case, has its statement in proofs/Lower. Assumes nothing.
 use Rattle.std.specs.Prelude.{ℕ, zero, suc, ◌+◌, ◌*◌, ◌<◌, ◌≡◌, List, [], ◌∷◌, true, false, cond, get_or}
 use Rattle.codec_telegrams.specs.declared.Telegram.{Telegram}
 use Rattle.codec_frames.specs.Frames.{is_other_request, start_of}
@@ -27,6 +28,8 @@ Decimals (b ∷ rest) = (digit_of b < 10) × Decimals rest
 abbrev pub tens : ℕ → ℕ
 tens zero = 1
 tens (suc k) = tens k * 10
+
+-- A line
 
 -- a line whose frame is an SD1, SD4 or SC of a telegram that P1 writes
 pub record WrittenLine (l : List ℕ) : Type 0 where

@@ -3,7 +3,7 @@ use Prim.Native.Nat.{ℕ, zero, suc, ◌+◌, ◌≤◌}
 use Rattle.std.specs.Prelude.{Bool, true, false, List, ◌≡◌, eqb}
 use Rattle.std.proofs.Math.Bool.{cond}
 use Rattle.std.proofs.Math.Path.{refl, ap}
-use Rattle.std.proofs.Common.{sym, subst, ◌∙◌, arith, add-zero, eqb-true, eq-eqb, ne_eqb, lit≤}
+use Rattle.std.proofs.Common.{sym, ◌∙◌, arith, add-zero, eqb-true, lit≤}
 use Rattle.std.proofs.lemmas.Bool.{eqb-false}
 use borrow.Table.Steps.{cases}
 use Rattle.bit_times.specs.declared.Micros.{Micros}
@@ -18,18 +18,14 @@ use Rattle.station.specs.declared.State.{State}
 use Rattle.station.specs.declared.State.TheVariants.{Offline, ListenToken, ActiveIdle, UseToken, ClaimToken, AwaitDataResponse, PassToken, CheckTokenPass, AwaitStatusResponse, PassiveIdle}
 use Rattle.station.specs.declared.Core.{Core}
 use Rattle.station.specs.Whole.{Heard}
-use Rattle.station.specs.Steps.{rx_of, heard_of, collision_of, last_request_to_us}
+use Rattle.station.specs.Steps.{heard_of, collision_of}
 use Rattle.station_hear_listen.specs.HearListen.{collided, sent_by_us, listen_heard, passive_heard, listen_telegram}
 use Rattle.station_hear_active.specs.HearActive.{active_collided, remembers, accepted_of, token_to_us, token_witnessed, token_heard, active_requested, active_heard, handle_telegram}
 use Rattle.station_listen.specs.Listen.{heard_telegram, heard_all, met_too, met_in}
 use Rattle.theorem_sound.specs.Keeps.{either}
 use Rattle.theorem_counts.specs.Events.{is_from, is_token_from, meets_listening, meets_idle, met_along}
-use Rattle.theorem_counts.proofs.Plain.{Elsewhere}
-
--- what a telegram leads to: so many collisions, and a state other than ClaimToken
-pub record Said (met : ℕ) (h : Heard) : Type 0 where
-  pub says : h.met ≡ met
-  pub leads : Elsewhere h.state
+use Rattle.theorem_counts.specs.Plain.{Elsewhere}
+use Rattle.theorem_counts.specs.Meetings.{Said}
 
 heard_said : (x : State) (c : Core) (r : Ring) (o : Outcome) → Elsewhere x → Said 0 (heard_of x c r o)
 unfolding heard_of

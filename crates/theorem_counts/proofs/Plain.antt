@@ -1,5 +1,5 @@
--- Steps of which nothing is counted and that do not lead to ClaimToken: all but those that hear telegrams, claim, or remove.
-use Rattle.std.specs.Prelude.{ℕ, Bool, true, cond, List, ◌≡◌, ltb, eqb}
+-- Which steps are plain: of all but those that hear telegrams, claim, or remove, nothing is counted, and they do not lead to ClaimToken.
+use Rattle.std.specs.Prelude.{ℕ, Bool, true, List, ltb, eqb}
 use Rattle.std.proofs.Math.Bool.{false}
 use Rattle.std.proofs.Math.Path.{refl}
 use Rattle.bit_times.specs.declared.Micros.{Micros}
@@ -20,12 +20,9 @@ use Rattle.station.specs.declared.PassTokenAttempt.{PassTokenAttempt}
 use Rattle.station.specs.declared.PassTokenAttempt.TheVariants.{First}
 use Rattle.station.specs.declared.UseTokenData.{UseTokenData}
 use Rattle.station.specs.declared.State.{State}
-use Rattle.station.specs.declared.State.TheVariants.{ListenToken, PassiveIdle}
+use Rattle.station.specs.declared.State.TheVariants.{PassiveIdle}
 use Rattle.station.specs.declared.Core.{Core}
-use Rattle.station.specs.declared.Event.TheVariants as event
 use Rattle.station.specs.declared.Step.{Step}
-use Rattle.station.specs.Whole.{RingStep}
-use Rattle.station.specs.Parts.{state_number}
 use Rattle.station.specs.Steps.{to_passive_idle, pause_of, slot_expired_of, done_of, transmit_of}
 use Rattle.station_hold.specs.declared.Asked.{Asked}
 use Rattle.station_hold.specs.Hold.{valid_response, holds_of, app_transmit_of, use_pass_of, use_apps_after, use_apps_of, use_token_timed, use_token_of, received_of, with_notice, timeout_of, await_data_of}
@@ -36,26 +33,7 @@ use Rattle.codec_telegrams.specs.declared.ResponseState.TheVariants.{Slave}
 use Rattle.station_pass.specs.Pass.{pass_sent_on, pass_send, pass_poll_on, pass_poll, pass_token_of}
 use Rattle.station_await_status.specs.AwaitStatus.{status_answered, status_unexpected, status_received, await_status_of}
 use Rattle.theorem_sound.specs.Keeps.{either}
-
--- a state other than ClaimToken
-abbrev pub Elsewhere : State → Type 0
-Elsewhere x = eqb (state_number x) 4 ≡ false
-
--- nothing is counted, and the step leads elsewhere
-pub record Plain (s : Step) : Type 0 where
-  pub nothing : s.event ≡ event.Nothing
-  pub elsewhere : Elsewhere s.state
-
--- and no telegram is consumed
-pub record Calm (s : Step) : Type 0 where
-  pub plain : Plain s
-  pub none : s.consumed ≡ 0
-
-abbrev pub CalmRing : RingStep → Type 0
-CalmRing x = Calm x.step
-
-abbrev pub PlainRing : RingStep → Type 0
-PlainRing x = Plain x.step
+use Rattle.theorem_counts.specs.Plain.{Elsewhere, Plain, Calm, CalmRing, PlainRing}
 
 pub done_calm : (x : State) (c : Core) (o : Outcome) → Elsewhere x → Calm (done_of x c o)
 unfolding done_of

@@ -1,6 +1,6 @@
 -- Who is missing from a ring: nobody of its own members, and after a third attempt the station that is taken out, alone.
 use Prim.Native.Nat.{ℕ, suc, ◌<◌}
-use Rattle.std.specs.Prelude.{Bool, true, cond, List, [], ◌∷◌, ◌≡◌}
+use Rattle.std.specs.Prelude.{List, [], ◌∷◌, ◌≡◌}
 use Rattle.std.proofs.Math.Bool.{false}
 use Rattle.std.proofs.Math.Path.{refl, ap, subst}
 use Rattle.std.proofs.Common.{sym, ◌∙◌}
@@ -10,7 +10,8 @@ use Rattle.ring_addresses.specs.SetLaws.{All}
 use Rattle.ring.specs.declared.NextStation.{NextStation}
 use Rattle.ring.specs.declared.NextStation.TheVariants.{Nobody, Neighbour}
 use Rattle.ring.specs.Ring.{Ring, has, others, next_of, witness_of, remove_of}
-use Rattle.ring.proofs.Laws.{SoundRing, Other, others_all, others_remove, next_is, next_alone, next_other, witness_next, remove_same, remove_own, sound_remove}
+use Rattle.ring.specs.Laws.{SoundRing, Other}
+use Rattle.ring.proofs.Laws.{others_all, others_remove, next_is, next_alone, next_other, witness_next, remove_same, remove_own, sound_remove}
 use Rattle.station.specs.declared.PassTokenAttempt.{PassTokenAttempt}
 use Rattle.station.specs.declared.Core.{Core}
 use Rattle.station.specs.Whole.{RingStep}
@@ -19,6 +20,7 @@ use Rattle.station_pass.specs.Pass.{destination_of, pass_sent_on, pass_send, pas
 use Rattle.station_pass.specs.Laws.{destination_is}
 use Rattle.theorem_sound.specs.Keeps.{either}
 use Rattle.theorem_counts.specs.Events.{missing}
+use Rattle.theorem_counts.specs.Removals.{goes, after_third}
 
 -- nobody is missing who is a member of another ring with the same members
 none_missing : (q r : Ring) (xs : List ℕ) → ((a : ℕ) → a < 126 → has q a ≡ has r a) → All (Other r) xs → missing q xs ≡ 0
@@ -53,15 +55,7 @@ module _ (p : Parameters) (c : Core) (r : Ring) (now : Micros) (k : PassTokenAtt
   unfolding pass_token_of
   pass_keeps = either (λ (x : RingStep). has x.ring a ≡ has r a) (pause_of p c now).over _ _ (send_keeps _) refl
 
--- how many are missing once the next station is taken out: it alone, and nobody where there is none
-abbrev pub goes : NextStation → ℕ
-goes Nobody = 0
-goes (Neighbour a) = 1
-
 module _ (p : Parameters) (c : Core) (r : Ring) (now : Micros) (k : PassTokenAttempt) (s : SoundRing r) (is : r.own ≡ p.address) where
-  abbrev pub after_third : Ring
-  after_third = (pass_token_of p c (remove_of r (destination_of p.address (next_of r))) now false k).ring
-
   -- with others: the first of them
   one_missing : (x : ℕ) (xs : List ℕ) → others r ≡ x ∷ xs → missing (pass_token_of p c (remove_of r x) now false k).ring (x ∷ xs) ≡ 1
   unfolding missing
@@ -73,13 +67,13 @@ module _ (p : Parameters) (c : Core) (r : Ring) (now : Micros) (k : PassTokenAtt
       let same : (a : ℕ) → a < 126 → has (pass_token_of p c (remove_of r x) now false k).ring a ≡ has (remove_of r x) a = pass_keeps p c (remove_of r x) now k (sound_remove r x s) own in
       rw (same x first.low ∙ out) (ap suc (none_missing _ (remove_of r x) xs same left))
 
-  pub third_missing : missing after_third (others r) ≡ goes (next_of r)
+  pub third_missing : missing (after_third p c r now k) (others r) ≡ goes (next_of r)
   third_missing = go (others r) refl
     where
-      go : (os : List ℕ) → others r ≡ os → missing after_third (others r) ≡ goes (next_of r)
-      go [] e = ap (missing after_third) e ∙ nobody_missing after_third ∙ sym (ap goes (next_alone r s e))
+      go : (os : List ℕ) → others r ≡ os → missing (after_third p c r now k) (others r) ≡ goes (next_of r)
+      go [] e = ap (missing (after_third p c r now k)) e ∙ nobody_missing (after_third p c r now k) ∙ sym (ap goes (next_alone r s e))
       go (x ∷ xs) e =
-          ap (missing after_third) e
+          ap (missing (after_third p c r now k)) e
           ∙ ap (λ (y : NextStation). missing (pass_token_of p c (remove_of r (destination_of p.address y)) now false k).ring (x ∷ xs)) (next_is r x xs s e)
           ∙ one_missing x xs e
           ∙ sym (ap goes (next_is r x xs s e))

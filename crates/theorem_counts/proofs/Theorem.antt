@@ -1,19 +1,18 @@
 -- The proof of request P6's statement: one step says what happened in it, and a run over entries counts it to the largest value.
-use Rattle.std.specs.Prelude.{ℕ, zero, suc, ◌+◌, ◌-◌, ◌*◌, ◌<◌, ◌≤◌, ◌^◌, min, Bool, cond, ◌≡◌, ◌⊎◌, length, take, drop, ltb, eqb}
+use Rattle.std.specs.Prelude.{ℕ, zero, suc, ◌+◌, ◌-◌, ◌*◌, ◌<◌, ◌≤◌, min, Bool, cond, ◌≡◌, ◌⊎◌, length, take, drop, ltb, eqb}
 use Rattle.std.proofs.Math.Bool.{true, false}
 use Rattle.std.proofs.Math.Path.{refl, sym, ap, subst}
 use Rattle.std.proofs.Common.{◌∙◌, inl, inr, arith, zero-add, length-append, length-drop, take-append-drop}
 use mathlib.Core.List.{List, [], ◌∷◌, ◌++◌}
-use borrow.Author.Tests.{eqb-true, eqb-false, ltb-true, ltb-false, lt-ltb, le-ltb, eq-eqb, ne_eqb}
+use borrow.Author.Tests.{eqb-true, eqb-false, ltb-true, lt-ltb, le-ltb, ne_eqb}
 use borrow.Table.Steps.{cases}
 use Rattle.std.proofs.Math.Dec.{lit≤}
 use Rattle.bit_times.specs.declared.Micros.{Micros}
 use Rattle.settings.specs.declared.Parameters.{Parameters}
 use Rattle.ring.specs.declared.NextStation.{NextStation}
 use Rattle.ring.specs.declared.NextStation.TheVariants.{Nobody, Neighbour}
-use Rattle.ring.specs.Ring.{Ring, others, next_of}
-use Rattle.ring.proofs.Laws.{SoundRing}
-use Rattle.codec_records.specs.declared.Head.{Head}
+use Rattle.ring.specs.Ring.{Ring, next_of}
+use Rattle.ring.specs.Laws.{SoundRing}
 use Rattle.codec_records.specs.Records.{head_of, record_refusal}
 use Rattle.codec_answers.specs.declared.Outcome.{Outcome}
 use Rattle.codec_answers.specs.declared.Outcome.TheVariants as outcome
@@ -32,9 +31,9 @@ use Rattle.station.specs.declared.Event.{Event}
 use Rattle.station.specs.declared.Event.TheVariants.{Nothing, Claim, Removal, Meetings}
 use Rattle.station.specs.Whole.{Station, RingStep, Heard}
 use Rattle.station.specs.Parts.{is_offline, state_number, no_counts, fresh_station}
-use Rattle.station.specs.Steps.{to_active_idle, marked_at, ongoing_of, bus_activity_of, pause_of, slot_expired_of, token_lost_wait_of, done_of, transmit_of, with_event, ring_step_of, heard_of}
+use Rattle.station.specs.Steps.{to_active_idle, ongoing_of, bus_activity_of, pause_of, slot_expired_of, token_lost_wait_of, done_of, transmit_of, with_event, ring_step_of, heard_of}
 use Rattle.station_claim.specs.Claim.{claim_next, claim_token_of}
-use Rattle.station_listen.specs.Listen.{handle_lost_token, heard_all, met_in, received_all, meetings_of, consumed_all, listen_token_on, listen_token_of, active_idle_on, active_idle_of}
+use Rattle.station_listen.specs.Listen.{handle_lost_token, met_in, received_all, meetings_of, consumed_all, listen_token_on, listen_token_of, active_idle_on, active_idle_of}
 use Rattle.station_check_pass.specs.CheckPass.{removal_of, resend_of, check_received, check_token_pass_of}
 use Rattle.station_passive.specs.Passive.{passive_idle_of}
 use Rattle.station_poll.specs.Poll.{connected_of, passivated_of, entered_of, dispatch_of, poll_online, poll_inner, accepted_after, accepted_poll, poll_of}
@@ -51,14 +50,18 @@ use Rattle.theorem_sound.specs.Keeps.{either}
 use Rattle.theorem_sound.specs.Sound.{SoundStation}
 use Rattle.theorem_sound.proofs.Sound.{call_sound}
 use Rattle.theorem_every_trace.specs.Statement.{Entry, laid, along}
-use Rattle.theorem_every_trace.proofs.Theorem.{Taken, taken, along_length}
+use Rattle.theorem_every_trace.specs.Theorem.{Taken}
+use Rattle.theorem_every_trace.proofs.Theorem.{taken, along_length}
 use Rattle.theorem_from_header.specs.FromHeader.{header_starts, call_of, entry_leaves, from_header}
 use Rattle.theorem_heard.proofs.Theorem.{laid_long, enough}
 use Rattle.theorem_counts.specs.Events.{enters_claim, claims_at, in_third, removes, removals_in, removals_at, met_along, met_from, meets, meetings_in, meetings_at, times}
 use Rattle.theorem_counts.specs.Statement.{happened, Told, Theorem}
-use Rattle.theorem_counts.proofs.Plain.{Elsewhere, Plain, Calm, use_token_plain, await_data_plain, response_calm, active_response_calm, passive_response_calm, pass_calm, await_status_plain}
+use Rattle.theorem_counts.specs.Plain.{Elsewhere, Plain, Calm}
+use Rattle.theorem_counts.proofs.Plain.{use_token_plain, await_data_plain, response_calm, active_response_calm, passive_response_calm, pass_calm, await_status_plain}
 use Rattle.theorem_counts.proofs.Meetings.{all_elsewhere, met_is}
-use Rattle.theorem_counts.proofs.Removals.{same_missing, goes, third_missing}
+use Rattle.theorem_counts.specs.Removals.{goes}
+use Rattle.theorem_counts.proofs.Removals.{same_missing, third_missing}
+use Rattle.theorem_counts.specs.Theorem.{InBits, Raised}
 
 -- What a step says, as three numbers.
 abbrev claims_said : Event → ℕ
@@ -307,18 +310,6 @@ module _ (p : Parameters) (ring : Ring) (now : Micros) (bytes : List ℕ) (n cou
         (dispatch_says (entered_of v x) _)))
 
 -- From a step to the counts.
-
--- counts that fit their 32 bits
-pub record InBits (k : Counts) : Type 0 where
-  pub claims_fit : k.claims ≤ largest_count
-  pub removals_fit : k.removals ≤ largest_count
-  pub meetings_fit : k.meetings ≤ largest_count
-
--- counts that are so many higher than others
-pub record Raised (before after : Counts) (a b c : ℕ) : Type 0 where
-  pub claims_raised : after.claims ≡ raised_by before.claims a
-  pub removals_raised : after.removals ≡ raised_by before.removals b
-  pub meetings_raised : after.meetings ≡ raised_by before.meetings c
 
 -- none more, so many and then so many, and what is raised fits
 raised_none : (k : ℕ) → k ≤ largest_count → k ≡ raised_by k 0

@@ -1,6 +1,6 @@
 -- Where counting stops: a station whose counts stand one below the largest value of 32 bits. Worked out from the definitions.
-use Rattle.std.specs.Prelude.{ℕ, ◌-◌, ◌^◌, ◌≡◌, refl}
-use Rattle.std.proofs.Common.{ap, ◌∙◌}
+use Rattle.std.specs.Prelude.{ℕ, ◌-◌, ◌^◌, ◌≡◌}
+use Rattle.std.proofs.Common.{ap}
 use Rattle.settings.specs.declared.Parameters.{Parameters}
 use Rattle.station.specs.declared.Counts.{Counts}
 use Rattle.station.specs.declared.Event.TheVariants.{Claim, Removal, Meetings}

@@ -1,6 +1,6 @@
 -- Request P6 in one statement: what the call on a trace's counts returns and leaves, for every trace that starts a station. Its proof is
--- `every-count` in Theorem.antt. Bytes are numbers here, and any list of them is meant.
-use Rattle.std.specs.Prelude.{ℕ, ◌+◌, ◌*◌, ◌≤◌, min, ◌≡◌, List, [], ◌∷◌, ◌++◌, ◌⊎◌, length, take, drop}
+-- `every_count` in proofs/Theorem.antt. Bytes are numbers here, and any list of them is meant.
+use Rattle.std.specs.Prelude.{ℕ, ◌+◌, ◌*◌, ◌≤◌, min, ◌≡◌, List, [], ◌++◌, ◌⊎◌, length, take, drop}
 use Rattle.station.specs.declared.Counts.{Counts}
 use Rattle.station.specs.Whole.{Station}
 use Rattle.station_answer.specs.Counted.{largest_count}

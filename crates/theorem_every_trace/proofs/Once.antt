@@ -1,4 +1,4 @@
--- `every-trace` leaves no choice: there is one way to take a trace's bytes apart into the entries that are answered and the rest.
+-- `every_trace` leaves no choice: there is one way to take a trace's bytes apart into the entries that are answered and the rest.
 use Rattle.std.specs.Prelude.{ℕ, suc, ◌-◌, ◌*◌, ◌≤◌, ◌≡◌, refl, List, [], ◌∷◌, ◌++◌, length, take, drop}
 use Rattle.std.proofs.Common.{sym, ap, ◌∙◌, subst, append_assoc, arith, length-append, length-take-le, take_at, drop_at}
 use Rattle.std.proofs.Math.Nat.{sub-zero}
@@ -7,6 +7,7 @@ use Rattle.trace_headers.specs.Headers.{header_length}
 use Rattle.trace.specs.Entries.{record_length}
 use Rattle.theorem_every_trace.specs.Statement.{Entry, Whole, laid, Stops, empty, cut, full, Answered}
 use Rattle.theorem_every_trace.proofs.Theorem.{ending_tells}
+use Rattle.theorem_every_trace.specs.Once.{OneReplay}
 
 -- bytes at which a run stops do not begin with a whole entry that has room
 stops_there : {room : ℕ} {kind : ℕ} {bytes : List ℕ} {n : ℕ} → Stops room (kind ∷ bytes) n → record_length kind ≤ length bytes → 8 ≤ room → ⊥
@@ -63,12 +64,6 @@ same_parts (e ∷ es) (f ∷ fs) r q room m n w v same l k s t =
   where
     eight : (a n : ℕ) → a - 8 * suc n ≡ a - 8 - 8 * n
     eight a n = omega arith
-
--- two replays of one trace into one buffer: the same entries are answered, the same bytes are left, with the same ending
-pub record OneReplay {fresh gone : Station} {trace before : List ℕ} {returned number : ℕ} {left other : List ℕ} (a : Answered fresh trace before returned left) (b : Answered gone trace before number other) : Type 0 where
-  pub one_entries : a.entries ≡ b.entries
-  pub one_rest : a.rest ≡ b.rest
-  pub one_end : a.ending ≡ b.ending
 
 pub answered_once :
     {fresh gone : Station} {trace before : List ℕ} {returned number : ℕ} {left other : List ℕ} (a : Answered fresh trace before returned left) (b : Answered gone trace before number other)

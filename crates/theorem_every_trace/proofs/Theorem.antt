@@ -7,11 +7,12 @@ use Rattle.station.specs.Whole.{Station}
 use Rattle.trace_headers.specs.Headers.{header_length}
 use Rattle.station_answer.specs.Answer.{Polled}
 use Rattle.trace.specs.Entries.{record_length, entry_of}
-use Rattle.trace.specs.Trace.{TraceStart, Accepted, Refused, start_of, Run, run_from, run_of, ran_of, replay_of, number_of, buffer_of}
+use Rattle.trace.specs.Trace.{TraceStart, Accepted, Refused, start_of, run_from, run_of, ran_of, replay_of, number_of, buffer_of}
 use Rattle.trace.proofs.Laws.{start_long, replay_started, replay_refused, run_none, run_cut, run_full, run_more}
 use Rattle.theorem_every_trace.specs.Endings.{Small, start_small}
 use Rattle.theorem_every_trace.specs.Runs.{Way, cuts, fills, goes, way, shorter}
-use Rattle.theorem_every_trace.specs.Statement.{Entry, Whole, laid, along, Stops, empty, cut, full, Tells, Answered, Replayed, refused, ran, Theorem}
+use Rattle.theorem_every_trace.specs.Statement.{Entry, laid, along, Stops, empty, cut, full, Tells, Answered, Replayed, refused, ran, Theorem}
+use Rattle.theorem_every_trace.specs.Theorem.{Taken}
 
 -- a list with a first byte is not empty
 some_left : (kind : ℕ) (bytes : List ℕ) → (kind ∷ bytes) ≡ [] → ⊥
@@ -34,18 +35,7 @@ ending_tells (full kind bytes c f) =
       no_room = (λ e. (c, f), λ w. refl);
     }
 
--- a run over bytes, taken apart: the entries that it answers, the bytes that it leaves, and why it stops there
-pub record Taken (s : Station) (l : List ℕ) (room : ℕ) (run : Run) : Type 0 where
-  pub entries : List Entry
-  pub rest : List ℕ
-  pub whole : Whole entries
-  pub bytes : l ≡ laid entries ++ rest
-  pub fits : 8 * length entries ≤ room
-  pub given : run.answers ≡ (along s entries).answers
-  pub reached : run.station ≡ (along s entries).station
-  pub stops : Stops (room - 8 * length entries) rest run.ending
-
--- one that answers nothing
+-- a run that answers nothing, taken apart
 taken_none : (s : Station) (l : List ℕ) (room n : ℕ) → Stops room l n → Taken s l room (record { answers = []; station = s; ending = n })
 taken_none s l room n h =
     record { entries = []; rest = l; whole = tt; bytes = refl; fits = omega arith; given = refl; reached = refl; stops = rw (sub-zero room) h }

@@ -4,5 +4,7 @@
 pub mod Runs
 pub mod Endings
 pub mod Statement
+pub mod Theorem
+pub mod Once
 pub mod EveryTrace
 pub mod Moved

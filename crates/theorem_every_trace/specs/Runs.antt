@@ -1,6 +1,6 @@
 -- Laws of runs: how many entries a run may take does not matter, a run goes on where another ended, and what is written. Assumes nothing.
-use Rattle.std.specs.Prelude.{ℕ, zero, suc, ◌+◌, ◌-◌, ◌*◌, ◌<◌, ◌≤◌, ◌≡◌, refl, List, [], ◌∷◌, ◌++◌, Bool, true, false, cond, length, take, drop, ltb}
-use Rattle.std.proofs.Common.{sym, ap, ◌∙◌, subst, arith, le_refl, suc-add, ltb-true, ltb-false, lt-ltb, le-ltb, length-drop, length-append, lit≤}
+use Rattle.std.specs.Prelude.{ℕ, zero, suc, ◌+◌, ◌-◌, ◌*◌, ◌<◌, ◌≤◌, ◌≡◌, refl, List, [], ◌∷◌, ◌++◌, length, take, drop, ltb}
+use Rattle.std.proofs.Common.{sym, ap, ◌∙◌, arith, le_refl, suc-add, ltb-true, ltb-false, length-drop, length-append, lit≤}
 use Rattle.std.proofs.Math.Nat.{sub-zero}
 use borrow.Table.Steps.{cases}
 use Rattle.std.proofs.lemmas.List.{take-append-le, drop-append-le}
@@ -10,7 +10,7 @@ use Rattle.codec_answers.specs.Answers.{answer_word}
 use Rattle.station.specs.Whole.{Station}
 use Rattle.station_answer.specs.Answer.{Polled}
 use Rattle.trace.specs.Entries.{record_length, entry_of}
-use Rattle.trace.specs.Trace.{Run, ended, answered, run_from, run_of, written}
+use Rattle.trace.specs.Trace.{Run, answered, run_from, run_of, written}
 use Rattle.trace.specs.Laws.{preceded_by}
 use Rattle.trace.proofs.Laws.{run_none, run_cut, run_full, run_more}
 

@@ -1,5 +1,5 @@
--- Demand 1 in one statement: what the replay call returns and leaves for every trace and every buffer. Its proof is `every-trace` in
--- Theorem.antt. Bytes are numbers here, and any list of them is meant.
+-- Demand 1 in one statement: what the replay call returns and leaves for every trace and every buffer. Its proof is `every_trace` in
+-- proofs/Theorem.antt. Bytes are numbers here, and any list of them is meant.
 use Rattle.std.specs.Prelude.{ℕ, ◌+◌, ◌-◌, ◌*◌, ◌<◌, ◌≤◌, ◌≡◌, List, [], ◌∷◌, ◌++◌, ◌↔◌, ◌⊎◌, length, take, drop}
 use Rattle.station.specs.Whole.{Station}
 use Rattle.trace_headers.specs.Headers.{header_length}
@@ -27,7 +27,7 @@ along s [] = ended s 0
 along s (e ∷ es) = answered (entry_of s e.kind e.bytes).answer (along (entry_of s e.kind e.bytes).station es)
 
 -- The three ways in which a run stops, with `room` bytes left for answers: what bytes it leaves, and the number that it ends with.
--- The three exclude each other, so the number tells which it was (`ending-tells` in Theorem.antt).
+-- The three exclude each other, so the number tells which it was (`ending_tells` in proofs/Theorem.antt).
 pub data Stops (room : ℕ) : List ℕ → ℕ → Type 0 where
   -- no byte is left: 0
   empty : Stops room [] 0

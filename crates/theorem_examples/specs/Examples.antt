@@ -9,7 +9,8 @@ use Rattle.settings_build.specs.Build.{early_refusal, first_refusal, pair_of, bu
 use Rattle.ring_addresses.specs.Set.{walk, nearest, between_of, keeps, same_set}
 use Rattle.ring_links.specs.Links.{listed, after_of, before_of, link_at, tab, links_of, link_of, unlink_of, behind_of, insert_of, sweep_of, relink_of, follows_of, confirms_of}
 use Rattle.ring.specs.Ring.{Ring, has, make, claim_of, others, next_of, prev_of, fresh_of, add_of, remove_of, round_of, laps_of, witness_of, candidate_of, polls, gap_of, counted}
-use Rattle.ring.proofs.Worked.{among, witness_of_members}
+use Rattle.ring.specs.Worked.{among}
+use Rattle.ring.proofs.Worked.{witness_of_members}
 use Rattle.ring.proofs.Examples.{heard_nine}
 use Rattle.ring.specs.declared.GapState.TheVariants.{DoPoll}
 use Rattle.codec_fields.specs.Fields.{field_of, put_of, zeros_or14, be_from, load_of, over_of, stored_of}

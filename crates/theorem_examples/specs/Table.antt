@@ -16,7 +16,7 @@ use Rattle.ring.specs.declared.GapState.{GapState}
 use Rattle.ring.specs.declared.GapState.TheVariants.{Waiting, DoPoll}
 use Rattle.ring_links.specs.Links.{links_of}
 use Rattle.ring.specs.Ring.{fresh_of, gap_of}
-use Rattle.ring.proofs.Worked.{among}
+use Rattle.ring.specs.Worked.{among}
 use Rattle.codec_answers.specs.declared.Answer.{Answer}
 use Rattle.codec_answers.specs.declared.Sent.{Sent}
 use Rattle.codec_answers.specs.declared.Sent.TheVariants as sent

@@ -1,4 +1,5 @@
--- The bytes of a frame: what a start byte is, the first bytes of a list, a function code there and back. Assumes nothing.
+-- The bytes of a frame: the first is the start byte (`start_byte` of specs/Bytes), the first bytes of a list, a function code there and
+-- back. Assumes nothing.
 use Rattle.std.specs.Prelude.{ℕ, zero, suc, ◌+◌, ◌*◌, ◌^◌, ◌<◌, ◌≤◌, ◌≡◌, refl, List, [], ◌∷◌, Bool, true, false, ◌&&◌, length, get_or, take, eqb}
 use Rattle.std.proofs.Common.{sym, ap, ◌∙◌, arith, eqb-true, ne_eqb, lit<}
 use borrow.Table.Steps.{cases}

@@ -1,5 +1,5 @@
--- One byte of a frame changed: which changes are found, and what the others are read as. The theorems have their statements here.
--- Assumes nothing.
+-- One byte of a frame changed: which changes are found, and that the others are read as `changed` of specs/Changed says. The theorems
+-- have their statements here. Assumes nothing.
 use Prim.Native.Nat.{ℕ, zero, suc, ◌+◌, ◌%◌, ◌^◌, ◌<◌, ◌≤◌}
 use Rattle.std.specs.Prelude.{◌≡◌, true, false, cond, not, ◌&&◌, drop, eqb}
 use Rattle.std.proofs.Math.Path.{refl, sym, ap}
@@ -147,6 +147,8 @@ module _ (f : List ℕ) {t : Telegram} {used : ℕ} (read : frame_of f ≡ Accep
         body_kept f (head_length start) (body_length start f) b in
         let new : get_or (set f i b) i 0 ≡ b = get_or-set_same f i b 0 (omega arith) in
         rw (first, length-set f i b, w.some, w.known, w.head, kept_length f i b start behind, kept_head f i b start behind, w.same, w.long, kept, same, w.check, new, checked, ne_eqb b end_byte other)
+
+-- The frames that are written
 
 -- another first byte for the same
 start_changed : (b : ℕ) (f : List ℕ) (x : FrameRead) (start : ℕ) → b ≡ start → frame_of (start ∷ f) ≡ x → frame_of (b ∷ f) ≡ x

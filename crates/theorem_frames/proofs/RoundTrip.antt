@@ -1,5 +1,5 @@
--- Frames written, read and cut: the theorems have their statements here, each with a sentence. `write_of` and `frame_of` are what the
--- calls' contracts say. Assumes nothing.
+-- Frames written and read: the theorems have their statements here, each with a sentence. `write_of` and `frame_of` are what the
+-- calls' contracts say, `is_written` is of specs/RoundTrip. Assumes nothing.
 use Rattle.std.specs.Prelude.{ℕ, ◌+◌, ◌*◌, ◌^◌, ◌<◌, ◌≤◌, ◌≡◌, refl, List, [], ◌∷◌, ◌++◌, Bool, true, false, not, ◌||◌, get_or, take, drop, eqb, ltb}
 use Rattle.std.proofs.Common.{ap, ◌∙◌, arith, length-take}
 use borrow.Author.Tests.{eq-eqb, ne_eqb, eqb-true, le-ltb, ltb-false, not-false}

@@ -1,4 +1,5 @@
--- What the reader accepts, line by line, and facts on bits of a byte. Assumes nothing.
+-- What the reader accepts is a whole frame (`Whole` of specs/Whole), and each whole frame is accepted; and facts on bits of a byte.
+-- Assumes nothing.
 use Rattle.std.specs.Prelude.{ℕ, ◌+◌, ◌/◌, ◌%◌, ◌^◌, ◌<◌, ◌≡◌, refl, List, Bool, true, false, cond, not, ◌&&◌, length, get_or, eqb, ltb}
 use Rattle.std.proofs.Math.Nat.{div-eq_of_lt}
 use Rattle.std.proofs.Common.{arith}

@@ -1,4 +1,4 @@
--- The bytes of a frame: what a start byte is, the first bytes of a list, a function code there and back. Assumes nothing.
+-- What a start byte is. The laws are in proofs/Bytes. Assumes nothing.
 use Rattle.std.specs.Prelude.{ℕ}
 use Rattle.codec_frames.specs.declared.Start.{Start}
 use Rattle.codec_frames.specs.declared.Start.TheVariants.{Sd1, Sd2, Sd3, Sd4, Sc, Unknown}

@@ -1,5 +1,5 @@
--- One byte of a frame changed: which changes are found, and what the others are read as. The theorems have their statements here.
--- Assumes nothing.
+-- One byte of a frame changed: what a reader makes of a written frame then. The theorems, which changes are found and that the others
+-- are read as this says, have their statements in proofs/Changed. Assumes nothing.
 use Prim.Native.Nat.{ℕ}
 use Rattle.std.specs.Prelude.{cond, eqb}
 use Rattle.codec_fields.specs.Fields.{bit_at}

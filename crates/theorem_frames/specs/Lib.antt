@@ -1,4 +1,5 @@
--- What an accepted frame is, and its bytes; then the statements: written and read; followed by bytes and cut; one byte changed.
+-- What an accepted frame is, and its start byte; then which frames are written, and what a reader makes of one byte changed. The
+-- theorems are in proofs/: written and read (RoundTrip); followed by bytes and cut (Cut); one byte changed (Changed).
 pub mod Whole
 pub mod Bytes
 pub mod RoundTrip

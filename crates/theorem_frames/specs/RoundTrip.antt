@@ -1,5 +1,4 @@
--- Frames written, read and cut: the theorems have their statements here, each with a sentence. `write_of` and `frame_of` are what the
--- calls' contracts say. Assumes nothing.
+-- Which frames are written. The theorems on frames written and read have their statements in proofs/RoundTrip. Assumes nothing.
 use Rattle.std.specs.Prelude.{Bool, true, false}
 use Rattle.codec_frames.specs.declared.Start.{Start}
 use Rattle.codec_frames.specs.declared.Start.TheVariants.{Sd1, Sd2, Sd3, Sd4, Sc, Unknown}

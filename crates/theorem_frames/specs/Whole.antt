@@ -1,4 +1,5 @@
--- What the reader accepts, line by line, and facts on bits of a byte. Assumes nothing.
+-- What a whole frame is, line by line. That the reader accepts each whole frame and nothing else is proved in proofs/Whole. Assumes
+-- nothing.
 use Rattle.std.specs.Prelude.{ℕ, ◌+◌, ◌≡◌, List, false, not, ◌&&◌, length, get_or, eqb, ltb}
 use Rattle.codec_fields.specs.Fields.{bit_at}
 use Rattle.codec_frames.specs.declared.Start.{Start}

@@ -23,7 +23,7 @@ replayed_so trace before returned left n b =
 
 -- Demand 1 of the hosts' call: whatever trace and buffer a host lends, what the call returns and leaves is as `Replayed` says: a refused
 -- header's number and nothing written, or the answers to the whole entries. (Each of these answers then reads back:
--- `every-answer-reads`.)
+-- `every_answer_reads`.)
 pub host_call_replays : (κs : _) (a : _) (returned : _) (s : _) → reads.Post κs a returned s → Replayed a.0.now a.1.0.now returned s.1.0.now
 host_call_replays κs a returned s post = replayed_so a.0.now a.1.0.now returned s.1.0.now post.0 post.1
 
@@ -33,8 +33,8 @@ pub host_call_silence : (κs : _) (a : _) (returned : _) (s : _) → reads.Post 
 host_call_silence κs a returned s post t = subst (SilenceRead t) (sym post.1) (silence_in_trace a.0.now a.1.0.now t)
 
 -- The other call: a lent header that is not refused, with room for the other edition, is written there as `moved` says, and every other
--- byte stays. That `moved` leads back to the same bytes and says the same is `header-moves` of trace_editions; that a trace with its
--- header so moved gives the same answers is `moves-alike` of theorem_every_trace.
+-- byte stays. That `moved` leads back to the same bytes and says the same is `header_moves` of trace_editions; that a trace with its
+-- header so moved gives the same answers is `moves_alike` of theorem_every_trace.
 pub host_call_moves :
     (κs : _) (a : _) (returned : _) (s : _)
     → moving.Post κs a returned s

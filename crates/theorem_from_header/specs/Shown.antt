@@ -38,7 +38,8 @@ use Rattle.trace_headers.specs.Headers as headers
 use Rattle.trace.specs.Entries as entries
 use Rattle.trace.specs.Trace.{settings_of, settings_at, Accepted, started_with, start_of, replay_of, buffer_of}
 use Rattle.theorem_silence.specs.Silence.{AllQuiet, Online, gap_due, slot_after, counted, counted_in, tokens}
-use Rattle.theorem_silence.proofs.Shown.{with_ring, ring_is, ring_nine, claimed_nine}
+use Rattle.theorem_silence.specs.Shown.{with_ring, ring_nine}
+use Rattle.theorem_silence.proofs.Shown.{ring_is, claimed_nine}
 use Rattle.theorem_silence.specs.SilentRecords.{silent_at, silent_quiet}
 use Rattle.theorem_every_trace.specs.Statement.{Entry, Whole, laid, along}
 use Rattle.theorem_from_header.specs.SilentTrace.{poll_entries, sent_by_answers, held_by_answers, SilentTrace, silent_answers}
@@ -50,13 +51,13 @@ abbrev pub header : List ℕ
 header = 5 ∷ 6 ∷ 0 ∷ 200 ∷ 0 ∷ 0 ∷ 126 ∷ 180 ∷ 10 ∷ 126 ∷ 1 ∷ 11 ∷ 1 ∷ 0 ∷ 0 ∷ 0 ∷ []
 
 -- the record at 100 µs with one telegram: a token from 9 to 5
-abbrev pub token_heard_lem : List ℕ
-token_heard_lem = 0 ∷ 0 ∷ 0 ∷ 0 ∷ 0 ∷ 100 ∷ 8 ∷ 0 ∷ 0 ∷ 0 ∷ 0 ∷ 0 ∷ 0 ∷ 0 ∷ 2 ∷ 137 ∷ 0 ∷ 0 ∷ []
+abbrev pub token_heard : List ℕ
+token_heard = 0 ∷ 0 ∷ 0 ∷ 0 ∷ 0 ∷ 100 ∷ 8 ∷ 0 ∷ 0 ∷ 0 ∷ 0 ∷ 0 ∷ 0 ∷ 0 ∷ 2 ∷ 137 ∷ 0 ∷ 0 ∷ []
 
 -- online; a silent poll, the token heard; then silence: the station claims the token at 6,600 µs, sends it twice to itself, holds it, and
 -- its application declines
 abbrev pub earlier : List Entry
-earlier = record { kind = 0; bytes = [] } ∷ poll_entries (silent_at 1 0 ∷ token_heard_lem ∷ silent_at 1 6600 ∷ silent_at 1 6800 ∷ silent_at 1 7000 ∷ [])
+earlier = record { kind = 0; bytes = [] } ∷ poll_entries (silent_at 1 0 ∷ token_heard ∷ silent_at 1 6600 ∷ silent_at 1 6800 ∷ silent_at 1 7000 ∷ [])
 
 -- four silent polls, each a token and a slot after the one before
 abbrev pub silent_records : List (List ℕ)

@@ -1,4 +1,4 @@
--- Silence (demand 3) over the bytes of a trace, as a statement. Its proof is `silence-in-trace` in SilentTraceProof.antt.
+-- Silence (demand 3) over the bytes of a trace, as a statement. Its proof is `silence_in_trace` in SilentTraceProof.antt.
 --
 -- In words: Take a trace whose header is not refused. Let the entries so far leave a station that is online and in PassToken, at its
 -- first attempt, with no gap question due, and let there be k others in its ring. Let silent polls follow: accepted records that

@@ -16,7 +16,8 @@ use Rattle.trace.specs.Trace.{Accepted, start_of, run_of, ran_of, number_of, roo
 use Rattle.trace.proofs.Laws.{replay_started}
 use Rattle.trace_heard.specs.TraceHeard.{consumed_over, heard_in, found_after, heard_number, heard_into, heard_into_on}
 use Rattle.theorem_every_trace.specs.Statement.{Entry, Whole, laid, along, Cut, Stops, empty, cut, full}
-use Rattle.theorem_every_trace.proofs.Theorem.{Taken, taken, along_length}
+use Rattle.theorem_every_trace.specs.Theorem.{Taken}
+use Rattle.theorem_every_trace.proofs.Theorem.{taken, along_length}
 use Rattle.theorem_heard.specs.Statement.{consumed_by, Summarized, Theorem}
 
 -- an entry has a byte at least

@@ -1,5 +1,5 @@
 -- Request P7 in one statement: what the call on who was heard returns and leaves, for every trace that starts a station. Its proof is
--- `every-summary` in Theorem.antt. Bytes are numbers here, and any list of them is meant.
+-- `every_summary` in proofs/Theorem.antt. Bytes are numbers here, and any list of them is meant.
 use Rattle.std.specs.Prelude.{ℕ, ◌+◌, ◌*◌, ◌≤◌, ◌≡◌, List, [], ◌∷◌, ◌++◌, ◌⊎◌, length, take, drop}
 use Rattle.codec_answers.specs.declared.Answer.{Answer}
 use Rattle.station.specs.Whole.{Station}

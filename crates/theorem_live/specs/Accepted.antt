@@ -18,7 +18,8 @@ use Rattle.settings_build.proofs.Built.{build_accepts, built_passes}
 use Rattle.settings_build.proofs.Passes.{address_low}
 use Rattle.ring_addresses.specs.Set.{only}
 use Rattle.ring.specs.Ring.{Ring, has, make}
-use Rattle.ring.proofs.Laws.{SoundRing, make_sound}
+use Rattle.ring.specs.Laws.{SoundRing}
+use Rattle.ring.proofs.Laws.{make_sound}
 use Rattle.ring_members.specs.Members.{in_set, set_bytes}
 use Rattle.ring_members.proofs.Laws.{members_make}
 use Rattle.ring_members.proofs.Back.{set_bytes_back}

@@ -21,7 +21,8 @@ use Rattle.ring.specs.declared.GapState.{GapState}
 use Rattle.ring.specs.declared.GapState.TheVariants.{Waiting, DoPoll}
 use Rattle.ring_addresses.specs.Set.{only}
 use Rattle.ring.specs.Ring.{Ring, has, make}
-use Rattle.ring.proofs.Laws.{SoundRing, has_out}
+use Rattle.ring.specs.Laws.{SoundRing}
+use Rattle.ring.proofs.Laws.{has_out}
 use Rattle.ring_members.specs.Members.{in_set, set_added, set_bytes}
 use Rattle.ring_members.proofs.Back.{set_is, in_bytes, members_back}
 use Rattle.station.specs.declared.Activity.{Activity}

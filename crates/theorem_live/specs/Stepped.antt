@@ -1,4 +1,4 @@
--- A trace is its header's station stepped along its entries: what is said of the bytes, entry by entry. Its proof is `stepped-along`.
+-- A trace is its header's station stepped along its entries: what is said of the bytes, entry by entry. Its proof is `stepped_along`.
 use Rattle.std.specs.Prelude.{ℕ, suc, ◌+◌, ◌-◌, ◌*◌, ◌≤◌, ◌<◌, ◌^◌, Bool, true, false, cond, ◌≡◌, refl, List, [], ◌∷◌, ◌++◌, length, get_or, take, drop, replicate, eqb, ltb}
 use Rattle.std.proofs.Common.{sym, ap, subst, ◌∙◌, append-nil, append_assoc, arith, le-ltb, length-append, take_all, drop_at, lit≤}
 use Rattle.std.proofs.Math.Nat.{min-le_left}

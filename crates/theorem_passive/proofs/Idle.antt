@@ -1,5 +1,5 @@
 -- PassiveIdle: one telegram, all of a poll's telegrams, the response, the poll.
-use Rattle.std.specs.Prelude.{ℕ, zero, suc, Bool, true, false, ◌≡◌, refl, List, ltb, eqb}
+use Rattle.std.specs.Prelude.{ℕ, zero, suc, Bool, true, ◌≡◌, refl, List, ltb, eqb}
 use Rattle.std.proofs.Common.{◌∙◌}
 use Rattle.bit_times.specs.declared.Micros.{Micros}
 use Rattle.settings.specs.declared.Parameters.{Parameters}
@@ -9,23 +9,23 @@ use Rattle.codec_telegrams.specs.declared.Telegram.{Telegram}
 use Rattle.codec_telegrams.specs.declared.Telegram.TheVariants as telegram
 use Rattle.codec_answers.specs.declared.Outcome.{Outcome}
 use Rattle.codec_answers.specs.declared.Outcome.TheVariants as outcome
-use Rattle.codec_answers.specs.declared.Notice.TheVariants as notice
 use Rattle.station.specs.declared.OptionAddress.{OptionAddress}
 use Rattle.station.specs.declared.OptionAddress.TheVariants as optionAddress
 use Rattle.station.specs.declared.State.{State}
 use Rattle.station.specs.declared.State.TheVariants.{PassiveIdle}
 use Rattle.station.specs.declared.Core.{Core}
 use Rattle.station.specs.declared.Event.TheVariants as event
-use Rattle.station.specs.Whole.{RingStep, Heard}
+use Rattle.station.specs.Whole.{Heard}
 use Rattle.station.specs.Parts.{with_activity, with_pending}
-use Rattle.station.specs.Steps.{marked_at, ongoing_of, waited_of, pause_of, rx_of, bus_activity_of, done_of, transmit_of, heard_of}
+use Rattle.station.specs.Steps.{ongoing_of, waited_of, pause_of, rx_of, bus_activity_of, done_of, transmit_of, heard_of}
 use Rattle.station_hear_listen.specs.HearListen.{sent_by_us, noted_of, witnessed_of, passive_heard, listen_telegram}
 use Rattle.station_listen.specs.Listen.{respond_of, heard_telegram, heard_all, met_too, met_in, received_all, meetings_of, consumed_all}
 use Rattle.station_passive.specs.Passive.{passive_idle_of}
 use Rattle.station_poll.specs.Poll.{dispatch_of, poll_online}
 use Rattle.theorem_sound.specs.Keeps.{either}
 use Rattle.theorem_sound.specs.Listen.{Passive}
-use Rattle.theorem_passive.specs.Statement.{OnlyAnswers, sends_nothing, answers, CoreStays}
+use Rattle.theorem_passive.specs.Statement.{sends_nothing, answers, CoreStays}
+use Rattle.theorem_passive.specs.Idle.{StepIdle}
 
 -- what stays, stays
 pub core_same : (c : Core) → CoreStays c c
@@ -47,15 +47,6 @@ record HeardIdle (c : Core) (r : Ring) (h : Heard) : Type 0 where
   pub parts : CoreStays c h.core
   pub same_own : h.ring.own ≡ r.own
   pub none_met : h.met ≡ 0
-
--- what a step comes to in PassiveIdle, from this core and ring
-pub record StepIdle (c : Core) (r : Ring) (x : RingStep) : Type 0 where
-  pub idle : Passive x.step.state
-  pub parts : CoreStays c x.step.core
-  pub same_own : x.ring.own ≡ r.own
-  pub sends : OnlyAnswers x.step.sent
-  pub tells : x.step.notice ≡ notice.NoNotice
-  pub uncounted : x.step.event ≡ event.Nothing
 
 -- the activity and the pending bytes are not among what stays
 rx_stays : (c : Core) (now : Micros) → CoreStays c (rx_of c now)

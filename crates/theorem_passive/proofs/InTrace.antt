@@ -1,36 +1,16 @@
--- The first theorem over a trace's entries: from PassiveIdle, through entries that are polls.
+-- The proof of the first theorem over a trace's entries: from PassiveIdle, through entries that are polls.
 use Rattle.std.specs.Prelude.{ℕ, ◌≤◌, ◌≡◌, List, [], ◌∷◌}
 use Rattle.std.proofs.Common.{sym, subst, ◌∙◌, arith, ne_eqb}
-use Rattle.codec_answers.specs.declared.Answer.{Answer}
 use Rattle.station.specs.Whole.{Station}
 use Rattle.station_answer.specs.Answer.{Polled}
 use Rattle.station_poll.specs.Poll.{poll_of}
 use Rattle.trace.specs.Entries.{entry_of}
-use Rattle.trace.specs.Trace.{Run, ended, answered}
-use Rattle.theorem_every_trace.specs.Statement.{Entry, along}
-use Rattle.theorem_passive.specs.Statement.{IsPassive, In, StationStays, Answered}
-use Rattle.theorem_passive.proofs.Theorem.{PollIdle, one_idle, same_stays, stays_then}
+use Rattle.trace.specs.Trace.{Run, answered}
+use Rattle.theorem_passive.specs.Theorem.{PollIdle}
+use Rattle.theorem_passive.proofs.Theorem.{one_idle, same_stays, stays_then}
+use Rattle.theorem_passive.specs.InTrace.{RunPassive, PassiveInTrace}
 
--- entries that are polls: a first byte of 3 or more
-abbrev pub Polls : List Entry → Type 0
-Polls [] = Unit {0}
-Polls (e ∷ es) = (3 ≤ e.kind) × Polls es
-
--- each of these answers says no more than it may
-abbrev pub AllAnswered : List Answer → Type 0
-AllAnswered [] = Unit {0}
-AllAnswered (a ∷ more) = Answered a × AllAnswered more
-
--- what a run from the station s has come to
-pub record RunPassive (s : Station) (r : Run) : Type 0 where
-  pub answers_say : AllAnswered r.answers
-  pub in_passive_idle : In 9 r.station
-  pub stays : StationStays s r.station
-
-abbrev pub PassiveInTrace : Type 0
-PassiveInTrace = (es : List Entry) (s : Station) → IsPassive s → In 9 s → Polls es → RunPassive s (along s es)
-
--- such an entry is a poll of its record
+-- an entry with a first byte of 3 or more is a poll of its record
 poll_entry_lem : (s : Station) (kind : ℕ) (bytes : List ℕ) → 3 ≤ kind → entry_of s kind bytes ≡ poll_of s bytes
 unfolding entry_of
 poll_entry_lem s kind bytes l = rw (ne_eqb kind 0 (λ z. omega arith), ne_eqb kind 1 (λ z. omega arith), ne_eqb kind 2 (λ z. omega arith))

@@ -4,10 +4,9 @@ use Rattle.std.proofs.Common.{sym, ap, subst, ◌∙◌, arith}
 use Rattle.bit_times.specs.declared.Micros.{Micros}
 use Rattle.settings.specs.declared.Parameters.{Parameters}
 use Rattle.ring.specs.Ring.{Ring}
-use Rattle.codec_records.specs.Records.{head_of, record_refusal}
+use Rattle.codec_records.specs.Records.{record_refusal}
 use Rattle.codec_answers.specs.declared.Outcome.TheVariants as outcome
 use Rattle.codec_answers.specs.Answers.{refused_answer}
-use Rattle.station.specs.declared.OptionAddress.{OptionAddress}
 use Rattle.station.specs.declared.ConnectivityState.{ConnectivityState}
 use Rattle.station.specs.declared.ConnectivityState.TheVariants as connectivity
 use Rattle.station.specs.declared.State.{State}
@@ -24,9 +23,12 @@ use Rattle.station_answer.specs.Answer.{Polled, step_answer, polled_of, refused_
 use Rattle.station_poll.specs.Poll.{passivated_of, entered_of, poll_online, poll_inner, accepted_after, accepted_poll, poll_of}
 use Rattle.theorem_sound.specs.Keeps.{either}
 use Rattle.theorem_sound.specs.Listen.{Passive}
-use Rattle.theorem_passive.specs.Statement.{IsPassive, In, polled, OnlyAnswers, sends_nothing, CoreStays, StationStays, Answered, NeverTakes, NeverTakesTheToken, NoEntry, NeverClaims}
-use Rattle.theorem_passive.proofs.Idle.{core_same, core_then, StepIdle, poll_idle}
-use Rattle.theorem_passive.proofs.Unclaimed.{NoClaim, Unclaimed, passive_un}
+use Rattle.theorem_passive.specs.Statement.{IsPassive, In, polled, sends_nothing, StationStays, NeverTakesTheToken, NeverClaims}
+use Rattle.theorem_passive.specs.Idle.{StepIdle}
+use Rattle.theorem_passive.proofs.Idle.{core_same, core_then, poll_idle}
+use Rattle.theorem_passive.specs.Unclaimed.{NoClaim, Unclaimed}
+use Rattle.theorem_passive.proofs.Unclaimed.{passive_un}
+use Rattle.theorem_passive.specs.Theorem.{PollIdle}
 
 -- PassiveIdle is the state with number 9
 passive_is : (x : State) → state_number x ≡ 9 → Passive x
@@ -52,12 +54,6 @@ inner_is p x c r now t pending bytes n count e =
 
 inner_passive : (P : RingStep → Type 0) (p : Parameters) (x : State) (c : Core) (r : Ring) (now : Micros) (t : Bool) (pending : ℕ) (bytes : List ℕ) (n count : ℕ) → c.connectivity_state ≡ connectivity.Passive → P (poll_online p (passivated_of x) c r now t pending bytes n count) → P (poll_inner p x c r now t pending bytes n count)
 inner_passive P p x c r now t pending bytes n count e h = subst P (sym (inner_is p x c r now t pending bytes n count e)) h
-
--- what a poll comes to in PassiveIdle, accepted or refused
-pub record PollIdle (s : Station) (x : Polled) : Type 0 where
-  pub nine : state_number x.station.state ≡ 9
-  pub stays : StationStays s x.station
-  pub answered : Answered x.answer
 
 pub same_stays : (s : Station) → StationStays s s
 same_stays s = record { core_stays = core_same s.core; own = refl; settings = refl; counted = refl; applications = refl }

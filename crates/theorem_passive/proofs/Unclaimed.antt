@@ -27,8 +27,6 @@ use Rattle.station.specs.declared.State.{State}
 use Rattle.station.specs.declared.State.TheVariants.{Offline, ListenToken, ActiveIdle, UseToken, ClaimToken, AwaitDataResponse, PassToken, CheckTokenPass, AwaitStatusResponse, PassiveIdle}
 use Rattle.station.specs.declared.Core.{Core}
 use Rattle.station.specs.declared.Event.{Event}
-use Rattle.station.specs.declared.Event.TheVariants as event
-use Rattle.station.specs.declared.Step.{Step}
 use Rattle.station.specs.Whole.{RingStep, Heard}
 use Rattle.station.specs.Parts.{with_activity, with_pending, with_gap, with_next_application, state_number}
 use Rattle.station.specs.Steps.{ongoing_of, waited_of, pause_of, slot_expired_of, rx_of, bus_activity_of, done_of, transmit_of, with_event, heard_of, collision_of}
@@ -43,23 +41,10 @@ use Rattle.station_check_pass.specs.CheckPass.{removal_of, resend_of, check_rece
 use Rattle.station_poll.specs.Poll.{passivated_of, dispatch_of, poll_online}
 use Rattle.theorem_sound.specs.Keeps.{either}
 use Rattle.theorem_sound.proofs.Kept.{hold_online}
-use Rattle.theorem_passive.specs.Statement.{CoreStays}
-use Rattle.theorem_passive.proofs.Idle.{StepIdle, poll_idle}
+use Rattle.theorem_passive.proofs.Idle.{poll_idle}
+use Rattle.theorem_passive.specs.Unclaimed.{NoClaim, Unclaimed}
 
--- what is counted of a step is no entry to ClaimToken
-abbrev pub NoClaim : Event → Type 0
-NoClaim event.Nothing = Unit {0}
-NoClaim event.Claim = ⊥
-NoClaim event.Removal = Unit {0}
-NoClaim (event.Meetings met) = Unit {0}
-
--- a step leaves the connectivity state, ends in ClaimToken only where K holds, and counts no entry to it
-pub record Unclaimed (v : ConnectivityState) (K : Type 0) (s : Step) : Type 0 where
-  pub same : s.core.connectivity_state ≡ v
-  pub claims : state_number s.state ≡ 4 → K
-  pub no_entry : NoClaim s.event
-
--- the same of what telegrams lead to
+-- what `Unclaimed` says of a step, of what telegrams lead to
 record UnclaimedHeard (v : ConnectivityState) (K : Type 0) (h : Heard) : Type 0 where
   pub heard_same : h.core.connectivity_state ≡ v
   pub heard_claims : state_number h.state ≡ 4 → K

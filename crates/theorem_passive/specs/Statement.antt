@@ -1,5 +1,5 @@
--- What a passive station does (document 02, P10), as statements; the proofs are in Theorem.antt, over Idle.antt and Unclaimed.antt.
--- Document 02's words:
+-- What a passive station does (document 02, P10), as statements; the proofs are in proofs/Theorem.antt, over Idle.antt and Unclaimed.antt
+-- there. Document 02's words:
 --
 --   "A spare logger should sit on the bus, answer status requests and never take the token."
 --

@@ -9,8 +9,9 @@ use Rattle.station.specs.declared.PassTokenAttempt.TheVariants.{Third}
 use Rattle.station.specs.declared.Core.{Core}
 use Rattle.station.specs.Steps.{pause_of}
 use Rattle.station_check_pass.specs.CheckPass.{resend_of}
-use Rattle.theorem_silence.proofs.Phases.{holding}
-use Rattle.theorem_silence.proofs.OnePoll.{Ready, Sends, resent}
+use Rattle.theorem_silence.specs.Phases.{holding}
+use Rattle.theorem_silence.specs.OnePoll.{Ready, Sends}
+use Rattle.theorem_silence.proofs.OnePoll.{resent}
 
 -- the third attempt at the only other station fails: it is taken out, and the next token goes to ourselves and is held
 pub third_leaves_nobody : (p : Parameters) (c : Core) (r : Ring) (now : Micros) (x : ℕ) → Ready p c r (x ∷ []) → (pause_of p c now).over ≡ true → Sends p now (Token p.address) (holding []) (resend_of p c r now Third)

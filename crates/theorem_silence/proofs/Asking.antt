@@ -31,10 +31,14 @@ use Rattle.station_answer.specs.Counted.{counted_of}
 use Rattle.station_answer.specs.Answer.{Polled, polled_of, step_answer}
 use Rattle.theorem_silence.specs.Silence.{AllQuiet, told, sent_until, counted_in, slot_after, tokens}
 use Rattle.theorem_silence.specs.Times.{Slotted, slotted, counted_free, counted_paused}
-use Rattle.theorem_silence.proofs.Phases.{Phase, starting, holding, next, told_next, todo, end_ring, Under, under_or_held, todo_next, end_next, tokens_length}
-use Rattle.theorem_silence.proofs.OnePoll.{At, Turn, sends, stays, quiet_step, not_counted, not_counted_busy, turn}
-use Rattle.theorem_silence.proofs.Theorem.{station_of, clock_of, poll_at, counted_on, one_less, started, run_of, silence}
+use Rattle.theorem_silence.specs.Phases.{Phase, starting, holding, next, todo, end_ring, Under}
+use Rattle.theorem_silence.proofs.Phases.{told_next, under_or_held, todo_next, end_next, tokens_length}
+use Rattle.theorem_silence.specs.OnePoll.{At, Turn, sends, stays, quiet_step}
+use Rattle.theorem_silence.proofs.OnePoll.{not_counted, not_counted_busy, turn}
+use Rattle.theorem_silence.specs.Theorem.{station_of, clock_of}
+use Rattle.theorem_silence.proofs.Theorem.{poll_at, counted_on, one_less, started, run_of, silence}
 use Rattle.theorem_silence.specs.Letter.{after_polls, sent_in, wanted, asked_sent, in_hold_time, Asks, four_tokens, LetterTheorem}
+use Rattle.theorem_silence.specs.Asking.{Found, FoundAt}
 
 -- a step that sends this, leaves this end of hold, and passes the token on if it sends nothing
 record Sends (out : Sent) (end : Micros) (x : Step) : Type 0 where
@@ -167,17 +171,7 @@ module _ (os : List ℕ) (p : Parameters) (w : Slotted p) (s : State) (c : Core)
       (λ b. rw b (waiting (not_counted_busy counts (busy_of c.last_bus_activity now) (counted_free p w c now) b) refl (still s (with_activity c (marked_at c.last_bus_activity now)) refl a.1.held)))
       (λ b. rw (b, dispatch_use) (cases (pause_of p timed now).over over_hold waits_hold))
 
--- One of these polls asks the applications; those before it have sent this and nothing else, and have left these others in the ring.
-pub record Found (p : Parameters) (out : List Sent) (os : List ℕ) (s : Station) (records : List (List ℕ)) : Type 0 where
-  pub before : List (List ℕ)
-  pub asking : List ℕ
-  pub rest : List (List ℕ)
-  pub are : records ≡ before ++ (asking ∷ rest)
-  pub sent : sent_in s before ≡ out
-  pub place : At (holding os) p (after_polls s before).state (after_polls s before).core (after_polls s before).token_ring
-  pub asks : Asks (after_polls s before) asking
-
--- it is found in what follows a first poll
+-- what is found in the polls that follow a first one is found with it, too
 polls_on_lem : (p : Parameters) (n : ℕ) (ks : Counts) (s : State) (c : Core) (r : Ring) (bytes : List ℕ) (later : List (List ℕ)) (x : RingStep) → poll_of (station_of p n ks s c r) bytes ≡ polled_of p n ks x → after_polls (station_of p n ks s c r) (bytes ∷ later) ≡ after_polls (station_of p n (counted_of ks x.step.event) x.step.state x.step.core x.ring) later
 unfolding after_polls polled_of
 polls_on_lem p n ks s c r bytes later x is = ap (λ (y : Polled). after_polls y.station later) is
@@ -252,10 +246,6 @@ found_holding [] os p w n q ks s c r a l = absurd (omega arith)
 found_holding (bytes ∷ later) os p w n q ks s c r a l =
     held_poll os p n ks s c r bytes later (quiet_step p s c r (clock_of bytes) bytes n) a (poll_at (holding os) p n ks s c r bytes q.0 a)
     (hold_turn os p w s c r (clock_of bytes) bytes n a) l (λ ms y d t b k. found_holding later os p w n q.1 ms y d t b k)
-
--- from a place, with what is found: all that was to be sent is sent before
-abbrev FoundAt : Parameters → ℕ → Phase → Counts → State → Core → Ring → List (List ℕ) → Type 0
-FoundAt p n ph ks s c r records = suc (length (todo p.address ph)) ≤ counted_in (station_of p n ks s c r) records → Found p (todo p.address ph) (end_ring ph) (station_of p n ks s c r) records
 
 -- from any place: what is still to be sent is sent first
 turned : (ph : Phase) (p : Parameters) (n : ℕ) (ks : Counts) (s : State) (c : Core) (r : Ring) (bytes : List ℕ) (later : List (List ℕ)) (x : RingStep) → Under ph → poll_of (station_of p n ks s c r) bytes ≡ polled_of p n ks x → Turn p (clock_of bytes) ph (counts_at p c bytes) x → ((to : Phase) (ms : Counts) (y : State) (d : Core) (t : Ring) → At to p y d t → FoundAt p n to ms y d t later) → FoundAt p n ph ks s c r (bytes ∷ later)

@@ -5,6 +5,5 @@ pub mod Theorem
 pub mod Question
 pub mod Sharp
 pub mod Asking
-pub mod PremisesMet
 pub mod Made
 pub mod Shown

@@ -1,6 +1,6 @@
 -- The stations that the calls of Scripts make, stage by stage. What does not depend on the ring is computed for every ring; the ring
 -- is told by its members.
-use Rattle.std.specs.Prelude.{ℕ, zero, suc, ◌+◌, ◌*◌, ◌/◌, ◌%◌, ◌^◌, ◌≤◌, ◌<◌, true, false, not, ◌≡◌, refl, List, [], ◌∷◌, ◌++◌, eqb}
+use Rattle.std.specs.Prelude.{ℕ, zero, suc, ◌+◌, ◌*◌, ◌/◌, ◌%◌, ◌^◌, ◌≤◌, ◌<◌, true, not, ◌≡◌, refl, List, [], ◌∷◌, ◌++◌, eqb}
 use Rattle.std.proofs.Common.{ap, ◌∙◌, lit<, arith, lt-ltb, eq-eqb, ne_eqb}
 use Rattle.std.proofs.lemmas.Bool.{lt-leb}
 use Rattle.codec_fields.specs.Fields.{field_of, be_from, load_of, zeros_or14}
@@ -9,21 +9,18 @@ use Rattle.settings.specs.Settings.{slot_time_of, token_lost_of, rotation_time_o
 use Rattle.ring_addresses.specs.Set.{walk, nearest, between_of, keeps, same_set}
 use Rattle.ring_addresses.specs.SetLaws.{same_then}
 use Rattle.ring.specs.declared.GapState.{GapState}
-use Rattle.ring.specs.declared.GapState.TheVariants.{Waiting, DoPoll}
 use Rattle.ring_links.specs.Links.{listed, after_of, before_of, link_at, tab, links_of, link_of, unlink_of, behind_of, insert_of, sweep_of, relink_of, follows_of, confirms_of}
-use Rattle.ring.specs.Ring.{Ring, has, make, fresh_of, round_of, laps_of, witness_of, claim_of, add_of, others, next_of, polls, candidate_of, gap_of, counted}
-use Rattle.ring.proofs.Laws.{SoundRing, fresh_has, fresh_made, sound_fresh}
-use Rattle.ring.proofs.Worked.{witness_all, kept_after, addresses_only, witnessed_own}
+use Rattle.ring.specs.Ring.{Ring, has, make, fresh_of, round_of, laps_of, witness_of, claim_of, others, next_of, polls, candidate_of, gap_of, counted}
+use Rattle.ring.specs.Laws.{SoundRing}
+use Rattle.ring.proofs.Laws.{fresh_has, fresh_made, sound_fresh}
+use Rattle.ring.specs.Worked.{witness_all, kept_after, addresses_only}
+use Rattle.ring.proofs.Worked.{witnessed_own}
 use Rattle.codec_telegrams.specs.declared.Telegram.TheVariants as telegram
 use Rattle.codec_telegrams.specs.Words as words
 use Rattle.codec_decisions.specs.Decisions as decisions
 use Rattle.codec_records.specs.declared.Head.{Head}
 use Rattle.codec_records.specs.Records as records
-use Rattle.station.specs.declared.ConnectivityState.TheVariants as connectivity
-use Rattle.station.specs.declared.Activity.TheVariants as activity
-use Rattle.station.specs.declared.PassTokenAttempt.TheVariants.{First}
 use Rattle.station.specs.declared.State.{State}
-use Rattle.station.specs.declared.State.TheVariants.{PassToken, AwaitStatusResponse}
 use Rattle.station.specs.declared.Core.{Core}
 use Rattle.station.specs.Whole.{Station}
 use Rattle.station.specs.Parts.{fresh_station, fresh_core, with_activity, with_gap, with_pending, with_token_times, with_next_application, with_connectivity, is_offline}
@@ -41,41 +38,11 @@ use Rattle.station_answer.specs.Answer as answering
 use Rattle.station_command.specs.Command as commands
 use Rattle.station_poll.specs.Poll as polling
 use Rattle.theorem_sound.specs.Sound.{Call, poll, after, run}
-use Rattle.theorem_silence.proofs.Theorem.{station_of}
 use Rattle.theorem_silence.specs.Rings.{members_of}
-use Rattle.theorem_silence.specs.Scripts.{token, declines, record_of, response_of1, poll_hearing, poll_silent, lowest, hears_all, claims, begins_look, begins_question}
-
--- the station with this state, core and ring, which claimed and met its own address so often and removed nobody
-abbrev pub lowest_with : ℕ → ℕ → State → Core → Ring → Station
-lowest_with claimed met s c r = station_of lowest 1 (record { claims = claimed; removals = 0; meetings = met }) s c r
-
--- an online core: the last token time, the end of hold, last activity, gap state
-abbrev pub core_at : ℕ → ℕ → ℕ → GapState → Core
-core_at token hold last gap =
-    record { last_token_time = record { 0 = token }; end_token_hold_time = record { 0 = hold }; last_bus_activity = activity.At (record { 0 = last }); gap_state = gap; pending_bytes = 0; next_application = 0; connectivity_state = connectivity.Online }
+use Rattle.theorem_silence.specs.Scripts.{token, declines, record_of, poll_silent, lowest, hears_all, begins_question}
+use Rattle.theorem_silence.specs.Made.{lowest_with, core_at, pass_question, awaits_one, begun_look, ring_all, ring_alone, begun_question, ring_but_one, FirstRuns, Members, SaysToken, Claimed, OneAnswers}
 
 -- The stations on the way, each with any ring.
-
--- to a pass with the look at the gap: it listens, its last activity at this time; then it starts the pass
-abbrev pub listens_look : ℕ → Ring → Station
-listens_look last r = lowest_with 0 0 steps.to_listen_token (core_at 0 0 last (Waiting 0)) r
-
-abbrev pub pass_look : Ring → Station
-pass_look r = lowest_with 1 0 (PassToken true First) (core_at 3500 64872 3566 (Waiting 0)) r
-
--- to a pass after a gap question: it listens, the gap count at 2; it starts a pass, in which the question is due; it awaits the answer
--- of 1; it has it and starts the pass
-abbrev pub listens_question : ℕ → Ring → Station
-listens_question last r = lowest_with 1 2 steps.to_listen_token (core_at 3400 67872 last (Waiting 2)) r
-
-abbrev pub pass_question : Ring → Station
-pass_question r = lowest_with 2 2 (PassToken true First) (core_at 7600 68272 7666 (Waiting 2)) r
-
-abbrev pub awaits_one : Ring → Station
-awaits_one r = lowest_with 2 2 (AwaitStatusResponse 1) (core_at 7600 68272 8132 (DoPoll 1)) r
-
-abbrev pub pass_answered : Ring → Station
-pass_answered r = lowest_with 2 2 (PassToken false First) (core_at 7600 68272 8300 (DoPoll 1)) r
 
 -- a station by its state, its core and whatever ring it has
 by_parts : (s : Station) (claimed met : ℕ) (x : State) (c : Core) → s.state ≡ x → s.core ≡ c → s.p ≡ lowest → s.counts ≡ record { claims = claimed; removals = 0; meetings = met } → s.applications ≡ 1 → s ≡ lowest_with claimed met x c s.token_ring
@@ -92,30 +59,6 @@ calls_on [] ds s = refl
 calls_on (c ∷ cs) ds s = calls_on cs ds (after s c)
 
 -- The start, and who is heard.
-
--- a pass with the look at the gap: online and listening from time 0; then all are heard
-abbrev pub begun_look : Station
-begun_look = listens_look 0 (fresh_of 0)
-
-abbrev pub ring_all : Ring
-ring_all = (run begun_look (hears_all 100 1 7)).token_ring
-
--- a pass after a gap question: the token was passed twice, and it listens again; then all but 1 are heard
-abbrev pub ring_alone : Ring
-ring_alone = (run (fresh_station lowest 1) begins_question).token_ring
-
-abbrev pub begun_question : Station
-begun_question = listens_question 4100 ring_alone
-
-abbrev pub ring_but_one : Ring
-ring_but_one = (run begun_question (hears_all 4200 2 6)).token_ring
-
--- these four runs, worked out from the definitions, but for the ring
-pub record FirstRuns : Type 0 where
-  pub look : run (fresh_station lowest 1) begins_look ≡ begun_look
-  pub heard_all : run begun_look (hears_all 100 1 7) ≡ listens_look 800 ring_all
-  pub question : run (fresh_station lowest 1) begins_question ≡ begun_question
-  pub heard_but_one : run begun_question (hears_all 4200 2 6) ≡ listens_question 4900 ring_but_one
 
 pub first_runs : FirstRuns
 unfolding walk nearest between_of same_set round_of laps_of listed after_of before_of link_at tab links_of link_of unlink_of behind_of insert_of sweep_of relink_of follows_of confirms_of counted has make fresh_of witness_of claim_of others next_of rounded time_of slot_time_of token_lost_of rotation_time_of with_activity with_gap with_pending with_token_times with_next_application with_connectivity is_offline after run field_of be_from load_of zeros_or14 words.response_state_of words.telegram_refusal words.telegram_of decisions.length_refusal decisions.decision_refusal decisions.decision_of records.head_of records.telegram_at records.decision_at records.entry_refusal records.words_refusal records.record_refusal steps.known_at steps.elapsed_of steps.waited_of steps.marked_at steps.busy_of steps.ongoing_of steps.bus_activity_of steps.done_of polling.connected_of polling.entered_of polling.dispatch_of polling.poll_online polling.poll_inner polling.accepted_after polling.accepted_poll polling.poll_of raised_by counted_of answering.polled_of steps.rx_of steps.token_lost_wait_of steps.heard_of hear.sent_by_us hear.noted_of hear.witnessed_of hear.overheard_of steps.collision_of hear.listen_heard hear.listen_telegram listening.heard_telegram listening.heard_all listening.received_all listening.met_too listening.met_in listening.meetings_of listening.consumed_all listening.listen_token_on listening.handle_lost_token listening.listen_token_of steps.pause_of steps.sent_at steps.transmit_of steps.with_event steps.with_token_time claiming.claim_next claiming.claim_token_of holding.declines_on holding.declines_at holding.use_pass_of holding.app_transmit_of holding.first_or holding.turn_of holding.asked_from holding.asked_of holding.hold_less holding.capped holding.end_of holding.hold_end_of holding.holds_of holding.use_apps_after holding.use_apps_of holding.use_token_timed holding.use_token_of passing.gap_advanced passing.pass_sent_on passing.pass_send passing.pass_poll_on passing.pass_poll passing.pass_token_of fresh_station fresh_core commands.online_of commands.connect_of holding.valid_response holding.received_of holding.await_data_of listening.active_idle_on listening.active_idle_of active.active_collided active.token_heard active.active_heard active.handle_telegram
@@ -153,14 +96,6 @@ tested : Tested
 unfolding walk nearest between_of keeps same_set round_of laps_of listed after_of before_of link_at tab links_of link_of unlink_of behind_of insert_of sweep_of relink_of follows_of confirms_of counted has make fresh_of witness_of claim_of others next_of rounded time_of slot_time_of token_lost_of rotation_time_of with_activity with_gap with_pending with_token_times with_next_application with_connectivity is_offline after run field_of be_from load_of zeros_or14 words.response_state_of words.telegram_refusal words.telegram_of decisions.length_refusal decisions.decision_refusal decisions.decision_of records.head_of records.telegram_at records.decision_at records.entry_refusal records.words_refusal records.record_refusal steps.known_at steps.elapsed_of steps.waited_of steps.marked_at steps.busy_of steps.ongoing_of steps.bus_activity_of steps.done_of polling.connected_of polling.entered_of polling.dispatch_of polling.poll_online polling.poll_inner polling.accepted_after polling.accepted_poll polling.poll_of raised_by counted_of answering.polled_of steps.rx_of steps.token_lost_wait_of steps.heard_of hear.sent_by_us hear.noted_of hear.witnessed_of hear.overheard_of steps.collision_of hear.listen_heard hear.listen_telegram listening.heard_telegram listening.heard_all listening.received_all listening.met_too listening.met_in listening.meetings_of listening.consumed_all listening.listen_token_on listening.handle_lost_token listening.listen_token_of steps.pause_of steps.sent_at steps.transmit_of steps.with_event steps.with_token_time claiming.claim_next claiming.claim_token_of holding.declines_on holding.declines_at holding.use_pass_of holding.app_transmit_of holding.first_or holding.turn_of holding.asked_from holding.asked_of holding.hold_less holding.capped holding.end_of holding.hold_end_of holding.holds_of holding.use_apps_after holding.use_apps_of holding.use_token_timed holding.use_token_of passing.gap_advanced passing.pass_sent_on passing.pass_send passing.pass_poll_on passing.pass_poll passing.pass_token_of fresh_station fresh_core commands.online_of commands.connect_of holding.valid_response holding.received_of holding.await_data_of listening.active_idle_on listening.active_idle_of active.active_collided active.token_heard active.active_heard active.handle_telegram
 tested = record { all = refl; all_low = refl; but_one = refl; but_one_low = refl; alone = refl; own_alone = refl }
 
-pub record Members : Type 0 where
-  pub all : (x : ℕ) → x < 126 → has ring_all x ≡ true
-  pub alone : (x : ℕ) → x < 126 → has ring_alone x ≡ eqb x 0
-  pub but_one : (x : ℕ) → x < 126 → has ring_but_one x ≡ not (eqb x 1)
-  pub own_all : ring_all.own ≡ 0
-  pub own_alone : ring_alone.own ≡ 0
-  pub own_but_one : ring_but_one.own ≡ 0
-
 -- the rings' members; the ring that heard nobody is sound, as all that calls make
 pub members_if : SoundRing ring_alone → Members
 members_if sound =
@@ -175,12 +110,6 @@ members_if sound =
     }
 
 -- The token from k to us.
-
--- what a record says that reports one token, from k to 0
-pub record SaysToken (bytes : List ℕ) (clock k : ℕ) : Type 0 where
-  pub accepted : records.record_refusal bytes 1 ≡ 0
-  pub head : records.head_of bytes ≡ record { clock = clock; pending = 0; telegrams = 1; transmitting = false }
-  pub telegram : records.telegram_at bytes 1 0 ≡ telegram.Token 0 k
 
 tokens_same : (d s k : ℕ) → d ≡ 0 → s ≡ k → telegram.Token d s ≡ telegram.Token 0 k
 tokens_same d s k a b = cc
@@ -218,13 +147,6 @@ cut_heard bytes clock k said l claimed met time hold last gap r later soon =
 
 -- What follows does not look at the ring but for the question.
 
--- the token is claimed, sent twice and used
-pub record Claimed (r : Ring) : Type 0 where
-  pub look_none : run (listens_look 0 r) (claims 3300) ≡ pass_look (claim_of (claim_of r))
-  pub look_heard : run (listens_look 900 r) (claims 3300) ≡ pass_look (claim_of (claim_of r))
-  pub question_none : run (listens_question 4100 r) (claims 7400) ≡ pass_question (claim_of (claim_of r))
-  pub question_heard : run (listens_question 5000 r) (claims 7400) ≡ pass_question (claim_of (claim_of r))
-
 pub claimed : (r : Ring) → Claimed r
 unfolding rounded time_of slot_time_of token_lost_of rotation_time_of with_activity with_gap with_pending with_token_times with_next_application with_connectivity is_offline after run field_of be_from load_of zeros_or14 words.response_state_of words.telegram_refusal words.telegram_of decisions.length_refusal decisions.decision_refusal decisions.decision_of records.head_of records.telegram_at records.decision_at records.entry_refusal records.words_refusal records.record_refusal steps.known_at steps.elapsed_of steps.waited_of steps.marked_at steps.busy_of steps.ongoing_of steps.bus_activity_of steps.done_of polling.connected_of polling.entered_of polling.dispatch_of polling.poll_online polling.poll_inner polling.accepted_after polling.accepted_poll polling.poll_of raised_by counted_of answering.polled_of steps.rx_of steps.token_lost_wait_of steps.heard_of hear.sent_by_us hear.noted_of hear.witnessed_of hear.overheard_of steps.collision_of hear.listen_heard hear.listen_telegram listening.heard_telegram listening.heard_all listening.received_all listening.met_too listening.met_in listening.meetings_of listening.consumed_all listening.listen_token_on listening.handle_lost_token listening.listen_token_of steps.pause_of steps.sent_at steps.transmit_of steps.with_event steps.with_token_time claiming.claim_next claiming.claim_token_of holding.declines_on holding.declines_at holding.use_pass_of holding.app_transmit_of holding.first_or holding.turn_of holding.asked_from holding.asked_of holding.hold_less holding.capped holding.end_of holding.hold_end_of holding.holds_of holding.use_apps_after holding.use_apps_of holding.use_token_timed holding.use_token_of
 claimed r = record { look_none = refl; look_heard = refl; question_none = refl; question_heard = refl }
@@ -233,10 +155,6 @@ claimed r = record { look_none = refl; look_heard = refl; question_none = refl; 
 pub one_gets_asked : (r : Ring) → polls r 1 ≡ true → run (pass_question r) (poll_silent 8000 ∷ []) ≡ awaits_one r
 unfolding rounded time_of slot_time_of token_lost_of rotation_time_of with_activity with_gap with_pending with_token_times with_next_application with_connectivity is_offline after run field_of be_from load_of zeros_or14 words.response_state_of words.telegram_refusal words.telegram_of decisions.length_refusal decisions.decision_refusal decisions.decision_of records.head_of records.telegram_at records.decision_at records.entry_refusal records.words_refusal records.record_refusal steps.known_at steps.elapsed_of steps.waited_of steps.marked_at steps.busy_of steps.ongoing_of steps.bus_activity_of steps.done_of polling.connected_of polling.entered_of polling.dispatch_of polling.poll_online polling.poll_inner polling.accepted_after polling.accepted_poll polling.poll_of raised_by counted_of answering.polled_of steps.pause_of steps.sent_at steps.transmit_of steps.with_event steps.with_token_time claiming.claim_next claiming.claim_token_of passing.gap_advanced passing.pass_sent_on passing.pass_send passing.pass_poll_on passing.pass_poll passing.pass_token_of gap_of candidate_of status.status_ring_on status.status_ring status.status_answered status.status_received status.await_status_of
 one_gets_asked r e = rw e
-
-pub record OneAnswers (r : Ring) : Type 0 where
-  pub in_ring : run (awaits_one r) (poll_hearing 8300 (response_of1 3 ∷ []) ∷ []) ≡ pass_answered (add_of r 1)
-  pub not_ready : run (awaits_one r) (poll_hearing 8300 (response_of1 1 ∷ []) ∷ []) ≡ pass_answered r
 
 pub one_answers : (r : Ring) → OneAnswers r
 unfolding rounded time_of slot_time_of token_lost_of rotation_time_of with_activity with_gap with_pending with_token_times with_next_application with_connectivity is_offline after run field_of be_from load_of zeros_or14 words.response_state_of words.telegram_refusal words.telegram_of decisions.length_refusal decisions.decision_refusal decisions.decision_of records.head_of records.telegram_at records.decision_at records.entry_refusal records.words_refusal records.record_refusal steps.known_at steps.elapsed_of steps.waited_of steps.marked_at steps.busy_of steps.ongoing_of steps.bus_activity_of steps.done_of polling.connected_of polling.entered_of polling.dispatch_of polling.poll_online polling.poll_inner polling.accepted_after polling.accepted_poll polling.poll_of raised_by counted_of answering.polled_of steps.rx_of gap_of candidate_of status.status_ring_on status.status_ring status.status_answered status.status_received status.await_status_of

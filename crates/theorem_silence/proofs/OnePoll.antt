@@ -1,5 +1,5 @@
 -- One silent poll at each place: the station stays where it is, or sends the one telegram that is next.
-use Rattle.std.specs.Prelude.{ℕ, Bool, true, false, cond, ◌≡◌, List, [], ◌∷◌}
+use Rattle.std.specs.Prelude.{ℕ, Bool, true, false, ◌≡◌, List, [], ◌∷◌}
 use Rattle.std.proofs.Math.Path.{refl, ap}
 use Rattle.std.proofs.Common.{sym, ◌∙◌}
 use borrow.Table.Steps.{cases}
@@ -12,11 +12,8 @@ use Rattle.ring.specs.declared.GapState.{GapState}
 use Rattle.ring.specs.declared.GapState.TheVariants.{Waiting, DoPoll}
 use Rattle.ring.specs.Ring.{Ring, others, next_of, witness_of, remove_of, claim_of}
 use Rattle.ring.proofs.Laws.{next_is, next_alone, others_witness, others_remove, others_claim}
-use Rattle.codec_answers.specs.declared.Outcome.TheVariants as outcome
 use Rattle.codec_answers.specs.declared.Sent.{Sent}
 use Rattle.codec_answers.specs.declared.Sent.TheVariants as sent
-use Rattle.codec_answers.specs.Answers.{sent_bytes}
-use Rattle.station.specs.declared.ConnectivityState.TheVariants as connectivity
 use Rattle.station.specs.declared.Activity.{Activity}
 use Rattle.station.specs.declared.PassTokenAttempt.{PassTokenAttempt}
 use Rattle.station.specs.declared.PassTokenAttempt.TheVariants.{First, Second, Third}
@@ -26,54 +23,18 @@ use Rattle.station.specs.declared.Core.{Core}
 use Rattle.station.specs.declared.Event.{Event}
 use Rattle.station.specs.Whole.{RingStep}
 use Rattle.station.specs.Parts.{with_activity, with_gap}
-use Rattle.station.specs.Steps.{to_use_token, marked_at, sent_at, busy_of, waited_of, pause_of, slot_expired_of, done_of, transmit_of, with_event, ring_step_of}
+use Rattle.station.specs.Steps.{busy_of, waited_of, pause_of, slot_expired_of, done_of, transmit_of, with_event}
 use Rattle.station_claim.specs.Claim.{claim_next, claim_token_of}
 use Rattle.station_pass.specs.Pass.{gap_advanced, destination_of, pass_sent_on, pass_send, pass_poll_on, pass_poll, pass_token_of}
 use Rattle.station_pass.specs.Laws.{destination_is, removed_alone}
 use Rattle.station_await_status.specs.AwaitStatus.{await_status_of}
 use Rattle.station_check_pass.specs.CheckPass.{resend_of, check_received, check_token_pass_of}
 use Rattle.station_poll.specs.Poll.{dispatch_of}
-use Rattle.theorem_sound.specs.Keeps.{RingGood, witness_good, remove_good, claim_good}
+use Rattle.theorem_sound.specs.Keeps.{witness_good, remove_good, claim_good}
 use Rattle.theorem_silence.specs.Silence.{asks_on, gap_due, slot_after}
 use Rattle.theorem_silence.specs.Times.{Slotted, counted_free, counted_paused, counted_expired, expired_paused}
-use Rattle.theorem_silence.proofs.Phases.{Phase, asking, awaiting, starting, checking, claiming, holding, sent_to, behind, next, next_sent, in_ring, Under}
-
--- what holds at every place: online, a sound ring with the settings' address for its own, and these others
-pub record Ready (p : Parameters) (c : Core) (r : Ring) (os : List ℕ) : Type 0 where
-  pub on : c.connectivity_state ≡ connectivity.Online
-  pub ring_good : RingGood p r
-  pub are : others r ≡ os
-
--- the state in which a token pass starts with a gap question to this address due
-pub record Asking (p : Parameters) (a : ℕ) (s : State) (c : Core) (r : Ring) : Type 0 where
-  pub attempt : PassTokenAttempt
-  pub passing : s ≡ PassToken true attempt
-  pub question : gap_advanced p r c.gap_state ≡ DoPoll a
-
--- the state that awaits the answer to one
-pub record Awaiting (s : State) : Type 0 where
-  pub address : ℕ
-  pub awaiting_it : s ≡ AwaitStatusResponse address
-
--- the state in which a token pass starts at this attempt with no gap question due
-pub record Passing (p : Parameters) (attempt : PassTokenAttempt) (s : State) (c : Core) (r : Ring) : Type 0 where
-  pub gap : Bool
-  pub passing : s ≡ PassToken gap attempt
-  pub no_question : gap_due p c r gap ≡ false
-
--- the state that holds a new token
-pub record Holding (s : State) : Type 0 where
-  pub since : Micros
-  pub held : s ≡ to_use_token since
-
--- a station, by its state, core and ring, is at a place
-abbrev pub At : Phase → Parameters → State → Core → Ring → Type 0
-At (asking a os) p s c r = Ready p c r os × Asking p a s c r
-At (awaiting os) p s c r = Ready p c r os × Awaiting s
-At (starting attempt os) p s c r = Ready p c r os × Passing p attempt s c r
-At (checking attempt os) p s c r = Ready p c r os × (s ≡ CheckTokenPass attempt)
-At (claiming first os) p s c r = Ready p c r os × (s ≡ ClaimToken first)
-At (holding os) p s c r = Ready p c r os × Holding s
+use Rattle.theorem_silence.specs.Phases.{Phase, asking, awaiting, starting, checking, claiming, holding, sent_to, behind, next, next_sent, in_ring, Under}
+use Rattle.theorem_silence.specs.OnePoll.{Ready, Asking, Passing, At, Sends, Stays, Turn, sends, stays, Due, quiet_step}
 
 pub ready_at : (ph : Phase) (p : Parameters) (s : State) (c : Core) (r : Ring) → At ph p s c r → Ready p c r (in_ring ph)
 ready_at (asking a os) p s c r g = g.0
@@ -82,22 +43,6 @@ ready_at (starting attempt os) p s c r g = g.0
 ready_at (checking attempt os) p s c r g = g.0
 ready_at (claiming first os) p s c r g = g.0
 ready_at (holding os) p s c r g = g.0
-
--- a step that sends this telegram now and leads to this place
-pub record Sends (p : Parameters) (now : Micros) (out : Sent) (ph : Phase) (x : RingStep) : Type 0 where
-  pub telegram : x.step.sent ≡ out
-  pub marks : x.step.core.last_bus_activity ≡ sent_at p now (sent_bytes out)
-  pub place : At ph p x.step.state x.step.core x.ring
-
--- a step that sends nothing and stays at this place
-pub record Stays (p : Parameters) (ph : Phase) (x : RingStep) : Type 0 where
-  pub nothing : x.step.sent ≡ sent.Nothing
-  pub place : At ph p x.step.state x.step.core x.ring
-
--- one poll at a place, with whether it is counted
-pub data Turn (p : Parameters) (now : Micros) (ph : Phase) (counts : Bool) (x : RingStep) : Type 0 where
-  sends : Sends p now (next_sent p.address ph) (next ph) x → Turn p now ph counts x
-  stays : counts ≡ false → Stays p ph x → Turn p now ph counts x
 
 -- whom the token is passed to: the first of the others, ourselves if there is none
 goes_to : (p : Parameters) (c : Core) (r : Ring) (os : List ℕ) → Ready p c r os → destination_of p.address (next_of r) ≡ head_or p.address os
@@ -197,12 +142,6 @@ unfolding pause_of
 paused_asked p c r now k a os w due e =
     rw (asked_step p c r now k a due e) (asked_now p _ r now k a os (gap_ready p _ r os _ (known_ready p c r os now _ w)))
 
--- whom a question that is due goes to; the pass looks at the gap
-pub record Due (p : Parameters) (c : Core) (r : Ring) (gap : Bool) : Type 0 where
-  pub whom : ℕ
-  pub looks : gap ≡ true
-  pub is_due : gap_advanced p r c.gap_state ≡ DoPoll whom
-
 pub due_whom : (p : Parameters) (c : Core) (r : Ring) (gap : Bool) → gap_due p c r gap ≡ true → Due p c r gap
 unfolding gap_due
 due_whom p c r true e = go (gap_advanced p r c.gap_state) refl e
@@ -261,13 +200,6 @@ resent Second p c r now os w e = again p c r now Third os w e
 resent Third p c r now os w e = counted_too _ _ (again p c _ now First (behind os) (taken_out p c r os w) e)
 
 -- What a silent poll comes to.
-
--- the step of a silent poll: while a transmission goes on nothing happens, else what the state asks for
-unfoldable pub quiet_step : Parameters → State → Core → Ring → Micros → List ℕ → ℕ → RingStep
-quiet_step p s c r now bytes n =
-    cond (busy_of c.last_bus_activity now)
-    (ring_step_of (done_of s (with_activity c (marked_at c.last_bus_activity now)) outcome.Transmission) r)
-    (dispatch_of p s c r now bytes n 0)
 
 -- a test that would be true of a counted poll is false: the poll is not counted
 pub not_counted : (counts test : Bool) → (counts ≡ true → test ≡ true) → test ≡ false → counts ≡ false

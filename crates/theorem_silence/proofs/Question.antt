@@ -19,8 +19,10 @@ use Rattle.station_answer.specs.Answer.{Polled, polled_of, step_answer}
 use Rattle.station_poll.specs.Poll.{poll_of}
 use Rattle.theorem_silence.specs.Silence.{gap_due, Online, Quiet, slot_after, counted}
 use Rattle.theorem_silence.specs.Times.{Slotted, slotted, counted_free, counted_paused}
-use Rattle.theorem_silence.proofs.OnePoll.{quiet_step, dispatch_pass, asked_step, due_whom}
-use Rattle.theorem_silence.proofs.Theorem.{clock_of, poll_is, connected_pass}
+use Rattle.theorem_silence.specs.OnePoll.{quiet_step}
+use Rattle.theorem_silence.proofs.OnePoll.{dispatch_pass, asked_step, due_whom}
+use Rattle.theorem_silence.specs.Theorem.{clock_of}
+use Rattle.theorem_silence.proofs.Theorem.{poll_is, connected_pass}
 
 -- a pass whose pause is over and that has a question due
 asked_over : (p : Parameters) (c : Core) (r : Ring) (now : Micros) (gap : Bool) (k : PassTokenAttempt) → gap_due p c r gap ≡ true → (pause_of p c now).over ≡ true → (a : ℕ) × ((pass_token_of p c r now gap k).step.sent ≡ StatusRequest a)

@@ -4,7 +4,7 @@ use Rattle.std.proofs.Common.{sym, ap, ◌∙◌, length-append, arith, suc-mul,
 use Rattle.std.proofs.Math.Path.{subst}
 use borrow.Table.Steps.{cases}
 use Rattle.bit_times.specs.declared.Micros.{Micros}
-use Rattle.bit_times.specs.Times.{byte_bits, time_of}
+use Rattle.bit_times.specs.Times.{byte_bits}
 use Rattle.bit_times.proofs.Laws.{time_grows}
 use Rattle.settings.specs.declared.Parameters.{Parameters}
 use Rattle.settings.specs.Settings.{slot_time_of}
@@ -24,11 +24,15 @@ use Rattle.station_answer.specs.Counted.{counted_of}
 use Rattle.station_answer.specs.Answer.{Polled, polled_of}
 use Rattle.station_poll.specs.Poll.{poll_of}
 use Rattle.theorem_silence.specs.Silence.{Start, AllQuiet, holds_token, until, told, sent_until, counted, counted_in, slot_after}
-use Rattle.theorem_silence.specs.Times.{Slotted, slotted, pause_time, after_shorter}
-use Rattle.theorem_silence.proofs.Phases.{Phase, starting, next, next_sent, todo, Under, some_under, longest, longest_now, longest_next, todo_next, tokens_length}
-use Rattle.theorem_silence.proofs.OnePoll.{At, Sends, quiet_step, turn}
-use Rattle.theorem_silence.proofs.Theorem.{station_of, clock_of, poll_at, counted_sends, RunFrom, started, run_of, silence}
+use Rattle.theorem_silence.specs.Times.{Slotted, slotted, after_shorter}
+use Rattle.theorem_silence.specs.Phases.{Phase, starting, next, next_sent, todo, Under, longest}
+use Rattle.theorem_silence.proofs.Phases.{some_under, longest_now, longest_next, todo_next, tokens_length}
+use Rattle.theorem_silence.specs.OnePoll.{At, Sends, quiet_step}
+use Rattle.theorem_silence.proofs.OnePoll.{turn}
+use Rattle.theorem_silence.specs.Theorem.{station_of, clock_of, RunFrom}
+use Rattle.theorem_silence.proofs.Theorem.{poll_at, counted_sends, started, run_of, silence}
 use Rattle.theorem_silence.specs.SilentRecords.{silent_at, silent_quiet, silent_clock}
+use Rattle.theorem_silence.specs.Sharp.{evenly, AllAfter, bytes_time, turn_time, CountedRun, Sharp}
 
 -- a poll sends at most one telegram
 told_one : (x : Sent) → length (told x) ≤ 1
@@ -60,11 +64,6 @@ too_few s records h q l = too_few_from (starting First (others s.token_ring)) s 
 
 -- Runs of polls that are as far apart as this.
 
--- m silent polls, the first at this clock, and each this long after the one before
-unfoldable pub evenly : ℕ → ℕ → ℕ → ℕ → List (List ℕ)
-evenly n step zero clock = []
-evenly n step (suc m) clock = silent_at n clock ∷ evenly n step m (clock + step)
-
 pub evenly_length : (m n step clock : ℕ) → length (evenly n step m clock) ≡ m
 unfolding evenly
 evenly_length zero n step clock = refl
@@ -86,15 +85,6 @@ pub evenly_quiet : (m n step clock : ℕ) → clock + m * step < 2 ^ 48 → AllQ
 unfolding evenly
 evenly_quiet zero n step clock l = tt
 evenly_quiet (suc m) n step clock l = (silent_quiet n clock (room_here (suc m) step clock l), evenly_quiet m n step (clock + step) (room_on m step clock l))
-
--- all polls of a run come at least this time of the settings after known last activity
-abbrev pub AllAfter : (Parameters → Micros) → Station → List (List ℕ) → Type 0
-AllAfter time s [] = Unit {0}
-AllAfter time s (bytes ∷ later) = (slot_after s.core.last_bus_activity (head_of bytes).clock (time s.p).0 ≡ true) × AllAfter time (poll_of s bytes).station later
-
--- the time of as many bytes
-abbrev pub bytes_time : Parameters → ℕ → ℕ
-bytes_time p bytes = (time_of (record { 0 = byte_bits * bytes }) p.baudrate).0
 
 -- this long after a poll that sent, and the time of what it sent, the next poll comes
 next_after : (p : Parameters) (a : Activity) (now clock bytes most wait step : ℕ) → now ≡ clock → bytes ≤ most → a ≡ sent_at p (record { 0 = now }) bytes → bytes_time p most + wait ≤ step → slot_after a (clock + step) wait ≡ true
@@ -148,25 +138,14 @@ evenly_after (suc m) ph p w time n step ks s c r clock g l long far a room =
 
 -- The bound of Silence.
 
--- the time of a token and of a slot
-abbrev pub turn_time : Parameters → ℕ
-turn_time p = pause_time p + (slot_time_of p).0
-
 -- polls that all come after a slot are all counted
 after_counted : (records : List (List ℕ)) (s : Station) → AllAfter slot_time_of s records → counted_in s records ≡ length records
 unfolding counted_in counted
 after_counted [] s a = refl
 after_counted (bytes ∷ later) s a = rw (a.0, after_counted later (poll_of s bytes).station a.1) (one-add (length later))
 
--- m silent polls, each of them counted
-pub record CountedRun (s : Station) (m : ℕ) : Type 0 where
-  pub records : List (List ℕ)
-  pub quiet : AllQuiet s.applications records
-  pub long : length records ≡ m
-  pub all_counted : counted_in s records ≡ m
-
--- up to 3k + 1 there is such a run of every station that starts a token pass with known last bus activity, if the clock has room
--- for as many turns
+-- up to 3k + 1 there is a run of counted polls of every station that starts a token pass with known last bus activity, if the clock has
+-- room for as many turns
 counted_run : (s : Station) (last : Micros) (m : ℕ) → Start s → s.core.last_bus_activity ≡ activity.At last → m ≤ 3 * length (others s.token_ring) + 1 → last.0 + (slot_time_of s.p).0 + m * turn_time s.p < 2 ^ 48 → CountedRun s m
 unfolding slot_after
 counted_run s last m h a l room =
@@ -182,14 +161,7 @@ counted_run s last m h a l room =
       all_counted = after_counted run s late ∙ evenly_length m s.applications (turn_time s.p) clock;
     }
 
--- the bound is sharp: 3k counted polls that do not lead to the token, and 3k + 1 that do
-pub record Sharp (s : Station) : Type 0 where
-  pub too_short : CountedRun s (3 * length (others s.token_ring))
-  pub not_held : holds_token (until s too_short.records) ≡ false
-  pub long_enough : CountedRun s (3 * length (others s.token_ring) + 1)
-  pub held : holds_token (until s long_enough.records) ≡ true
-
--- for every such station
+-- the bound is sharp for every station that starts a token pass so
 pub sharp : (s : Station) (last : Micros) → Start s → s.core.last_bus_activity ≡ activity.At last → last.0 + (slot_time_of s.p).0 + (3 * length (others s.token_ring) + 1) * turn_time s.p < 2 ^ 48 → Sharp s
 sharp s last h a room =
     let k = length (others s.token_ring) in

@@ -5,11 +5,10 @@ use Rattle.std.proofs.Common.{sym, ap, subst, ◌∙◌, arith, eq-eqb, ne_eqb, 
 use Rattle.std.proofs.lemmas.Bool.{lt-leb}
 use borrow.Table.Steps.{cases}
 use Rattle.codec_fields.specs.Fields.{field_of, zeros_or14, be_from, load_of}
-use Rattle.bit_times.specs.declared.Baud.TheVariants.{B500000}
 use Rattle.bit_times.specs.Times.{baud_of, rounded, time_of}
 use Rattle.settings.specs.declared.Parameters.{Parameters}
 use Rattle.settings_rules.specs.Rules.{refuse_below, refuse_outside, address_refusal, baud_refusal, slot_bits_refusal, hsa_refusal, rotation_refusal, room_refusal, gap_wait_refusal, retry_refusal, min_tsdr_refusal, factors_refusal, applications_refusal}
-use Rattle.settings.specs.Settings.{default_of, slot_time_of, token_lost_of, rotation_time_of}
+use Rattle.settings.specs.Settings.{slot_time_of, token_lost_of, rotation_time_of}
 use Rattle.settings_build.specs.Build.{early_refusal, first_refusal, plain_of}
 use Rattle.ring_addresses.specs.Set.{walk, nearest, between_of}
 use Rattle.ring.specs.declared.GapState.{GapState}
@@ -17,14 +16,13 @@ use Rattle.ring.specs.declared.GapState.TheVariants.{Waiting, DoPoll}
 use Rattle.ring_links.specs.Links.{listed, after_of, before_of, link_at, tab, links_of, link_of, unlink_of, behind_of, insert_of, sweep_of, relink_of, follows_of, confirms_of}
 use Rattle.ring.specs.Ring.{Ring, polls, has, make, others, remove_of, fresh_of, round_of, laps_of, witness_of, claim_of, add_of, next_of, prev_of}
 use Rattle.ring.specs.Ring as rings
-use Rattle.ring.proofs.Laws.{SoundRing, claim_has, claim_own, add_has, add_own, fresh_has, fresh_made, witness_own, sound_claim, sound_witness}
-use Rattle.ring.proofs.Worked.{among}
+use Rattle.ring.specs.Laws.{SoundRing}
+use Rattle.ring.proofs.Laws.{claim_has, claim_own, add_has, add_own, fresh_has, fresh_made, witness_own, sound_claim, sound_witness}
 use Rattle.ring.proofs.Examples.{heard_nine}
 use Rattle.codec_telegrams.specs.Words as words
 use Rattle.codec_decisions.specs.Decisions as decisions
 use Rattle.codec_records.specs.declared.Head.{Head}
 use Rattle.codec_records.specs.Records as records
-use Rattle.codec_answers.specs.declared.Sent.TheVariants.{Token, Application}
 use Rattle.station.specs.declared.PassTokenAttempt.TheVariants.{First}
 use Rattle.station.specs.declared.State.TheVariants.{PassToken}
 use Rattle.station.specs.Whole.{Station}
@@ -41,17 +39,19 @@ use Rattle.station_answer.specs.Answer as answering
 use Rattle.station_command.specs.Command as commands
 use Rattle.station_poll.specs.Poll as polling
 use Rattle.theorem_sound.specs.Sound.{Call, after, run, SoundStation}
-use Rattle.theorem_sound.specs.Sound as call
 use Rattle.theorem_sound.proofs.Sound as of_calls
-use Rattle.theorem_silence.specs.Silence.{Start, Quiet, AllQuiet, gap_due, slot_after, counted, counted_in}
+use Rattle.theorem_silence.specs.Silence.{Quiet, gap_due, slot_after, counted, counted_in}
 use Rattle.theorem_silence.specs.Letter.{sent_in}
 use Rattle.theorem_silence.specs.Calls.{ByCalls, sound_of_calls, start_of_calls}
-use Rattle.theorem_silence.proofs.Sharp.{turn_time, sharp}
-use Rattle.theorem_silence.specs.Scripts.{token, declines, sends_nine, record_of, poll_hearing, poll_silent, claims, lowest, hears_all, hears_cut, begins_look, others_look, response_of1, answer_type, begins_question, others_question, asks_one, calls_for}
-use Rattle.theorem_silence.proofs.PremisesMet.{Met, PremisesMet}
+use Rattle.theorem_silence.specs.Sharp.{turn_time}
+use Rattle.theorem_silence.proofs.Sharp.{sharp}
+use Rattle.theorem_silence.specs.Scripts.{poll_hearing, poll_silent, claims, lowest, hears_all, hears_cut, begins_look, others_look, response_of1, answer_type, begins_question, others_question, asks_one, calls_for}
+use Rattle.theorem_silence.specs.PremisesMet.{Met, PremisesMet}
 use Rattle.theorem_silence.specs.Rings.{UpTo, others_up_to, cut_all, cut_added, one_out, one_asked}
 use Rattle.theorem_silence.proofs.OnePoll.{no_gap}
-use Rattle.theorem_silence.proofs.Made.{listens_look, lowest_with, core_at, pass_look, pass_question, awaits_one, pass_answered, calls_none, calls_on, begun_look, ring_all, ring_alone, begun_question, ring_but_one, first_runs, Members, members_if, says_token, cut_heard, claimed, one_gets_asked, one_answers}
+use Rattle.theorem_silence.specs.Made.{listens_look, lowest_with, core_at, pass_look, pass_question, awaits_one, pass_answered, begun_look, ring_all, ring_alone, begun_question, ring_but_one, Members}
+use Rattle.theorem_silence.proofs.Made.{calls_none, calls_on, first_runs, members_if, says_token, cut_heard, claimed, one_gets_asked, one_answers}
+use Rattle.theorem_silence.specs.Shown.{ring_of, heard_at, before_one, here, letter_calls, letter_station, five, LetterRun, with_ring, ring_nine}
 
 -- with accepted settings and one application there is a new station, and calls make others of it
 one_accepted : applications_refusal 1 ≡ 0
@@ -94,20 +94,15 @@ members = members_if (sound_by begins_question).ring_sound
 
 -- With the look at the gap.
 
--- the ring, once the others are heard
-abbrev pub ring_of_lem : ℕ → Ring
-ring_of_lem zero = fresh_of 0
-ring_of_lem (suc k) = witness_of ring_all (suc k) 0
-
--- its members and its own
+-- of the ring, once the others are heard: its members and its own
 only_zero : (x : ℕ) → eqb x 0 ≡ leb x 0
 only_zero x = cases (leb x 0) (λ t. eq-eqb x 0 (omega (arith, leb-true x 0 t)) ∙ sym t) (λ f. ne_eqb x 0 (λ e. omega (arith, leb-false x 0 f)) ∙ sym f)
 
-pub members_look : (k : ℕ) → k ≤ 125 → UpTo (ring_of_lem k) k
+pub members_look : (k : ℕ) → k ≤ 125 → UpTo (ring_of k) k
 members_look zero l x m = fresh_has 0 x m ∙ only_zero x
 members_look (suc k) l x m = cut_all ring_all (suc k) sound_all members.own_all (omega arith) l members.all x m
 
-pub own_of : (k : ℕ) → (ring_of_lem k).own ≡ 0
+pub own_of : (k : ℕ) → (ring_of k).own ≡ 0
 own_of zero = (fresh_made 0).own_is
 own_of (suc k) = witness_own ring_all (suc k) 0 ∙ members.own_all
 
@@ -118,15 +113,11 @@ claimed_has r x = claim_has (claim_of r) x ∙ claim_has r x
 pub claimed_own : (r : Ring) → (claim_of (claim_of r)).own ≡ r.own
 claimed_own r = claim_own (claim_of r) ∙ claim_own r
 
--- the calls make a station that listens, when it has heard them
-abbrev pub heard_at_lem : ℕ → ℕ
-heard_at_lem zero = 0
-heard_at_lem (suc k) = 900
-
-pub made_listens : (k : ℕ) → k ≤ 125 → run (fresh_station lowest 1) (begins_look ++ others_look k) ≡ listens_look (heard_at_lem k) (ring_of_lem k)
+-- the calls make a station that listens, when it has heard the others
+pub made_listens : (k : ℕ) → k ≤ 125 → run (fresh_station lowest 1) (begins_look ++ others_look k) ≡ listens_look (heard_at k) (ring_of k)
 made_listens k l = calls_on begins_look (others_look k) (fresh_station lowest 1) ∙ ap (λ (s : Station). run s (others_look k)) first_runs.look ∙ go k l
   where
-    go : (k : ℕ) → k ≤ 125 → run begun_look (others_look k) ≡ listens_look (heard_at_lem k) (ring_of_lem k)
+    go : (k : ℕ) → k ≤ 125 → run begun_look (others_look k) ≡ listens_look (heard_at k) (ring_of k)
     go zero l = calls_none begun_look
     go (suc k) l =
         let cut = hears_cut 900 (suc k) ∷ [] in
@@ -135,14 +126,14 @@ made_listens k l = calls_on begins_look (others_look k) (fresh_station lowest 1)
         ∙ cut_heard _ 900 (suc k) (says_token (suc k) (omega arith)).0 (omega arith) 0 0 0 0 800 (Waiting 0) ring_all (omega arith) (omega arith)
 
 -- and more calls go on from there
-pub made_on : (k : ℕ) → k ≤ 125 → (cs : List Call) → run (fresh_station lowest 1) ((begins_look ++ others_look k) ++ cs) ≡ run (listens_look (heard_at_lem k) (ring_of_lem k)) cs
+pub made_on : (k : ℕ) → k ≤ 125 → (cs : List Call) → run (fresh_station lowest 1) ((begins_look ++ others_look k) ++ cs) ≡ run (listens_look (heard_at k) (ring_of k)) cs
 made_on k l cs = calls_on (begins_look ++ others_look k) cs (fresh_station lowest 1) ∙ ap (λ (s : Station). run s cs) (made_listens k l)
 
 -- so the token pass
-pub made_look : (k : ℕ) → k ≤ 125 → run (fresh_station lowest 1) (calls_for k true) ≡ pass_look (claim_of (claim_of (ring_of_lem k)))
+pub made_look : (k : ℕ) → k ≤ 125 → run (fresh_station lowest 1) (calls_for k true) ≡ pass_look (claim_of (claim_of (ring_of k)))
 made_look k l = made_on k l (claims 3300) ∙ go k
   where
-    go : (k : ℕ) → run (listens_look (heard_at_lem k) (ring_of_lem k)) (claims 3300) ≡ pass_look (claim_of (claim_of (ring_of_lem k)))
+    go : (k : ℕ) → run (listens_look (heard_at k) (ring_of k)) (claims 3300) ≡ pass_look (claim_of (claim_of (ring_of k)))
     go zero = (claimed (fresh_of 0)).look_none
     go (suc k) = (claimed (witness_of ring_all (suc k) 0)).look_heard
 
@@ -153,19 +144,13 @@ no_question r = refl
 
 met_look : (k : ℕ) → k ≤ 125 → Met k true
 met_look k l =
-    let r = claim_of (claim_of (ring_of_lem k)) in
-    met_by k true 1 0 3500 64872 3566 (Waiting 0) r (calls_for k true) l (omega arith) (made_look k l) (no_question r) (claimed_own (ring_of_lem k) ∙ own_of k)
-    (λ x m. claimed_has (ring_of_lem k) x ∙ members_look k l x m)
+    let r = claim_of (claim_of (ring_of k)) in
+    met_by k true 1 0 3500 64872 3566 (Waiting 0) r (calls_for k true) l (omega arith) (made_look k l) (no_question r) (claimed_own (ring_of k) ∙ own_of k)
+    (λ x m. claimed_has (ring_of k) x ∙ members_look k l x m)
 
 -- Without it: after a gap question.
 
--- the ring, once the others but 1 are heard
-abbrev pub before_one : ℕ → Ring
-before_one zero = ring_alone
-before_one (suc zero) = ring_alone
-before_one (suc (suc k)) = witness_of ring_but_one (suc (suc k)) 0
-
--- its own, and that 1 is no member
+-- of the ring, once the others but 1 are heard: its own, and that 1 is no member
 pub own_before : (k : ℕ) → (before_one k).own ≡ 0
 own_before zero = members.own_alone
 own_before (suc zero) = members.own_alone
@@ -253,52 +238,17 @@ premises_met k l false = met_question k l
 
 -- The letter's case, by the clock.
 
--- document 01's example settings: address 5, code 6, slot 200; so a slot is 400 µs, a pause or a token 66 µs, a token is lost after
--- 6,400 µs
-abbrev here : Parameters
-here = default_of 5 B500000
-
--- a station with the neighbour 9, which starts a token pass: online, a token from 9 to us is heard, then the bus is silent, and the
--- station claims the token, sends it twice to itself, holds it, and its application declines
-abbrev letter_calls : List Call
-letter_calls = call.online ∷ poll_silent 0 ∷ poll_hearing 100 (token 9 5 ∷ []) ∷ claims 6600
-
-abbrev letter_station : Station
-letter_station = run (fresh_station here 1) letter_calls
-
 -- a silent record, told by its first 64 bits
 quiet_at : {bytes : List ℕ} (clock : ℕ) → records.record_refusal bytes 1 ≡ 0 → records.head_of bytes ≡ record { clock = clock; pending = 0; telegrams = 0; transmitting = false } → Quiet 1 bytes
 quiet_at clock e h =
     record { accepted = e; no_telegram = ap (λ (x : Head). x.telegrams) h; no_pending = ap (λ (x : Head). x.pending) h; no_transmission = ap (λ (x : Head). x.transmitting) h }
 
--- five silent polls of the station with the neighbour 9, each a token and a slot after the one before; in the last the application
--- sends
-abbrev five : List (List ℕ)
-five = record_of 7266 declines [] ∷ record_of 7732 declines [] ∷ record_of 8198 declines [] ∷ record_of 8664 declines [] ∷ record_of 9130 sends_nine [] ∷ []
-
--- document 01's example 10 and the letter's case, by the clock: all five polls are counted; tokens go to 9, 9, 9 and 5, and then the
--- application's telegram goes out
-pub record LetterRun : Type 0 where
-  pub starts : Start letter_station
-  pub neighbour : others letter_station.token_ring ≡ 9 ∷ []
-  pub quiet : AllQuiet 1 five
-  pub all_counted : counted_in letter_station five ≡ 5
-  pub sent : sent_in letter_station five ≡ Token 9 ∷ Token 9 ∷ Token 9 ∷ Token 5 ∷ Application 0 0 false 9 ∷ []
-
 here_accepted : first_refusal (plain_of here) ≡ 0
 unfolding first_refusal early_refusal plain_of refuse_below refuse_outside address_refusal baud_refusal slot_bits_refusal hsa_refusal rotation_refusal room_refusal gap_wait_refusal retry_refusal min_tsdr_refusal factors_refusal baud_of
 here_accepted = refl
 
--- the same station with another ring, and with its own
-abbrev pub with_ring : Station → Ring → Station
-with_ring s r = record { state = s.state; core = s.core; token_ring = r; p = s.p; counts = s.counts; applications = s.applications }
-
 pub ring_is : (s : Station) (r : Ring) → s.token_ring ≡ r → s ≡ with_ring s r
 ring_is s r e = ap (with_ring s) e
-
--- the ring, which heard a token from 9 and was claimed twice; it is told by its members
-abbrev pub ring_nine : Ring
-ring_nine = make 5 (among (5 ∷ 9 ∷ [])) 1 true
 
 pub claimed_nine : claim_of (claim_of (witness_of (fresh_of 5) 9 5)) ≡ ring_nine
 unfolding make claim_of

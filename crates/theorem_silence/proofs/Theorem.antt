@@ -26,16 +26,11 @@ use Rattle.station_answer.specs.Counted.{counted_of}
 use Rattle.station_answer.specs.Answer.{Polled, polled_of, step_answer}
 use Rattle.theorem_silence.specs.Silence.{Start, Quiet, AllQuiet, holds_token, until, told, sent_until, counted, counted_in, slot_after, Theorem}
 use Rattle.theorem_silence.specs.Times.{Slotted, slotted}
-use Rattle.theorem_silence.proofs.Phases.{Phase, asking, awaiting, starting, checking, claiming, holding, next, next_sent, told_next, todo, in_ring, end_ring, Under, under_or_held, todo_next, todo_some, tokens_length, advance, end_advance, ring_after}
-use Rattle.theorem_silence.proofs.OnePoll.{At, ready_at, Sends, Turn, sends, stays, quiet_step, turn}
-
--- the station of these parts
-abbrev pub station_of : Parameters → ℕ → Counts → State → Core → Ring → Station
-station_of p n ks s c r = record { state = s; core = c; token_ring = r; p = p; counts = ks; applications = n }
-
--- a poll record's clock
-abbrev pub clock_of : List ℕ → Micros
-clock_of bytes = record { 0 = (head_of bytes).clock }
+use Rattle.theorem_silence.specs.Phases.{Phase, asking, awaiting, starting, checking, claiming, holding, next, next_sent, todo, end_ring, Under, advance}
+use Rattle.theorem_silence.proofs.Phases.{told_next, under_or_held, todo_next, todo_some, tokens_length, end_advance, ring_after}
+use Rattle.theorem_silence.specs.OnePoll.{At, Sends, Turn, sends, stays, quiet_step}
+use Rattle.theorem_silence.proofs.OnePoll.{ready_at, turn}
+use Rattle.theorem_silence.specs.Theorem.{station_of, clock_of, RunFrom}
 
 -- an online station leaves Offline and PassiveIdle first
 pub inner_online : (p : Parameters) (s : State) (c : Core) (r : Ring) (now : Micros) (transmitting : Bool) (pending : ℕ) (bytes : List ℕ) (n count : ℕ) → c.connectivity_state ≡ connectivity.Online → poll_inner p s c r now transmitting pending bytes n count ≡ poll_online p (connected_of s) c r now transmitting pending bytes n count
@@ -259,20 +254,6 @@ module _ (ph : Phase) (p : Parameters) (n : ℕ) (ks : Counts) (s : State) (c : 
       go : Under ph ⊎ (ph ≡ holding (end_ring ph)) → todo p.address ph ≡ [] → ⊥
       go (inl u) z = todo_some p.address ph u z
       go (inr i) z = true≢false (sym (is_holding (end_ring ph) p n ks s c r (subst (λ (x : Phase). At x p s c r) i a)) ∙ e)
-
--- What a run from any place comes to, by what it sends, the station at its end and the slots that are counted.
-pub record RunFrom (p : Parameters) (ph : Phase) (s : Station) (records : List (List ℕ)) : Type 0 where
-  -- what is not sent yet, and that what is sent and the rest are what was to be sent
-  pub rest : List Sent
-  pub sends_of : sent_until s records ++ rest ≡ todo p.address ph
-  -- the token is held exactly when all is sent
-  pub all_of : holds_token (until s records) ≡ true → rest ≡ []
-  pub some_of : holds_token (until s records) ≡ false → rest ≡ [] → ⊥
-  -- as many counted polls as there are telegrams to be sent lead to the token
-  pub bound_of : length (todo p.address ph) ≤ counted_in s records → holds_token (until s records) ≡ true
-  -- who is then left in the ring, and the place once the token is held
-  pub left_of : others (until s records).token_ring ≡ in_ring (advance (length (sent_until s records)) ph)
-  pub held_at : holds_token (until s records) ≡ true → At (holding (end_ring ph)) p (until s records).state (until s records).core (until s records).token_ring
 
 pub run_from_lem : (ph : Phase) (s : Station) (records : List (List ℕ)) → Slotted s.p → AllQuiet s.applications records → At ph s.p s.state s.core s.token_ring → RunFrom s.p ph s records
 run_from_lem ph s records w q a =

@@ -1,5 +1,5 @@
 -- Every station that calls make meets the first two premises of Silence: accepted settings, and sound.
-use Rattle.std.specs.Prelude.{ℕ, Bool, true, false, ◌≡◌, List}
+use Rattle.std.specs.Prelude.{ℕ, Bool, false, ◌≡◌, List}
 use Rattle.std.proofs.Common.{sym, ap, subst, ◌∙◌}
 use Rattle.settings.specs.declared.Parameters.{Parameters}
 use Rattle.settings_rules.specs.Rules.{applications_refusal}

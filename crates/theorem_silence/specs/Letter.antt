@@ -1,4 +1,4 @@
--- The letter's own case, as a statement; its proof is in Asking.antt.
+-- The letter's own case, as a statement; its proof is in proofs/Asking.antt.
 --
 -- A neighbour that never answers is out of the ring after three tokens, and the station asks its cabinets again. In document 01's
 -- words: the station has one other in its ring and starts a token pass; the bus stays silent. By the fourth counted poll it has sent

@@ -7,8 +7,10 @@ use Rattle.ring_addresses.specs.Set.{up, walk, between_of, keeps, same_set}
 use Rattle.ring_addresses.specs.SetLaws.{true≢false, walk_ext, walk_nobody, same_then}
 use Rattle.ring.specs.declared.NextStation.{NextStation}
 use Rattle.ring.specs.Ring.{Ring, has, others, first_of, next_of, polls_on, polls, witness_of}
-use Rattle.ring.proofs.Laws.{SoundRing, next_first, next_other, witness_has}
-use Rattle.ring.proofs.Worked.{witness_all, kept_after, addresses_only, witnessed_has}
+use Rattle.ring.specs.Laws.{SoundRing}
+use Rattle.ring.proofs.Laws.{next_first, next_other, witness_has}
+use Rattle.ring.specs.Worked.{witness_all, kept_after, addresses_only}
+use Rattle.ring.proofs.Worked.{witnessed_has}
 
 -- the members are 0, 1, .. k
 abbrev pub UpTo : Ring → ℕ → Type 0

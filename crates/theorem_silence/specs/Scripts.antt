@@ -23,8 +23,8 @@ declines = 0 ∷ 0 ∷ 0 ∷ []
 abbrev pub sends_nine : List ℕ
 sends_nine = 128 ∷ 4 ∷ 128 ∷ []
 
-abbrev pub expects_reply_lem : List ℕ
-expects_reply_lem = 202 ∷ 4 ∷ 128 ∷ []
+abbrev pub expects_reply : List ℕ
+expects_reply = 202 ∷ 4 ∷ 128 ∷ []
 
 -- one list after the other
 abbrev pub joined : List (List ℕ) → List ℕ
@@ -86,7 +86,7 @@ others_look (suc k) = hears_all 100 1 7 ++ (hears_cut 900 (suc k) ∷ [])
 -- listens again.
 abbrev pub begins_question : List Call
 begins_question =
-    call.online ∷ poll_silent 0 ∷ poll_silent 2400 ∷ poll_silent 2600 ∷ poll_silent 2800 ∷ poll_silent 3000 ∷ poll_silent 3200 ∷ poll_silent 3400 ∷ poll (record_of 3600 expects_reply_lem [])
+    call.online ∷ poll_silent 0 ∷ poll_silent 2400 ∷ poll_silent 2600 ∷ poll_silent 2800 ∷ poll_silent 3000 ∷ poll_silent 3200 ∷ poll_silent 3400 ∷ poll (record_of 3600 expects_reply [])
     ∷ poll_hearing 4000 (token 2 3 ∷ [])
     ∷ poll_hearing 4100 (token 0 3 ∷ token 0 3 ∷ [])
     ∷ []

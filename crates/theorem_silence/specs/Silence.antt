@@ -1,7 +1,7 @@
--- Silence (demand 3), as a statement. Its proof is in Theorem.antt, over Times, Phases and OnePoll. Beside it: Calls (every station
--- that calls make meets the first two premises), Met (for every number of others and both gap flags calls make a station that meets
--- all), Sharp (the bound cannot be smaller), Question (why no gap question may be due), Letter (the letter's own case). The
--- mission's words:
+-- Silence (demand 3), as a statement. Its proof is in proofs/Theorem.antt, over Times, Phases and OnePoll. Beside it: Calls (every station
+-- that calls make meets the first two premises), PremisesMet (for every number of others and both gap flags calls make a station that meets
+-- all), Sharp (the bound cannot be smaller), Question (why no gap question may be due), Letter (the letter's own case). The mission's
+-- words:
 --
 --   "Let a station that is not offline start a token pass on its first attempt, no gap question due, with k others in its ring.
 --   Let no command follow, and let all later polls be accepted and report no telegram, no pending byte and no transmission. Then,
@@ -127,7 +127,7 @@ abbrev pub tokens : List ℕ → ℕ → List Sent
 tokens stations own = thrice stations ++ (Token own ∷ [])
 
 -- The four parts, for any station that starts and any list of later polls. `others` are the other stations in its ring, in ring
--- order; k is their number, which is at most 125 (`others-length` of ring).
+-- order; k is their number, which is at most 125 (`others_length` of ring).
 pub record Silence (s : Station) (records : List (List ℕ)) : Type 0 where
   -- what is not sent yet
   pub rest : List Sent

@@ -1,4 +1,5 @@
--- What guards a send: a step that asks whether a time is over sends only where it is.
+-- What guards a send: a step that asks whether a time is over sends only where it is, and so it is with a timeout that is told (`Guarded`
+-- and `Told` of specs/Guarded).
 use Rattle.std.specs.Prelude.{ℕ, Bool, cond, ◌≡◌, refl, List, ltb, eqb}
 use Rattle.std.proofs.Math.Bool.{true, false}
 use Rattle.std.proofs.Common.{sym, ◌∙◌}

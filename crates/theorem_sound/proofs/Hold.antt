@@ -1,4 +1,4 @@
--- What the steps of station_hold come to.
+-- What the steps of station_hold come to. Where they may end is said in specs/Hold.
 use Rattle.std.specs.Prelude.{ℕ, zero, suc, ◌+◌, ◌<◌, Bool, ◌≡◌, List, ltb, eqb}
 use Rattle.std.proofs.Math.Bool.{true, false}
 use Rattle.std.proofs.Math.Path.{refl}
@@ -29,7 +29,7 @@ use Rattle.theorem_sound.specs.Walk.{Came, Made}
 use Rattle.theorem_sound.proofs.Walk.{sound_at, held_at, paused, slotted, rx, rx_known, hold_set_at, turned, cycle_done, to_idle, to_await_data, to_pass, to_use_again, done_made, transmit_made}
 use Rattle.theorem_sound.specs.Hold.{AskedGood, HoldEnds}
 
--- and a first application that is one of them
+-- asking ends with a first application that is none or one of the n
 record FirstGood (n : ℕ) (a : Asked) : Type 0 where
   pub asked_first : OneOf n a.first_app
 

@@ -1,4 +1,4 @@
--- Every move keeps every line of a sound state and core: a law for each line, then all together (`core-kept`, `moves-keep`).
+-- Every move keeps every line of a sound state and core: a law for each line, then all together (`core_kept`, `moves_keep`).
 use Rattle.std.specs.Prelude.{ℕ, suc, ◌*◌, ◌^◌, ◌≤◌, ◌<◌, Bool, true, false, ◌≡◌, List, eqb, ltb}
 use Rattle.std.proofs.Math.Path.{refl}
 use Rattle.std.proofs.Common.{sym, ap, ◌∙◌, inr, eqb-true, lit≤}

@@ -1,4 +1,5 @@
--- What the steps of the two hearing crates, station_listen, station_passive and station_claim come to.
+-- What the steps of the two hearing crates, station_listen and station_passive, and of station_claim come to. Where hearing may end is
+-- said in specs/Listen.
 use Prim.Native.Nat.{ℕ, zero, suc, ◌<◌}
 use Rattle.std.specs.Prelude.{Bool, ◌≡◌, List, eqb}
 use Rattle.std.proofs.Math.Bool.{true, false}
@@ -40,7 +41,7 @@ use Rattle.theorem_sound.specs.Listen.{ActiveEnds, ListenEnds, ListenedEnds, Pas
 no_zero : {k : ℕ} → suc k ≡ 0 → ⊥
 no_zero e = omega arith
 
--- the same by the state that listens
+-- where hearing may end, by the state that listens
 record HearsOn (E : State → Type 0) : Type 0 where
   pub from_listen : (q : OptionAddress) (k : ℕ) → E (ListenToken q k) → ListenEnds E
   pub from_passive : (q : OptionAddress) → E (PassiveIdle q) → (q' : OptionAddress) → E (PassiveIdle q')

@@ -1,5 +1,5 @@
 -- What never happens: the arms of the definitions that are there only so that they are total, each with a theorem that no call reaches
--- it; and tests that are never asked.
+-- it; and tests that are never asked. The numbers are those of specs/Never, and 1 is in proofs/Sound.
 use Rattle.std.specs.Prelude.{ℕ, zero, suc, ◌+◌, ◌-◌, ◌*◌, ◌^◌, ◌≤◌, ◌<◌, Bool, true, false, ◌≡◌, refl, ◌⊎◌, List, length, ltb, eqb}
 use Rattle.std.proofs.Common.{sym, ap, inl, inr, arith, add-suc, ltb-true, ltb-false, lt-ltb, le-ltb, ne_eqb, leb-false}
 use Rattle.std.proofs.lemmas.Bool.{eqb-false}
@@ -40,6 +40,8 @@ use Rattle.theorem_sound.proofs.Kept.{not-true}
 use Rattle.theorem_sound.specs.Keeps.{either}
 use Rattle.theorem_sound.proofs.Hold.{turn_good, asked_good, first_or_good}
 use Rattle.theorem_sound.specs.Never.{Handling, Listening, MayNotKnow, NotAfter, SenderSends}
+
+-- 2. The application that asking found to send does not decline.
 
 declined : (bytes : List ℕ) (n a : ℕ) (high : Bool) → declines_at bytes n a high ≡ false → decision_at bytes n a high ≡ decision.Decline → ⊥
 unfolding declines_at declines_on
@@ -128,6 +130,8 @@ asking_never_runs_out m bytes n a first high l f =
     let t = turns_to n a (first_or first a) l (first_or_good n first a f l) in
     enough_turns n m bytes n a first high t.0 t.1 t.2
 
+-- 6. The dispatch is given no clock before the last activity.
+
 free : (a : Activity) (now : Micros) (t : Bool) → ongoing_of a now t ≡ false → NotAfter a now
 unfolding ongoing_of busy_of
 free activity.Unknown now t e = tt
@@ -144,6 +148,8 @@ unfolding bus_activity_of with_activity with_pending
 never_asked_before_activity c now transmitting pending o =
     let l = free c.last_bus_activity now transmitting o in
     either (λ (d : Core). NotAfter d.last_bus_activity now) (ltb c.pending_bytes pending) _ _ (marked_by c.last_bus_activity now l) l
+
+-- 7. While telegrams are received, no telegram is heard in another state, and none after a request was noted.
 
 -- a request is noted only as the last telegram of its poll
 never_noted : (destination own : ℕ) (asks : Bool) → last_request_to_us destination own asks false ≡ false
@@ -246,6 +252,8 @@ handle_telegram_only_active p c r now m k bytes n count zero l = tt
 handle_telegram_only_active p c r now m k bytes n count (suc i) l =
     let before = handle_telegram_only_active p c r now m k bytes n count i (omega arith) in
     rw (ne_eqb (suc i) count (λ z. omega arith)) (handle_on_handling p _ _ _ now _ before)
+
+-- 8. The dispatch of a sound station is given an unknown activity in the two states of MayNotKnow alone.
 
 unknown_passive : (q : OptionAddress) (a : Activity) → KnownWith q a → a ≡ activity.Unknown → MayNotKnow (PassiveIdle q)
 unknown_passive optionAddress.None a k e = inr refl

@@ -1,4 +1,4 @@
--- What the steps of station_pass, station_await_status and station_check_pass come to.
+-- What the steps of station_pass, station_await_status and station_check_pass come to. Where a token pass may end is said in specs/Pass.
 use Rattle.std.specs.Prelude.{ℕ, Bool, ◌≡◌, List, ltb, eqb}
 use Rattle.std.proofs.Math.Bool.{true, false}
 use Rattle.std.proofs.Math.Path.{refl}

@@ -24,7 +24,7 @@ use Rattle.theorem_sound.proofs.Sound.{every_station_sound}
 use Rattle.theorem_sound.proofs.Unchanged.{made_settings}
 use Rattle.theorem_sound.specs.Room.{Roomy, Theorem}
 
--- Its proof.
+-- The proof of `Theorem` of specs/Room.
 
 -- what is taken off is at most the rotation time. Both are rounded up, each by itself: more bits take no less time
 pub less_within : (p : Parameters) (gap : GapState) → first_refusal (plain_of p) ≡ 0 → (hold_less p gap).0 ≤ (rotation_time_of p).0

@@ -1,4 +1,4 @@
--- The theorems of Waits.antt: from the steps (Guarded) to the calls.
+-- The theorems of specs/Waits.antt: from the steps (Guarded) to the calls.
 use Rattle.std.specs.Prelude.{ℕ, ◌+◌, ◌<◌, ◌≤◌, Bool, cond, ◌≡◌, ◌⊎◌, List, [], ◌∷◌, ltb, eqb}
 use Rattle.std.proofs.Math.Bool.{true, false}
 use Rattle.std.proofs.Math.Path.{refl}

@@ -1,5 +1,5 @@
--- What a step comes to: moves from a sound state and core, which lead to a state and its core. One law for each way of active.rs to write
--- to the station; the steps of each crate (Hold, Listen, Pass) and the calls (Sound) are put together of these.
+-- What a step comes to, in the words of specs/Walk: one law for each way of active.rs to write to the station; the steps of each crate
+-- (Hold, Listen, Pass) and the calls (Sound) are put together of these.
 use Rattle.std.specs.Prelude.{ℕ, ◌^◌, ◌≤◌, ◌<◌, Bool, true, false, ◌≡◌, refl, ltb}
 use Rattle.std.proofs.Common.{lit<}
 use Rattle.bit_times.specs.declared.Micros.{Micros}

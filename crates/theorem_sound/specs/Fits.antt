@@ -1,5 +1,4 @@
--- An answer fits its 64 bits: every answer of a sound station lies within document 01's ranges (Fits), so `pack` cuts nothing off, and
--- what `unpack` reads from the answer's word is the answer.
+-- The answer to a call. That every answer of a sound station fits its 64 bits, and is what is read from them, is proved in proofs/Fits.
 use Rattle.codec_answers.specs.declared.Answer.{Answer}
 use Rattle.station.specs.Whole.{Station}
 use Rattle.station_poll.specs.Poll.{poll_of}

@@ -1,5 +1,5 @@
 -- Where a poll can leave a station, state by state, as a table; and the attempt at which a token pass stands between two polls. The
--- theorems are in Sound.antt. Both are said of settings whose slot is not shorter than the pause, as that of accepted settings is.
+-- theorems are in proofs/Sound.antt. Both are said of settings whose slot is not shorter than the pause, as that of accepted settings is.
 use Rattle.std.specs.Prelude.{ℕ, ◌+◌, ◌*◌, ◌≤◌, Bool, true, false, cond, ◌≡◌, refl, List, [], ◌∷◌, eqb, get_or}
 use Rattle.std.proofs.Common.{arith, mul-le-mul, leb-true, leb-false}
 use Rattle.bit_times.specs.declared.Micros.{Micros}

@@ -1,4 +1,4 @@
--- What guards a send: a step that asks whether a time is over sends only where it is.
+-- What it is for a step to send, and to tell a timeout, only where something holds. The laws, step by step, are in proofs/Guarded.
 use Rattle.std.specs.Prelude.{◌≡◌}
 use Rattle.codec_answers.specs.declared.Sent.TheVariants as sent
 use Rattle.station.specs.declared.Step.{Step}

@@ -1,4 +1,4 @@
--- What the steps of station_hold come to.
+-- What asking the applications ends with, and where a step of station_hold may end. What the steps come to is proved in proofs/Hold.
 use Rattle.std.specs.Prelude.{ℕ, ◌<◌, Bool}
 use Rattle.std.proofs.Math.Bool.{true}
 use Rattle.station.specs.declared.PassTokenAttempt.TheVariants.{First}

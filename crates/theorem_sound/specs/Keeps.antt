@@ -8,7 +8,8 @@ use Rattle.settings.specs.declared.Parameters.{Parameters}
 use Rattle.ring.specs.declared.GapState.{GapState}
 use Rattle.ring.specs.declared.GapState.TheVariants.{Waiting, DoPoll}
 use Rattle.ring.specs.Ring.{Ring, fresh_of, claim_of, add_of, remove_of, witness_of, gap_of}
-use Rattle.ring.proofs.Laws.{SoundRing, sound_fresh, sound_claim, sound_add, sound_remove, sound_witness, fresh_made, claim_own, add_own, remove_own, witness_own, gap_polls_lem}
+use Rattle.ring.specs.Laws.{SoundRing}
+use Rattle.ring.proofs.Laws.{sound_fresh, sound_claim, sound_add, sound_remove, sound_witness, fresh_made, claim_own, add_own, remove_own, witness_own, gap_polls_lem}
 use Rattle.codec_decisions.specs.declared.Decision.{Decision}
 use Rattle.codec_decisions.specs.declared.Decision.TheVariants as decision
 use Rattle.codec_telegrams.specs.Words.{TelegramFits}

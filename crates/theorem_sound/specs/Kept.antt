@@ -1,4 +1,5 @@
--- Every move keeps every line of a sound state and core: a law for each line, then all together (`core-kept`, `moves-keep`).
+-- What a line that speaks of the state alone has to say of each state that a move leads to. That every move keeps every line is proved in
+-- proofs/Kept.
 use Rattle.std.specs.Prelude.{ℕ, ◌≤◌, ◌<◌, Bool}
 use Rattle.settings.specs.declared.Parameters.{Parameters}
 use Rattle.station.specs.declared.OptionAddress.{OptionAddress}

@@ -1,4 +1,4 @@
--- What a sound state and core are, line by line: each line is a predicate of the state and the parts of the core that it speaks of. Kept.antt has a law for
+-- What a sound state and core are, line by line: each line is a predicate of the state and the parts of the core that it speaks of. proofs/Kept.antt has a law for
 -- each line: every move keeps it.
 use Rattle.std.specs.Prelude.{ℕ, ◌+◌, ◌*◌, ◌^◌, ◌≤◌, ◌<◌, true, false, ◌≡◌, ◌⊎◌}
 use Rattle.bit_times.specs.declared.Micros.{Micros}
@@ -122,7 +122,7 @@ pub record NoToken (last end : Micros) : Type 0 where
   pub no_end : end.0 ≡ 0
 
 -- the end of hold was set with the last token time: it counts from an earlier token time, which was another one, and spans the
--- rotation time, less the time of a gap poll or less nothing. (The cap of end_of is never met: hold-itself in Sizes.antt.)
+-- rotation time, less the time of a gap poll or less nothing. (The cap of end_of is never met: `hold_itself` in Sizes.antt.)
 pub record HoldSet (p : Parameters) (last end : Micros) : Type 0 where
   pub from : Micros
   pub clock : Clock from

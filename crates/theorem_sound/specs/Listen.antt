@@ -1,4 +1,4 @@
--- What the steps of the two hearing crates, station_listen, station_passive and station_claim come to.
+-- Where a step of the two hearing crates, station_listen and station_passive, may end. What the steps come to is proved in proofs/Listen.
 use Prim.Native.Nat.{ℕ}
 use Rattle.std.specs.Prelude.{◌≡◌}
 use Rattle.std.proofs.Math.Bool.{false}

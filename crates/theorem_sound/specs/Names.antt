@@ -1,5 +1,5 @@
--- Every answer names the next station of the ring that the call leaves, by its number: that of a poll, accepted or refused, and that of
--- a command. When we are alone it is the number of nobody (document 02, P5).
+-- What it is for an answer to name the next station of the ring that the call leaves, by its number. That every answer does, and which
+-- number it is, is proved in proofs/Names.
 use Rattle.std.specs.Prelude.{ℕ, ◌≡◌}
 use Rattle.ring.specs.Ring.{next_of, next_number}
 use Rattle.station.specs.Whole.{Station}

@@ -1,5 +1,5 @@
--- What never happens: the arms of the definitions that are there only so that they are total, each with a theorem that no call reaches
--- it; and tests that are never asked.
+-- What never happens: the arms of the definitions that are there only so that they are total, and tests that are never asked. Here is what
+-- the theorems on them speak of. The theorems are in proofs/Never, by the same numbers; 3, 4 and 5 need no more words and are there alone.
 use Rattle.std.specs.Prelude.{ℕ, ◌≤◌, Bool, true, ◌≡◌, ◌⊎◌, List}
 use Rattle.bit_times.specs.declared.Micros.{Micros}
 use Rattle.codec_decisions.specs.declared.Decision.TheVariants as decision
@@ -13,7 +13,7 @@ use Rattle.station.specs.Parts.{state_number}
 use Rattle.station.specs.Steps.{to_passive_idle}
 use Rattle.station_hold.specs.declared.Asked.{Asked}
 
--- 1. Offline inside the dispatch: `dispatch-never-offline` of Sound.antt.
+-- 1. Offline inside the dispatch: `dispatch_never_offline` of proofs/Sound.antt.
 
 -- 2. An application that declines where one was found to send (app_transmit_of, its first clause): the one that asking found to send
 -- does not decline.

@@ -1,4 +1,5 @@
--- What the steps of station_pass, station_await_status and station_check_pass come to.
+-- Where a token pass may end. What the steps of station_pass, station_await_status and station_check_pass come to is proved in
+-- proofs/Pass.
 use Rattle.std.specs.Prelude.{ℕ, Bool, ◌≡◌}
 use Rattle.std.proofs.Math.Bool.{true, false}
 use Rattle.station.specs.declared.UseTokenData.{UseTokenData}

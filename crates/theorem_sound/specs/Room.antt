@@ -1,5 +1,5 @@
--- What rule 25 buys: in accepted settings the end of hold is never before the token time that it is counted from, a gap question due or
--- not. And what settings without that room came to: with those of document 02's site the hold ended before that time.
+-- What rule 25 buys, as a statement: in accepted settings the end of hold is never before the token time that it is counted from, a gap
+-- question due or not. The proof is in proofs/Room, with what settings without that room came to.
 use Rattle.std.specs.Prelude.{ℕ, ◌+◌, ◌≤◌, ◌≡◌, List, ◌⊎◌}
 use Rattle.bit_times.specs.declared.Micros.{Micros}
 use Rattle.settings.specs.declared.Parameters.{Parameters}

@@ -1,8 +1,8 @@
--- Every station that the public calls make is sound: what `new` gives for an address of settings and a number of applications that is
--- not refused, and what any list of polls and commands makes of it.
+-- What a sound station is, the calls, and what a list of them makes of a station. That every station that the public calls make is sound
+-- is proved in proofs/Sound.
 use Rattle.std.specs.Prelude.{ℕ, ◌≤◌, ◌≡◌, List, [], ◌∷◌}
 use Rattle.bit_times.specs.declared.Micros.{Micros}
-use Rattle.ring.proofs.Laws.{SoundRing}
+use Rattle.ring.specs.Laws.{SoundRing}
 use Rattle.codec_records.specs.Records.{head_of}
 use Rattle.station.specs.Whole.{Station}
 use Rattle.station.specs.Parts.{zero_time}

@@ -1,5 +1,5 @@
--- Waits of every poll of every run of calls, as statements; the proofs are in WaitsProof.antt, over
--- Guarded.antt.
+-- Waits of every poll of every run of calls, as statements; the proofs are in proofs/WaitsProof.antt, over
+-- Guarded.antt there.
 --
 --   No send before the pause. A poll that sends anything comes at least the time of 33 bits after the last bus activity, which was
 --   known before the poll. This is so of every send: both tokens of a claim, a token passed on or sent again, a status request, a status

@@ -1,5 +1,4 @@
--- What a step comes to: moves from a sound state and core, which lead to a state and its core. One law for each way of active.rs to write
--- to the station; the steps of each crate (Hold, Listen, Pass) and the calls (Sound) are put together of these.
+-- What a step comes to: moves from a sound state and core, which lead to a state and its core. The laws are in proofs/Walk.
 use Rattle.std.specs.Prelude.{ℕ}
 use Rattle.bit_times.specs.declared.Micros.{Micros}
 use Rattle.settings.specs.declared.Parameters.{Parameters}

@@ -1,4 +1,4 @@
--- The run's loop, turn by turn: where it stands, and what each of its ends leaves. Assumes nothing.
+-- The run's loop, turn by turn: where it stands (`Reached`, `Going`), and what each of its ends leaves. Assumes nothing.
 use Rattle.std.specs.Prelude.{ℕ, zero, suc, ◌+◌, ◌-◌, ◌*◌, ◌^◌, ◌<◌, ◌≤◌, ◌≡◌, refl, List, [], ◌∷◌, ◌++◌, Bool, true, false, cond, length, get_or, take, drop, T}
 use Rattle.std.proofs.Math.Path.{sym, ap}
 use Rattle.std.proofs.Common.{◌∙◌, subst, append-nil, append_assoc, arith, add-one, add-zero, le_refl, zero-add, take-append-drop, length-drop, length-append, length-take, drop_of_length-le, take_all, drop-drop, drop-cons, lit≤}

@@ -1,4 +1,4 @@
--- The run's loop, turn by turn: where it stands, and what each of its ends leaves. Assumes nothing.
+-- Where the run's loop stands, turn by turn: by the run alone, and with the buffer. The laws are in proofs/Laws. Assumes nothing.
 use Rattle.std.specs.Prelude.{ℕ, ◌+◌, ◌-◌, ◌*◌, ◌^◌, ◌≤◌, ◌≡◌, List, ◌++◌, length, take, drop}
 use Rattle.codec_answers.specs.declared.Answer.{Answer}
 use Rattle.station.specs.Whole.{Station}

@@ -1,4 +1,4 @@
--- Definitions first: an entry, a trace. Then what the proof of the run's loop uses.
+-- Definitions first: an entry, a trace. Then where the run's loop stands. What its proof uses is in proofs/Laws.
 pub mod Entries
 pub mod Trace
 pub mod Laws

@@ -62,7 +62,7 @@ answered a run = record { answers = a ∷ run.answers; station = run.station; en
 
 -- the run over entries from a station, with room bytes left for answers: 17 where the bytes end inside an entry, then 18 where no 8
 -- bytes are left for its answer, else its answer and the run of the rest. There are at most `most` entries (that this never
--- cuts a run short is `run-enough` of theorem_every_trace)
+-- cuts a run short is `run_enough` of theorem_every_trace)
 unfoldable pub run_from : ℕ → Station → List ℕ → ℕ → Run
 run_from zero s entries room = ended s 0
 run_from (suc most) s [] room = ended s 0
@@ -118,7 +118,7 @@ abbrev pub room_for : List ℕ → ℕ
 room_for trace = answer_length * length trace
 
 -- the replay of a trace with room for every answer. It ends with 0 or 17 where a station
--- starts (that it does not end with 18 is `every-summary` of theorem_heard)
+-- starts (that it does not end with 18 is `every_summary` of theorem_heard)
 unfoldable pub whole_replay : List ℕ → Replay
 whole_replay trace = replay_of trace (room_for trace)
 

@@ -1,4 +1,4 @@
--- The loop over a trace's entries with a table beside the station, turn by turn; and the call's ends. Assumes nothing.
+-- The loop over a trace's entries with a table beside the station, turn by turn (`Listening`); and the call's ends. Assumes nothing.
 use Prim.Native.Nat.{ℕ, ◌+◌, ◌-◌, ◌*◌, ◌^◌, ◌<◌, ◌≤◌}
 use Rattle.std.specs.Prelude.{◌≡◌, refl, length, take}
 use Rattle.std.proofs.Math.Path.{sym, ap}

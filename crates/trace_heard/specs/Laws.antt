@@ -1,4 +1,4 @@
--- The loop over a trace's entries with a table beside the station, turn by turn; and the call's ends. Assumes nothing.
+-- Where the loop over a trace's entries with a table beside the station stands. The laws are in proofs/Laws. Assumes nothing.
 use Prim.Native.Nat.{ℕ, ◌+◌, ◌^◌, ◌≤◌}
 use Rattle.std.specs.Prelude.{◌≡◌, length}
 use mathlib.Core.List.{List}

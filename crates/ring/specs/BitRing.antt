@@ -7,7 +7,7 @@ use Rattle.ring.specs.declared.NextStation.{NextStation}
 use Rattle.ring.specs.declared.GapState.{GapState}
 use Rattle.ring.specs.declared.GapState.TheVariants.{Waiting, DoPoll}
 use Rattle.ring.specs.Ring.{first_of, laps_of, candidate_of, polls_on}
-use Rattle.ring.proofs.Laws.{RingCall, claim, add, remove, witness}
+use Rattle.ring.specs.Laws.{RingCall, claim, add, remove, witness}
 
 -- address a is bit a of `low` below 64, and bit a - 64 of `high` from there on
 pub record BitRing : Type 0 where

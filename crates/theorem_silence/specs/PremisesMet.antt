@@ -1,4 +1,5 @@
--- The premises of Silence can be met, with any number of others and with the gap flag both ways; as a statement. Its proof is in Shown.
+-- The premises of Silence can be met, with any number of others and with the gap flag both ways; as a statement. Its proof is in
+-- proofs/Shown.
 use Rattle.std.specs.Prelude.{ℕ, ◌≤◌, Bool, ◌≡◌, length}
 use Rattle.ring.specs.Ring.{others}
 use Rattle.station.specs.declared.PassTokenAttempt.TheVariants.{First}
@@ -6,7 +7,7 @@ use Rattle.station.specs.declared.State.TheVariants.{PassToken}
 use Rattle.station.specs.Whole.{Station}
 use Rattle.theorem_silence.specs.Silence.{Start}
 use Rattle.theorem_silence.specs.Calls.{ByCalls}
-use Rattle.theorem_silence.proofs.Sharp.{Sharp}
+use Rattle.theorem_silence.specs.Sharp.{Sharp}
 
 -- A station that calls make, that meets the premises of Silence, that has k others in its ring and passes the token with or without
 -- a look at the gap; and runs of it that show that the bound is sharp.
