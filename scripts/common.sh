@@ -51,15 +51,26 @@ quietly() {
     }
 }
 
-# build_program NAME: proves and builds a program as crates/NAME/out/NAME, where that is not done yet of the sources as they are. rt
-# runs what it has built, so it gets the input and the words that are stored with the program.
-build_program() {
-    local folder=crates/$1 stored=() input=/dev/null
-    need_rt
-    [ -f "$folder/out/$1" ] || echo "$me: the program $1 is proved and built first, which takes some minutes" >&2
-    [ ! -f "$folder/args" ] || mapfile -t stored <"$folder/args"
-    [ ! -f "$folder/stdin" ] || input=$folder/stdin
-    quietly "the program $1 was not proved" rt_in "$folder" run -- "${stored[@]}" <"$input"
+# The sum over all that a proof or a run of a program reads: the toolchain, the sources of every crate, how they lean on each other.
+sources_sum() {
+    {
+        rt version &&
+            find crates crates.txt -regex 'crates/[^/]*/out' -prune -o -type f -print0 | LC_ALL=C sort -z | xargs -0 sha256sum
+    } | sha256sum
+}
+
+# What the proofs gave stands in target/bin and target/staticlib, each file with the sum over the sources that it was made of beside it.
+
+# is_made SUM FILE: the file is there, made of the sources with this sum.
+is_made() {
+    [ -f "$2" ] && [ "$(cat "$2.sum" 2>/dev/null)" = "$1" ]
+}
+
+# keep SUM FILE AS: copies what a proof gave. What is the same already stays, and with it what is linked with it.
+keep() {
+    { mkdir -p "$(dirname "$3")" && rm -f "$3.sum"; } || fail "$3.sum could not be removed"
+    cmp -s "$2" "$3" || { cp "$2" "$3.part" && mv -f "$3.part" "$3"; } || fail "$3 could not be written"
+    echo "$1" >"$3.sum"
 }
 
 # rt_in FOLDER WORD..: the command of rt in a crate's folder.
@@ -69,34 +80,54 @@ rt_in() {
     )
 }
 
+# build_program NAME: proves and builds a program as target/bin/NAME, where that is not done yet of the sources as they are. rt runs
+# what it has built, so it gets the input and the words that are stored with the program.
+build_program() {
+    local folder=crates/$1 program=target/bin/$1 stored=() input=/dev/null sum
+    need_rt
+    sum=$(sources_sum) || fail "the sources could not be read"
+    ! is_made "$sum" "$program" || return 0
+    [ -f "$program" ] || echo "$me: the program $1 is proved and built first, which takes some minutes" >&2
+    [ ! -f "$folder/args" ] || mapfile -t stored <"$folder/args"
+    [ ! -f "$folder/stdin" ] || input=$folder/stdin
+    quietly "the program $1 was not proved" rt_in "$folder" run -- "${stored[@]}" <"$input"
+    [ "$(sources_sum)" = "$sum" ] || fail "the sources changed while $1 was proved: run it again"
+    keep "$sum" "$folder/out/$1" "$program"
+}
+
 build_replay() {
     build_program run_replay
 }
 
-# Proves the library and writes target/staticlib/libamsulfezd.a, if it is not there yet of the sources as they are: beside it stands the
-# sum over them that it was made at. A script that calls other scripts exports LIBRARY_BUILT=yes after it, so that they do not ask again.
+# Proves the library and writes target/staticlib/libamsulfezd.a, if it is not there yet of the sources as they are. A script that calls
+# other scripts exports LIBRARY_BUILT=yes after it, so that they do not ask again.
 build_staticlib() {
-    local made=target/staticlib sum
+    local library=target/staticlib/libamsulfezd.a sum
     need_rt
     [ "${LIBRARY_BUILT:-}" != yes ] || return 0
     sum=$(sources_sum) || fail "the sources could not be read"
-    [ -f $made/libamsulfezd.a ] && [ "$(cat $made/sum 2>/dev/null)" = "$sum" ] && return
-    mkdir -p $made
-    rm -f $made/sum
-    quietly "the library amsulfezd was not proved" rt_in crates/amsulfezd_c lib
-    # Where it is the same library, what is linked with it stays.
-    cmp -s crates/amsulfezd_c/out/libamsulfezd_c.a $made/libamsulfezd.a ||
-        cp crates/amsulfezd_c/out/libamsulfezd_c.a $made/libamsulfezd.a || fail "$made/libamsulfezd.a could not be written"
-    [ "$(sources_sum)" != "$sum" ] || echo "$sum" >$made/sum
+    ! is_made "$sum" "$library" || return 0
+    if [ "${OVER_CI:-}" != yes ] || ! lib_over_ci >/dev/null 2>&1; then
+        [ "${OVER_CI:-}" != yes ] || echo "$me: the library is not to be built over what rt ci proved: rt lib proves it once more" >&2
+        quietly "the library amsulfezd was not proved" rt_in crates/amsulfezd_c lib
+    fi
+    [ "$(sources_sum)" = "$sum" ] || fail "the sources changed while the library was proved: run it again"
+    keep "$sum" crates/amsulfezd_c/out/libamsulfezd_c.a "$library"
 }
 
-# The sum over all that a proof reads: the sources of every crate, how they lean on each other, and the toolchain.
-sources_sum() {
-    {
-        rt version
-        find crates crates.txt -path 'crates/*/out' -prune -o -type f -print0 | sort -z | xargs -0 sha256sum
-    } | sha256sum
-}
+# What rt lib does in crates/amsulfezd_c, over the libraries that rt ci has just proved and left in the crates' folders out/: it proves
+# and builds this one crate. rt lib itself would prove all of them once more, one after the other, since rt ci leaves no stamps with
+# them. make test says by OVER_CI=yes that the libraries there are rt ci's. What comes is the same archive to the byte.
+lib_over_ci() (
+    kit=$(dirname "$(dirname "$(readlink -f "$(command -v rt)")")")
+    flags=(--crate-name amsulfezd_c src/lib.rt --crate-type staticlib --extern "std=$kit/rlibs/std.rlib" -L "dependency=$kit/rlibs")
+    read -ra reads < <(sed -n 's/^amsulfezd_c staticlib: //p' crates.txt)
+    for crate in "${reads[@]}"; do flags+=(--extern "$crate=../$crate/out/rlib/$crate.rlib"); done
+    for crate in crates/*/out/rlib; do flags+=(-L "dependency=../../$crate"); done
+    flags+=(--antt-project "$kit/rattle/logic/antt-project.json" --logic-built "$kit/logic_built" --toolchain "$kit/toolchain")
+    mkdir -p crates/amsulfezd_c/out && cd crates/amsulfezd_c &&
+        "$kit/bin/rattle" build "${flags[@]}" --jobs 2 --links amsulfezd_c= --backend llvm -o out/libamsulfezd_c.a
+)
 
 # host_cargo WORD..: cargo on the packages of hosts/rust, without the proved library.
 host_cargo() {

@@ -29,7 +29,7 @@ expect() {
 
 # replay on standard input, its last line.
 replay() {
-    crates/run_replay/out/run_replay
+    target/bin/run_replay
 }
 
 need valgrind valgrind

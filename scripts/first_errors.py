@@ -5,7 +5,7 @@ name that a proof file misses.
 
     python3 scripts/first_errors.py [CRATE | CRATE/EDIT ..]
 
-What rt check kept in the crates' folders out/ goes along, so run 'rt all check' before."""
+In the copy rt begins with what checks in this checkout kept, so run 'rt check' in the crate's folder before."""
 import os
 import re
 import shutil
@@ -28,18 +28,13 @@ def pairs(path):
     return edits
 
 
-def copy_tree(copy, wanted):
-    """Copies what a check reads, and what rt kept of the crates wanted and of those that they lean on."""
-    listed, needed = crates(), set(wanted)
-    for crate in reversed(listed.values()):
-        if crate.name in needed:
-            needed.update(name for name in crate.reads if name in listed)
+def copy_tree(copy):
+    """Copies what a check reads."""
     try:
         os.mkdir(os.path.join(copy, ".git"))  # it is the top of a repository
         shutil.copy("crates.txt", copy)
-        for name in listed:
-            left = {"data"} if name in needed else {"data", "out"}
-            shutil.copytree(os.path.join("crates", name), os.path.join(copy, "crates", name), ignore=lambda at, names, left=left: left & set(names))
+        for name in crates():
+            shutil.copytree(os.path.join("crates", name), os.path.join(copy, "crates", name), ignore=shutil.ignore_patterns("data", "out"))
     except (OSError, shutil.Error) as error:
         fail(f"the tree could not be copied (TMPDIR=folder names another place): {str(error)[:200]}")
 
@@ -88,7 +83,7 @@ def main():
     if shutil.which("rt") is None:
         fail("the Rattle toolchain's command 'rt' is not on the PATH")
     with tempfile.TemporaryDirectory() as copy:
-        copy_tree(copy, {crate for crate, _ in wanted})
+        copy_tree(copy)
         for crate, edit in wanted:
             print(f"{crate}/{os.path.basename(edit)}: {first_error(copy, crate, edit)[:300]}", flush=True)
 

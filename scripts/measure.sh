@@ -7,7 +7,7 @@ cd "$(dirname "$0")/.." || exit 1
 me="measure"
 . scripts/common.sh
 
-program=${PROGRAM:-crates/run_polls/out/run_polls}
+program=${PROGRAM:-target/bin/run_polls}
 [ -n "${PROGRAM:-}" ] || build_program run_polls
 [ -x "$program" ] || fail "$program is not there"
 need valgrind valgrind

@@ -9,7 +9,7 @@ cd "$(dirname "$0")/.." || exit 1
 me="measure frames"
 . scripts/common.sh
 
-program=${PROGRAM:-crates/run_frames/out/run_frames}
+program=${PROGRAM:-target/bin/run_frames}
 [ -n "${PROGRAM:-}" ] || build_program run_frames
 [ -x "$program" ] || fail "$program is not there"
 need valgrind valgrind

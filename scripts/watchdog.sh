@@ -11,4 +11,4 @@ MS=${MS:-}
 [[ $MS != *[!0-9]* ]] || fail "MS=$MS is not a whole number of milliseconds"
 [ "${#MS}" -le 19 ] || fail "MS=$MS is too large: a time has at most 19 digits"
 build_program run_watchdog
-crates/run_watchdog/out/run_watchdog "$MS"
+target/bin/run_watchdog "$MS"

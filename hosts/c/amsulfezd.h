@@ -44,17 +44,17 @@
  * for no other target. Readers and writers are plain C, inline, and work anywhere: with AMSULFEZD_WITHOUT_CALL
  * defined this file has them and not the calls.
  *
- * Stack. A call uses at most AMSULFEZD_STACK_BYTES of the caller's stack, its return address included, whatever the
- * trace's length; the two calls on a simulated bus, which keep eight stations there, at most AMSULFEZD_SIMULATION_STACK_BYTES.
- * Measured: 15,272 and 18,456 bytes for these two, else 5,208 bytes (amsulfezd_trace_heard, which keeps its table there), with the library of the
- * toolchain rattle-kit-5b. The method: the call runs on a stack of its own that was filled with a pattern, and the deepest
- * byte that changed is looked for, over all traces of traces/, one of 100,000 entries and 1,000 traces made at random,
- * which reach every state and every kind of send; each is replayed, asked for an address that was heard and for its
- * counts, its header moved to the other edition, its entries exported and its station stepped, without a table and with one, which
- * is asked for an address, and asked for its counts; over a frame of each start byte and a word of
- * each kind; over the captures of traces/; over each call on settings; and over two setups of eight stations. hosts/c/stack.c does
- * this and is part of the tests, so that a library that uses more is found. The library's code has no recursion, takes no stack by a computed length
- * and calls nothing outside itself.
+ * Stack. A call uses at most AMSULFEZD_STACK_BYTES of the caller's stack, its return address included, whatever the trace's
+ * length; the two calls on a simulated bus, which keep eight stations there, at most AMSULFEZD_SIMULATION_STACK_BYTES.
+ * Measured: at most 19,464 bytes for these two, else at most 5,032, with the library of the toolchain rattle-kit-13f. The
+ * method: the call runs on a stack of its own that was filled with a pattern, and the deepest byte that changed is looked
+ * for, over all traces of traces/, one of 100,000 entries and 1,000 traces made at random, which reach every state and every
+ * kind of send; each is replayed, asked for an address that was heard and for its counts, its header moved to the other
+ * edition, its entries exported and its station stepped, without a table and with one, which is asked for an address, and
+ * asked for its counts; over a frame of each start byte and a word of each kind; over the captures of traces/; over each
+ * call on settings; and over two setups of eight stations. hosts/c/stack.c does this and is part of the tests, so that a
+ * library that uses more is found. The library's code has no recursion, takes no stack by a computed length and calls
+ * nothing outside itself but memcpy and memset.
  */
 #ifndef AMSULFEZD_H
 #define AMSULFEZD_H

@@ -1,8 +1,8 @@
 //! Captures as pcap files, which Wireshark and its kin open: link type 257, PROFIBUS, each packet a frame as it stands on the
 //! bus, from start to end delimiter, with its time in microseconds.
 //!
-//! By hand: Debian 12 has no crate that reads and writes such files (`pcap-sys` binds a C library, which the cross-built tool
-//! would need for another machine), and the format is a head of 24 bytes and 16 bytes before each packet.
+//! By hand: Debian 12 has no crate that reads and writes such files (`pcap-sys` binds a C library), and the format is a head of 24
+//! bytes and 16 bytes before each packet.
 
 /// The link type of PROFIBUS in the registry of link types.
 pub const PROFIBUS: u32 = 257;
