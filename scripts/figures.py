@@ -51,7 +51,7 @@ def is_law(path, has_code):
         return name not in CLAIMS
     if path.endswith("station_numbers/specs/Numbers.antt"):
         return False
-    return name.endswith("Laws.antt") or path.endswith("codec_slices/specs/Parts.antt") or name in (
+    return name.endswith("Laws.antt") or path.endswith("codec_slices/proofs/Parts.antt") or name in (
         "Alike.antt",
         "Arrives.antt",
         "Back.antt",

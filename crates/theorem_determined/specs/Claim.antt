@@ -22,7 +22,7 @@ abbrev pub DeterminedLent {ℓ κ} : {K : Type 0} {A R S : K → Type ℓ} → (
 DeterminedLent {K} {A} {R} {S} Post left =
     (k : K) (a : A k) (r₁ r₂ : R k) (s₁ s₂ : S k) → Post k a r₁ s₁ → Post k a r₂ s₂ → (r₁ ≡ r₂) × (left k s₁ ≡ left k s₂)
 
--- a contract that the program logic alone reads, as that of a call on a record behind a `&mut`: its clauses, in every model
+-- a contract as the program logic reads it, here that of a call on a record behind a `&mut`: its clauses, in every model
 abbrev pub Promised : Ended → Type 2
 Promised T = (M : Type 1) (𝓤 : Ura M) (𝓛 : Logic 𝓤) → (Memory → SProp 𝓤) → (Routine → Fun 𝓤) → Clauses 𝓤 T
 
