@@ -1,19 +1,19 @@
 -- What other crates may use of bit times, each with the sentence that it proves: of the rows of the baud table (`Listed`) and of how
 -- long bits last (`Lasts`).
-use Rattle.std.specs.Prelude.{ℕ, zero, suc, ◌+◌, ◌-◌, ◌*◌, ◌/◌, ◌<◌, ◌≤◌, ◌≡◌, refl, map, eqb, ltb, Bool, true, false, ◌&&◌}
-use Rattle.std.proofs.Common.{lit≤, arith, eq-or-lt_of_le, div-mul-le_self, div-lt_iff_lt-mul, le-div_iff_mul-le, le_of_suc-le-suc, lt-suc_self, mul-le-mul_right, suc-mul, ⊎_elim, eqb-true, ltb-true, ltb-false}
+use Rattle.std.specs.Prelude.{ℕ, zero, suc, ◌+◌, ◌-◌, ◌*◌, ◌/◌, ◌<◌, ◌≤◌, ◌≡◌, refl, map, eqb, ltb, Bool, true, false, ◌&&◌, Result, Ok, Err}
+use Rattle.std.proofs.Common.{sym, ◌∙◌, lit≤, arith, eq-or-lt_of_le, div-mul-le_self, div-lt_iff_lt-mul, le-div_iff_mul-le, le_of_suc-le-suc, lt-suc_self, mul-le-mul_right, suc-mul, ⊎_elim, eqb-true, ltb-true, ltb-false}
 use Rattle.std.proofs.Math.ListN.{get_or-eq_default}
 use Rattle.std.specs.Float.Ieee.Nearest.{div_mono}
-use Rattle.bit_times.specs.declared.Bits.{Bits}
-use Rattle.bit_times.specs.declared.Baud.{Baud}
-use Rattle.bit_times.specs.declared.Baud.TheVariants.{B9600, B19200, B31250, B45450, B93750, B187500, B500000, B1500000, B3000000, B6000000, B12000000}
-use Rattle.bit_times.specs.declared.Coded.{Coded}
-use Rattle.bit_times.specs.declared.Coded.TheVariants.{Rate, Unknown}
+use Rattle.refusals.specs.declared.refusal.Refusal.{Refusal}
+use Rattle.refusals.specs.declared.refusal.Refusal.TheVariants.{BaudCode}
+use Rattle.bit_times.specs.declared.bits.Bits.{Bits}
+use Rattle.bit_times.specs.declared.baud.Baud.{Baud}
+use Rattle.bit_times.specs.declared.baud.Baud.TheVariants.{B9600, B19200, B31250, B45450, B93750, B187500, B500000, B1500000, B3000000, B6000000, B12000000}
 use Rattle.bit_times.specs.Times.{rates, code_of, rate_of, least_slot_bits, baud_of, rounded, time_of}
 use Rattle.bit_times.specs.Laws.{Lasts, Listed}
 
 -- a row of the table is listed where the checker computes that it is
-row_listed : (b : Baud) → baud_of (code_of b) ≡ Rate b → code_of b ≤ 10 → (9600 ≤ rate_of b) × (rate_of b ≤ 12000000) → (100 ≤ least_slot_bits b) × (least_slot_bits b ≤ 1000) → Listed b
+row_listed : (b : Baud) → baud_of (code_of b) ≡ Ok b → code_of b ≤ 10 → (9600 ≤ rate_of b) × (rate_of b ≤ 12000000) → (100 ≤ least_slot_bits b) × (least_slot_bits b ≤ 1000) → Listed b
 row_listed b e c r s = record { back = e; code_top = c; slowest = r.0; fastest = r.1; slot_low = s.0; slot_top = s.1 }
 
 -- every rate is a row of the table
@@ -32,9 +32,9 @@ listed B6000000 = row_listed B6000000 refl (lit≤ tt) (lit≤ tt, lit≤ tt) (l
 listed B12000000 = row_listed B12000000 refl (lit≤ tt) (lit≤ tt, lit≤ tt) (lit≤ tt, lit≤ tt)
 
 -- a code above 10 has no rate
-pub baud_unknown : (n : ℕ) → 11 ≤ n → baud_of n ≡ Unknown
+pub baud_unknown : (n : ℕ) → 11 ≤ n → baud_of n ≡ Err BaudCode
 unfolding baud_of
-baud_unknown n h = get_or-eq_default (map Rate rates) Unknown h
+baud_unknown n h = get_or-eq_default (map Ok rates) (Err BaudCode) h
 
 -- both parts of a conjunction hold
 pub and_true : (a b : Bool) → (a && b) ≡ true → (a ≡ true) × (b ≡ true)
@@ -62,9 +62,9 @@ all_at_lem p (suc k) n t h = ⊎_elim (λ e. rw e both.1) (λ l. all_at_lem p k 
     both = and_true (all p k) (p k) t
 
 -- the code that the reading of a code has, 11 for none
-abbrev code_back : Coded → ℕ
-code_back (Rate b) = code_of b
-code_back Unknown = 11
+abbrev code_back : Result Baud Refusal → ℕ
+code_back (Ok b) = code_of b
+code_back (Err e) = 11
 
 -- each code below 11 is read as a rate of that code
 codes_back : all (λ m. eqb (code_back (baud_of m)) m) 11 ≡ true
@@ -72,7 +72,7 @@ unfolding all baud_of
 codes_back = refl
 
 -- a code that has a rate is the rate's code
-pub baud_code : (n : ℕ) (b : Baud) → baud_of n ≡ Rate b → code_of b ≡ n
+pub baud_code : (n : ℕ) (b : Baud) → baud_of n ≡ Ok b → code_of b ≡ n
 baud_code n b e = by (ltb n 11) refl
   where
     here : n < 11 → code_of b ≡ n
@@ -84,6 +84,20 @@ baud_code n b e = by (ltb n 11) refl
     by : (t : Bool) → ltb n 11 ≡ t → code_of b ≡ n
     by true l = here (ltb-true _ _ l)
     by false g = absurd (none (ltb-false _ _ g))
+
+-- a code that has no rate is refused for it
+pub no_rate : (n : ℕ) (e : Refusal) → baud_of n ≡ Err e → e ≡ BaudCode
+no_rate n e r = by (ltb n 11) refl
+  where
+    back : n < 11 → code_back (baud_of n) ≡ n
+    back l = eqb-true (code_back (baud_of n)) n (all_at_lem (λ m. eqb (code_back (baud_of m)) m) 11 n codes_back l)
+
+    here : n < 11 → ⊥
+    here l = let none : 11 ≡ n = rw r at (back l) in omega arith
+
+    by : (t : Bool) → ltb n 11 ≡ t → e ≡ BaudCode
+    by true l = absurd (here (ltb-true _ _ l))
+    by false g = let s : ◌≡◌ {A = Result Baud Refusal} (Err BaudCode) (Err e) = sym (baud_unknown n (ltb-false _ _ g)) ∙ r in cc
 
 -- what rounding up gives, over whole numbers: the least number that is not below a / b, which is less than 1 above a / b
 rounded_up : (a b : ℕ) → 0 < b → (a ≤ rounded a b * b) × (rounded a b * b < a + b)

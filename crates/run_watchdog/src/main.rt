@@ -1,159 +1,90 @@
-// Shows how the two watchdog factors of a time come about, for each time in milliseconds that its arguments name: the units,
-// the two divisions, the factors and the time that they make; for a refused time the number and the limit. The numbers are
-// what the proved calls give. It leans on settings_watchdog for the factors and on settings for what a setting takes.
+//! Shows how the two watchdog factors of a time come about, for each time in milliseconds that its arguments name: the units,
+//! the two divisions, the factors and the time that they make; for a refused time the number and the limit. The numbers are
+//! what the proved calls give. It leans on settings_watchdog for the factors and on settings for what a setting takes.
 #![tactic(auto)]
 
-use settings::{Changed, Created, Parameters};
-use settings_watchdog::{Factored, MOST_UNITS, Timeout, WatchdogFactors};
+use settings::Parameters;
+use settings_watchdog::{MOST_UNITS, units_of, watchdog_factors, watchdog_time};
 use std::env::{Env, FillError};
 use std::io;
 
-// A time that an argument names.
-#[derive(Clone, Copy)]
-enum Named {
-    Time(u64),
-    Nothing,
-}
-
-fn text(rt: &impl Print, words: &[u8]) -> io::Result<()> {
-    rt.write_all(words)
-}
-
-fn number(rt: &impl Print, n: u64) -> io::Result<()> {
-    rt.print(n)
-}
-
 // The first division: units / 255 rounded up is f1, or f1 is 1 where there are no units.
 fn first_division(rt: &impl Print, units: u64, f1: u8) -> io::Result<()> {
-    number(rt, units)?;
     if units == 0 {
-        text(rt, b" / 255 is 0, and the first factor is at least 1: ")?;
-        number(rt, f1 as u64)?;
-        text(rt, b"\n")?;
-        return Ok(());
+        println!(rt; "{units} / 255 is 0, and the first factor is at least 1: {f1}")
+    } else {
+        println!(rt; "{units} / 255 rounded up is {f1}: the first factor")
     }
-    text(rt, b" / 255 rounded up is ")?;
-    number(rt, f1 as u64)?;
-    text(rt, b": the first factor\n")
-}
-
-// The second division: units / f1 rounded up is f2.
-fn second_division(rt: &impl Print, units: u64, f1: u8, f2: u8) -> io::Result<()> {
-    number(rt, units)?;
-    text(rt, b" / ")?;
-    number(rt, f1 as u64)?;
-    text(rt, b" rounded up is ")?;
-    number(rt, f2 as u64)?;
-    text(rt, b": the second factor\n")
-}
-
-// The time that the factors make.
-fn product(rt: &impl Print, f1: u8, f2: u8) -> io::Result<()> {
-    let made = settings_watchdog::watchdog_time(WatchdogFactors::Some(f1, f2));
-    match made {
-        Timeout::None => {
-            text(rt, b"no time\n")?;
-        }
-        Timeout::After(micros) => {
-            number(rt, f1 as u64)?;
-            text(rt, b" x ")?;
-            number(rt, f2 as u64)?;
-            text(rt, b" x 10 ms is ")?;
-            number(rt, micros.0 / 1000)?;
-            text(rt, b" ms: the time that they make\n")?;
-        }
-    }
-    Ok(())
 }
 
 // How the factors of a time come about, or why it has none.
 fn factors(rt: &impl Print, ms: u64) -> io::Result<()> {
-    let units = settings_watchdog::units_of(ms);
-    let answer = settings_watchdog::watchdog_factors(ms);
-    number(rt, ms)?;
-    match answer {
-        Factored::None => {
-            text(rt, b" ms: no watchdog, so no factors\n")?;
-        }
-        Factored::Factors(f1, f2) => {
-            text(rt, b" ms / 10 ms rounded down is ")?;
-            number(rt, units)?;
-            text(rt, b": the units\n")?;
+    let units = units_of(ms);
+    match watchdog_factors(ms) {
+        Ok(None) => println!(rt; "{ms} ms: no watchdog, so no factors"),
+        Ok(Some((f1, f2))) => {
+            println!(rt; "{ms} ms / 10 ms rounded down is {units}: the units")?;
             first_division(rt, units, f1)?;
-            second_division(rt, units, f1, f2)?;
-            product(rt, f1, f2)?;
+            println!(rt; "{units} / {f1} rounded up is {f2}: the second factor")?;
+            match watchdog_time(Some((f1, f2))) {
+                None => println!(rt; "no time"),
+                Some(time) => {
+                    let made = time.0 / 1000;
+                    println!(rt; "{f1} x {f2} x 10 ms is {made} ms: the time that they make")
+                }
+            }
         }
-        Factored::Refused(n) => {
-            text(rt, b" ms: refused with ")?;
-            number(rt, n as u64)?;
-            text(rt, b": ")?;
-            number(rt, units)?;
-            text(rt, b" units of 10 ms are more than 255 x 255 = ")?;
-            number(rt, MOST_UNITS)?;
-            text(rt, b"\n")?;
+        Err(refusal) => {
+            let number = refusal.number();
+            println!(rt;
+                "{ms} ms: refused with {number}: {units} units of 10 ms are more than 255 x 255 = {MOST_UNITS}"
+            )
         }
     }
-    Ok(())
 }
 
 // What the settings say to the time, if they refuse it.
 fn setting(rt: &impl Print, p: Parameters, ms: u64) -> io::Result<()> {
-    let answer = p.watchdog_timeout(ms);
-    match answer {
-        Changed::Accepted(_) => {}
-        Changed::Refused(n, _) => {
-            text(rt, b"the settings refuse ")?;
-            number(rt, ms)?;
-            text(rt, b" ms with ")?;
-            number(rt, n as u64)?;
-            text(rt, b": they take 10 to 650000 ms\n")?;
+    match p.watchdog_timeout(ms) {
+        Ok(_) => Ok(()),
+        Err(not_set) => {
+            let number = not_set.refusal.number();
+            println!(rt; "the settings refuse {ms} ms with {number}: they take 10 to 650000 ms")
         }
     }
-    Ok(())
 }
 
 // The number that decimal digits make; nothing if there are none or other bytes, or if there are more than 19.
-fn number_of(digits: &[u8]) -> Named {
-    if digits.len() == 0 {
-        return Named::Nothing;
+fn number_of(digits: &[u8]) -> Option<u64> {
+    if digits.is_empty() {
+        return None;
     }
     let mut n: u64 = 0;
-    for i in 0..digits.len() {
-        let digit = digits[i];
-        if digit < b'0' {
-            return Named::Nothing;
+    for &digit in digits {
+        if !digit.is_ascii_digit() || n >= 1_000_000_000_000_000_000 {
+            return None;
         }
-        if digit > b'9' {
-            return Named::Nothing;
-        }
-        if n >= 1000000000000000000 {
-            return Named::Nothing;
-        }
-        n = n * 10 + (digit - b'0') as u64;
+        n = n * 10 + u64::from(digit - b'0');
     }
-    Named::Time(n)
+    Some(n)
 }
 
 // Shows the time that an argument names.
 fn show(rt: &impl Print, p: Parameters, word: &[u8]) -> io::Result<()> {
-    let named = number_of(word);
-    match named {
-        Named::Nothing => {
-            text(rt, b"a time is 1 to 19 decimal digits, in ms\n")?;
-        }
-        Named::Time(ms) => {
+    match number_of(word) {
+        None => println!(rt; "a time is 1 to 19 decimal digits, in ms"),
+        Some(ms) => {
             factors(rt, ms)?;
-            setting(rt, p, ms)?;
+            setting(rt, p, ms)
         }
     }
-    Ok(())
 }
 
 // The settings asked are those of address 0 and baud code 0: what they say to a watchdog time is the same for all. An argument
 // of more than 32 bytes names no time.
 fn main(rt: HostRuntime) -> io::Result<()> {
-    let Created::Accepted(p) = Parameters::new(0, 0) else {
-        return text(&rt, b"there are no settings of address 0 and baud code 0\n");
+    let Ok(p) = Parameters::new(0, 0) else {
+        return println!(&rt; "there are no settings of address 0 and baud code 0");
     };
     for i in 1..usize::MAX {
         let mut word = [0u8; 32];

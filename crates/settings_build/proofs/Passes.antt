@@ -3,9 +3,9 @@ use Rattle.std.specs.Prelude.{ℕ, ◌+◌, ◌<◌, ◌≤◌, ◌≡◌, List,
 use Rattle.std.proofs.Common.{arith}
 use Rattle.bit_times.specs.Times.{baud_of}
 use Rattle.settings_rules.specs.Rules.{address_refusal, baud_refusal, least_of, slot_bits_refusal, hsa_refusal, rotation_refusal, room_refusal, gap_wait_refusal, retry_refusal, min_tsdr_refusal, factors_refusal}
-use Rattle.settings_rules.proofs.Laws.{below_in, outside_in, none_refuses}
-use Rattle.settings.specs.declared.Parameters.{Parameters}
-use Rattle.settings_build.specs.declared.PlainSettings.{PlainSettings}
+use Rattle.settings_rules.proofs.Laws.{below_in, outside_in, none_refuses, first_has, Numbered, none_numbered, address_numbered, baud_numbered, slot_bits_numbered, hsa_numbered, rotation_numbered, room_numbered, gap_wait_numbered, retry_numbered, min_tsdr_numbered, factors_numbered}
+use Rattle.settings.specs.declared.parameters.Parameters.{Parameters}
+use Rattle.settings_build.specs.declared.plain.PlainSettings.{PlainSettings}
 use Rattle.settings_build.specs.Build.{early_refusal, first_refusal, plain_of}
 use Rattle.settings_build.specs.Passes.{Passes}
 
@@ -56,3 +56,33 @@ rotation_top p e = (outside_in 256 p.token_rotation_bits 16777960 4 (omega arith
 pub rotation_room : (p : Parameters) → first_refusal (plain_of p) ≡ 0 → p.slot_bits + 100 ≤ p.token_rotation_bits
 unfolding plain_of room_refusal
 rotation_room p e = below_in (p.slot_bits + 100) p.token_rotation_bits 25 (omega arith) (passes (plain_of p) e).room
+
+-- the number of a whole record's refusal is one that a refusal has
+pub early_numbered : (f : PlainSettings) → Numbered (early_refusal f)
+unfolding early_refusal
+early_numbered f =
+    let least : ℕ = least_of (baud_of f.baud_code) in
+    let seven : List ℕ = min_tsdr_refusal f.min_tsdr_bits ∷ [] in
+    let six : List ℕ = retry_refusal f.max_retry_limit ∷ seven in
+    let five : List ℕ = gap_wait_refusal f.gap_wait_rotations ∷ six in
+    let room : List ℕ = room_refusal f.slot_bits f.token_rotation_bits ∷ five in
+    let four : List ℕ = rotation_refusal f.token_rotation_bits ∷ room in
+    let three : List ℕ = hsa_refusal f.address f.highest_station_address ∷ four in
+    let two : List ℕ = slot_bits_refusal least f.slot_bits ∷ three in
+    let ten : List ℕ = baud_refusal (baud_of f.baud_code) ∷ two in
+    first_has Numbered (address_refusal f.address) ten (address_numbered f.address)
+    (first_has Numbered (baud_refusal (baud_of f.baud_code)) two (baud_numbered (baud_of f.baud_code))
+    (first_has Numbered (slot_bits_refusal least f.slot_bits) three (slot_bits_numbered least f.slot_bits)
+    (first_has Numbered (hsa_refusal f.address f.highest_station_address) four (hsa_numbered f.address f.highest_station_address)
+    (first_has Numbered (rotation_refusal f.token_rotation_bits) room (rotation_numbered f.token_rotation_bits)
+    (first_has Numbered (room_refusal f.slot_bits f.token_rotation_bits) five (room_numbered f.slot_bits f.token_rotation_bits)
+    (first_has Numbered (gap_wait_refusal f.gap_wait_rotations) six (gap_wait_numbered f.gap_wait_rotations)
+    (first_has Numbered (retry_refusal f.max_retry_limit) seven (retry_numbered f.max_retry_limit)
+    (first_has Numbered (min_tsdr_refusal f.min_tsdr_bits) [] (min_tsdr_numbered f.min_tsdr_bits) none_numbered))))))))
+
+pub whole_numbered : (f : PlainSettings) → Numbered (first_refusal f)
+unfolding first_refusal
+whole_numbered f =
+    let factors : ℕ = factors_refusal f.factor_1 f.factor_2 in
+    first_has Numbered (early_refusal f) (factors ∷ []) (early_numbered f)
+    (first_has Numbered factors [] (factors_numbered f.factor_1 f.factor_2) none_numbered)

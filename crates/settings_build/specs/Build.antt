@@ -1,20 +1,16 @@
 -- Document 01, "Settings" and its header order of refusals 1 to 8 and 10, beside profirust's parameters.rs, with document 02's 25 in its
 -- place: the check of a whole record, the settings that an accepted one makes, and settings finished.
--- A refusal is its document's number; 0 stands for no refusal. `cond t a b` is a if the test t holds, else b.
-use Rattle.std.specs.Prelude.{ℕ, cond, [], ◌∷◌, eqb}
-use Rattle.bit_times.specs.declared.Coded.{Coded}
-use Rattle.bit_times.specs.declared.Coded.TheVariants.{Rate, Unknown}
+-- A rule gives its document's number of a refusal, 0 for none; an answer has the refusal by its name. `cond t a b` is a if the test t holds, else b.
+use Rattle.std.specs.Prelude.{ℕ, cond, [], ◌∷◌, eqb, Option, Some, None, Result, Ok, Err}
+use Rattle.refusals.specs.declared.refusal.Refusal.{Refusal}
+use Rattle.refusals.specs.Refusals.{named}
+use Rattle.bit_times.specs.declared.baud.Baud.{Baud}
 use Rattle.bit_times.specs.Times.{code_of, baud_of}
-use Rattle.settings_watchdog.specs.declared.WatchdogFactors.{WatchdogFactors}
-use Rattle.settings_watchdog.specs.declared.WatchdogFactors.TheVariants as wf
-use Rattle.settings.specs.declared.Parameters.{Parameters}
-use Rattle.settings.specs.declared.Created.{Created}
-use Rattle.settings.specs.declared.Created.TheVariants as created
-use Rattle.settings.specs.declared.Changed.{Changed}
-use Rattle.settings.specs.declared.Changed.TheVariants as changed
+use Rattle.settings.specs.declared.parameters.Parameters.{Parameters}
+use Rattle.settings.specs.declared.not_set.NotSet.{NotSet}
 use Rattle.settings_rules.specs.Rules.{address_refusal, baud_refusal, least_of, slot_bits_refusal, hsa_refusal, rotation_refusal, room_refusal, gap_wait_refusal, retry_refusal, min_tsdr_refusal, factors_refusal, first_of}
 use Rattle.settings.specs.Settings.{unless}
-use Rattle.settings_build.specs.declared.PlainSettings.{PlainSettings}
+use Rattle.settings_build.specs.declared.plain.PlainSettings.{PlainSettings}
 
 -- the first refusal up to min Tsdr, in document 01's header order with 25 directly after 4: 1, 10, 2, 3, 4, 25, 5, 6, 7
 unfoldable pub early_refusal : PlainSettings → ℕ
@@ -36,13 +32,13 @@ unfoldable pub first_refusal : PlainSettings → ℕ
 first_refusal f = first_of (early_refusal f ∷ factors_refusal f.factor_1 f.factor_2 ∷ [])
 
 -- two factors as the settings keep them: zero says that there are none
-unfoldable pub pair_of : ℕ → ℕ → WatchdogFactors
-pair_of f1 f2 = cond (eqb f1 0) wf.None (wf.Some f1 f2)
+unfoldable pub pair_of : ℕ → ℕ → Option (ℕ × ℕ)
+pair_of f1 f2 = cond (eqb f1 0) None (Some (f1, f2))
 
 -- the settings with each field as given
-unfoldable pub built_at : PlainSettings → Coded → Created
-built_at f (Rate baud) =
-    created.Accepted
+unfoldable pub built_at : PlainSettings → Result Baud Refusal → Result Parameters Refusal
+built_at f (Ok baud) =
+    Ok
     (record {
       token_rotation_bits = f.token_rotation_bits;
       slot_bits = f.slot_bits;
@@ -54,16 +50,16 @@ built_at f (Rate baud) =
       min_tsdr_bits = f.min_tsdr_bits;
       watchdog_factors = pair_of f.factor_1 f.factor_2;
     })
-built_at f Unknown = created.Refused (baud_refusal Unknown)
+built_at f (Err e) = Err e
 
 -- ParametersBuilder::build over a whole record: its first refusal, or the settings
-unfoldable pub build_of : PlainSettings → Created
-build_of f = cond (eqb (first_refusal f) 0) (built_at f (baud_of f.baud_code)) (created.Refused (first_refusal f))
+unfoldable pub build_of : PlainSettings → Result Parameters Refusal
+build_of f = cond (eqb (first_refusal f) 0) (built_at f (baud_of f.baud_code)) (Err (named (first_refusal f)))
 
 -- the two factors as numbers, zero where there are none
-abbrev pub factors_pair : WatchdogFactors → ℕ × ℕ
-factors_pair wf.None = (0, 0)
-factors_pair (wf.Some f1 f2) = (f1, f2)
+abbrev pub factors_pair : Option (ℕ × ℕ) → ℕ × ℕ
+factors_pair None = (0, 0)
+factors_pair (Some factors) = factors
 
 -- the settings as plain numbers
 unfoldable pub plain_of : Parameters → PlainSettings
@@ -82,5 +78,5 @@ plain_of p =
     }
 
 -- settings are finished by the check of a whole record: refused with its number and handed back as they were, or accepted
-unfoldable pub finish_of : Parameters → Changed
-finish_of p = unless (first_refusal (plain_of p)) p (changed.Accepted p)
+unfoldable pub finish_of : Parameters → Result Parameters NotSet
+finish_of p = unless (first_refusal (plain_of p)) p (Ok p)

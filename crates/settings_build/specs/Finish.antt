@@ -1,23 +1,22 @@
 -- Settings finished, as statements: what `finish` answers, and that the order of setting does not matter; and the site's settings. The
 -- proofs are in proofs/FinishLaws.
-use Rattle.std.specs.Prelude.{◌+◌, ◌<◌, ◌≤◌, ◌≡◌, ◌↔◌}
-use Rattle.bit_times.specs.declared.Baud.TheVariants as baud
-use Rattle.settings_watchdog.specs.declared.WatchdogFactors.TheVariants as wf
-use Rattle.settings.specs.declared.Parameters.{Parameters}
-use Rattle.settings.specs.declared.Changed.{Changed}
-use Rattle.settings.specs.declared.Changed.TheVariants as changed
-use Rattle.settings.specs.Settings.{changed_number, changed_settings}
+use Rattle.std.specs.Prelude.{◌+◌, ◌<◌, ◌≤◌, ◌≡◌, ◌↔◌, None, Result, Ok}
+use Rattle.bit_times.specs.declared.baud.Baud.TheVariants as baud
+use Rattle.refusals.specs.declared.refusal.Refusal.TheVariants.{NoRoomForGapPoll}
+use Rattle.settings.specs.declared.parameters.Parameters.{Parameters}
+use Rattle.settings.specs.declared.not_set.NotSet.{NotSet}
+use Rattle.settings.specs.Settings.{changed_number, changed_settings, not_set}
 use Rattle.settings_build.specs.Build.{finish_of}
 
 -- finishing accepts the settings, as they are, exactly if the rotation is at least slot bits + 100; and refuses them with 25, and hands
 -- them back as they were, exactly if it is less
 pub record Finishes (p : Parameters) : Type 0 where
-  pub accepted : (finish_of p ≡ changed.Accepted p) ↔ (p.slot_bits + 100 ≤ p.token_rotation_bits)
-  pub refused : (finish_of p ≡ changed.Refused 25 p) ↔ (p.token_rotation_bits < p.slot_bits + 100)
+  pub accepted : (finish_of p ≡ Ok p) ↔ (p.slot_bits + 100 ≤ p.token_rotation_bits)
+  pub refused : (finish_of p ≡ not_set NoRoomForGapPoll p) ↔ (p.token_rotation_bits < p.slot_bits + 100)
 
 -- two setters in either order, the second on the settings that the first one's answer has: each answers the same number, first or
 -- second, the settings that are left are the same, and so they finish alike
-pub record EitherOrder (f g : Parameters → Changed) (p : Parameters) : Type 0 where
+pub record EitherOrder (f g : Parameters → Result Parameters NotSet) (p : Parameters) : Type 0 where
   pub same_number : changed_number (f p) ≡ changed_number (f (changed_settings (g p)))
   pub same_other : changed_number (g (changed_settings (f p))) ≡ changed_number (g p)
   pub same_settings : changed_settings (g (changed_settings (f p))) ≡ changed_settings (f (changed_settings (g p)))
@@ -36,5 +35,5 @@ site =
       highest_station_address = 126;
       max_retry_limit = 1;
       min_tsdr_bits = 11;
-      watchdog_factors = wf.None;
+      watchdog_factors = None;
     }

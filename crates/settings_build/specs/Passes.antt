@@ -2,7 +2,7 @@
 use Rattle.std.specs.Prelude.{◌≡◌}
 use Rattle.bit_times.specs.Times.{baud_of}
 use Rattle.settings_rules.specs.Rules.{address_refusal, baud_refusal, least_of, slot_bits_refusal, hsa_refusal, rotation_refusal, room_refusal, gap_wait_refusal, retry_refusal, min_tsdr_refusal, factors_refusal}
-use Rattle.settings_build.specs.declared.PlainSettings.{PlainSettings}
+use Rattle.settings_build.specs.declared.plain.PlainSettings.{PlainSettings}
 
 -- no rule refuses a field
 pub record Passes (f : PlainSettings) : Type 0 where

@@ -1,9 +1,10 @@
 -- Document 01, "Settings": one rule for each limit. A rule gives its refusal's number, or 0 where the value is taken. Setters, new
 -- settings, the check of a whole record (settings_build), a header and a new station use the same rules. 1 to 7 and the watchdog's 8
 -- are asserts of profirust's ParametersBuilder; 10, 11 and the factors' 8 are document 01's; 25 is document 02's (P4).
-use Rattle.std.specs.Prelude.{ℕ, ◌+◌, cond, ◌&&◌, List, [], ◌∷◌, leb, eqb}
-use Rattle.bit_times.specs.declared.Coded.{Coded}
-use Rattle.bit_times.specs.declared.Coded.TheVariants.{Rate, Unknown}
+use Rattle.std.specs.Prelude.{ℕ, ◌+◌, cond, ◌&&◌, List, [], ◌∷◌, leb, eqb, Result, Ok, Err}
+use Rattle.refusals.specs.declared.refusal.Refusal.{Refusal}
+use Rattle.refusals.specs.Refusals.{number_of}
+use Rattle.bit_times.specs.declared.baud.Baud.{Baud}
 use Rattle.bit_times.specs.Times.{least_slot_bits}
 
 -- Numbers of document 01.
@@ -52,14 +53,14 @@ unfoldable pub address_refusal : ℕ → ℕ
 address_refusal address = refuse_outside 0 address last_address 1
 
 -- 10: a baud code above 10, which has no rate
-unfoldable pub baud_refusal : Coded → ℕ
-baud_refusal (Rate baud) = 0
-baud_refusal Unknown = 10
+unfoldable pub baud_refusal : Result Baud Refusal → ℕ
+baud_refusal (Ok baud) = 0
+baud_refusal (Err e) = number_of e
 
 -- the least slot bits of a code's rate; 0 where the code has none, which is refused before
-abbrev pub least_of : Coded → ℕ
-least_of (Rate baud) = least_slot_bits baud
-least_of Unknown = 0
+abbrev pub least_of : Result Baud Refusal → ℕ
+least_of (Ok baud) = least_slot_bits baud
+least_of (Err e) = 0
 
 -- 2: slot bits at least the least
 unfoldable pub slot_bits_refusal : ℕ → ℕ → ℕ
