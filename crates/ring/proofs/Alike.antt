@@ -1,11 +1,10 @@
 -- The tables beside the bits that they replace: after any calls from fresh the two answer alike.
-use Rattle.std.specs.Prelude.{ℕ, zero, suc, ◌<◌, ◌≡◌, refl, Bool, true, false, cond, not, ◌&&◌, ◌||◌, List, [], ◌∷◌, ltb, leb, eqb}
+use Rattle.std.specs.Prelude.{ℕ, zero, suc, ◌<◌, ◌≡◌, refl, Bool, true, false, cond, not, ◌&&◌, ◌||◌, List, [], ◌∷◌, ltb, leb, eqb, Option}
 use Rattle.std.proofs.Common.{sym, ap, ◌∙◌, arith, ltb-true, ltb-false, eqb-true}
 use Rattle.std.proofs.lemmas.Bool.{eqb-false}
 use Rattle.ring_addresses.specs.Set.{up, walk, nearest, only, add_to, take_out, keeps, keeps_all, same_set}
 use Rattle.ring_addresses.specs.SetLaws.{walk_ext}
 use Rattle.ring_addresses.specs.WordLaws.{has_words, has_out as bits_out}
-use Rattle.ring.specs.declared.NextStation.{NextStation}
 use Rattle.ring.specs.declared.GapState.TheVariants.{Waiting, DoPoll}
 use Rattle.ring.specs.Ring.{Ring, has, others, first_of, next_of, fresh_of, add_of, remove_of, laps_of, witness_of, candidate_of, polls_on, polls, gap_of}
 use Rattle.ring_links.specs.Sets.{nearest_ext}
@@ -105,7 +104,7 @@ answer_alike r b s a =
       next_same = next;
       previous_same =
           previous_nearest r s ∙ ap (nearest false (has r)) a.own_same ∙ nearest_ext false (has r) (has_bit b) b.own a.set_same;
-      gap_same = λ y hsa. ap (λ (n : NextStation). cond (cond (ltb (candidate_of y hsa) 126) (polls_on n r.own (candidate_of y hsa)) false) (DoPoll (candidate_of y hsa)) (Waiting 0)) next ∙ ap (λ (o : ℕ). cond (cond (ltb (candidate_of y hsa) 126) (polls_on (next_bits b) o (candidate_of y hsa)) false) (DoPoll (candidate_of y hsa)) (Waiting 0)) a.own_same;
+      gap_same = λ y hsa. ap (λ (n : Option ℕ). cond (cond (ltb (candidate_of y hsa) 126) (polls_on n r.own (candidate_of y hsa)) false) (DoPoll (candidate_of y hsa)) (Waiting 0)) next ∙ ap (λ (o : ℕ). cond (cond (ltb (candidate_of y hsa) 126) (polls_on (next_bits b) o (candidate_of y hsa)) false) (DoPoll (candidate_of y hsa)) (Waiting 0)) a.own_same;
     }
   where
     member : (x : ℕ) (t : Bool) → ltb x 126 ≡ t → has r x ≡ has_bit b x

@@ -1,12 +1,11 @@
 -- Laws of the ring, which upper crates cite in place of the definitions' text. Their premises are `SoundRing` and bounds of addresses.
-use Rattle.std.specs.Prelude.{ℕ, ◌+◌, ◌^◌, ◌<◌, ◌≤◌, min, ◌≡◌, refl, Bool, true, false, not, ◌&&◌, ◌||◌, ◌⊎◌, length, ltb, leb, eqb}
+use Rattle.std.specs.Prelude.{ℕ, ◌+◌, ◌^◌, ◌<◌, ◌≤◌, min, ◌≡◌, refl, Bool, true, false, not, ◌&&◌, ◌||◌, ◌⊎◌, length, ltb, leb, eqb, None, Some}
 use Rattle.std.proofs.Common.{sym, ap, subst, ◌∙◌, inl, inr, arith, lt-ltb, le-ltb, eq-eqb, ne_eqb, ltb-true, ltb-false, eqb-true}
 use Rattle.std.proofs.Math.Bool.{cond, and-false, or-true}
 use mathlib.Core.List.{List, [], ◌∷◌}
 use Rattle.std.proofs.lemmas.Bool.{eqb-false}
 use Rattle.ring_addresses.specs.Set.{up, walk, head_or, last_or, nearest, between_of, only, add_to, take_out, keeps, keeps_all, same_set}
 use Rattle.ring_addresses.specs.SetLaws.{true≢false, walk_ext, walk_length, first, nobody, walk_nobody, All, Distinct, walk_all, walk_distinct, without, walk_without, without_head, last_walk, dist_of, between_on, between_start, keeps_start, keeps_end, keeps_between, keeps_else, keeps_me, same_if, same_then}
-use Rattle.ring.specs.declared.NextStation.TheVariants.{Nobody, Neighbour}
 use Rattle.ring.specs.declared.GapState.{GapState}
 use Rattle.ring.specs.declared.GapState.TheVariants.{Waiting, DoPoll}
 use Rattle.ring.specs.Ring.{Ring, after, before, listed, links_of, unlink_of, insert_of, relink_of, has, make, claim_of, others, first_of, next_of, next_number, prev_of, fresh_of, with_links, add_of, remove_of, round_of, laps_of, passed, confirms_of, counted, witness_of, candidate_of, polls_on, polls, gap_of}
@@ -410,7 +409,7 @@ pub next_first : (r : Ring) → SoundRing r → next_of r ≡ first_of (others r
 unfolding next_of others
 next_first r s = rw (lt-ltb r.own 126 s.own_low, after_own r s) (unfold nearest in go (walk (has r) (up r.own) 125 1) refl)
   where
-    go : (os : List ℕ) → walk (has r) (up r.own) 125 1 ≡ os → cond (eqb (head_or r.own os) r.own) Nobody (Neighbour (head_or r.own os)) ≡ first_of os
+    go : (os : List ℕ) → walk (has r) (up r.own) 125 1 ≡ os → cond (eqb (head_or r.own os) r.own) None (Some (head_or r.own os)) ≡ first_of os
     go [] e = rw (eq-eqb r.own r.own refl)
     go (x ∷ xs) e =
         let w = first (has r) (up r.own) 125 1 x xs e in
@@ -418,11 +417,11 @@ next_first r s = rw (lt-ltb r.own 126 s.own_low, after_own r s) (unfold nearest 
         rw (ne_eqb x r.own far)
 
 -- next is the head of the others
-pub next_is : (r : Ring) (x : ℕ) (xs : List ℕ) → SoundRing r → others r ≡ x ∷ xs → next_of r ≡ Neighbour x
+pub next_is : (r : Ring) (x : ℕ) (xs : List ℕ) → SoundRing r → others r ≡ x ∷ xs → next_of r ≡ Some x
 next_is r x xs s e = next_first r s ∙ ap first_of e
 
 -- with no others next is nobody
-pub next_alone : (r : Ring) → SoundRing r → others r ≡ [] → next_of r ≡ Nobody
+pub next_alone : (r : Ring) → SoundRing r → others r ≡ [] → next_of r ≡ None
 next_alone r s e = next_first r s ∙ ap first_of e
 
 -- with others the first of them is their head
@@ -482,7 +481,7 @@ next_number_low r s = go (others r) refl
     go (y ∷ ys) e = rw (next_is r y ys s e) (omega (arith, (next_other r y ys s e).low))
 
 -- no station has nobody's number
-pub next_number_apart : (r : Ring) (x : ℕ) (xs : List ℕ) → SoundRing r → others r ≡ x ∷ xs → next_number (next_of r) ≡ next_number Nobody → ⊥
+pub next_number_apart : (r : Ring) (x : ℕ) (xs : List ℕ) → SoundRing r → others r ≡ x ∷ xs → next_number (next_of r) ≡ next_number None → ⊥
 next_number_apart r x xs s e n =
     let is : next_number (next_of r) ≡ x = ap next_number (next_is r x xs s e) in
     omega (arith, (next_other r x xs s e).low)
@@ -512,7 +511,7 @@ pub previous_in : (r : Ring) → SoundRing r → has r (prev_of r) ≡ true
 previous_in r s = (previous_member r s).1
 
 -- next is nobody exactly if there is no other: this is one way, `next_alone` the other
-pub alone : (r : Ring) → SoundRing r → next_of r ≡ Nobody → others r ≡ []
+pub alone : (r : Ring) → SoundRing r → next_of r ≡ None → others r ≡ []
 alone r s n = go (others r) refl
   where
     go : (os : List ℕ) → others r ≡ os → others r ≡ []

@@ -1,11 +1,10 @@
 -- Who next and previous are, without a search: next is the one member other than own with no member strictly between own and it
 -- going up, and previous the one with no member strictly between it and own. The same laws for both.
-use Rattle.std.specs.Prelude.{ℕ, ◌+◌, ◌<◌, ◌≤◌, ◌≡◌, refl, Bool, true, false, List, [], ◌∷◌, ltb}
+use Rattle.std.specs.Prelude.{ℕ, ◌+◌, ◌<◌, ◌≤◌, ◌≡◌, refl, Bool, true, false, List, [], ◌∷◌, ltb, Some}
 use Rattle.std.proofs.Common.{sym, ap, subst, ◌∙◌, arith, ltb-true, ltb-false}
 use borrow.Table.Steps.{cases}
 use Rattle.ring_addresses.specs.Set.{up, down, walk, head_or, last_or, nearest, between_of}
 use Rattle.ring_addresses.specs.SetLaws.{true≢false, All, first, nobody, dist_of, between_on, between_end}
-use Rattle.ring.specs.declared.NextStation.TheVariants.{Neighbour}
 use Rattle.ring.specs.Ring.{Ring, has, others, next_of, prev_of}
 use Rattle.ring_links.specs.Distances.{dist_low, dist_some, up_dist, dist_up, dist_by, between_from}
 use Rattle.ring.specs.Laws.{SoundRing, Other}
@@ -90,7 +89,7 @@ previous_gap r x s l b = go (down_from r) refl (between_on (prev_of r) x r.own (
         closer (dist_of (prev_of r) x) (dist_of x r.own) (dist_of (prev_of r) r.own) w.dist sum back h.0 (w.none (dist_of x r.own)) refl
 
 -- next is the only one of the others with no member strictly between own and it
-pub next_only : (r : Ring) (x : ℕ) → SoundRing r → Other r x → ((y : ℕ) → y < 126 → between_of r.own y x ≡ true → has r y ≡ false) → next_of r ≡ Neighbour x
+pub next_only : (r : Ring) (x : ℕ) → SoundRing r → Other r x → ((y : ℕ) → y < 126 → between_of r.own y x ≡ true → has r y ≡ false) → next_of r ≡ Some x
 unfolding others
 next_only r x s o none = go (others r) refl
   where
@@ -102,11 +101,11 @@ next_only r x s o none = go (others r) refl
         let is = dist_up own e s.own_low (omega (arith, dist_low own x)) in
         none (up own e) (omega arith) (between_from own (up own e) x s.own_low (omega arith) o.low (subst (λ (n : ℕ). 0 < n) (sym is) h) (subst (λ (n : ℕ). n < dist_of own x) (sym is) k))
 
-    go : (os : List ℕ) → others r ≡ os → next_of r ≡ Neighbour x
+    go : (os : List ℕ) → others r ≡ os → next_of r ≡ Some x
     go [] e = absurd (o.not_own (alone_has r x s o.low e o.in_set_lem))
     go (y ∷ ys) e =
         next_is r y ys s e
-        ∙ ap Neighbour (sym (found (has r) (up own) y ys x (dist_of own x) e (sym (up_dist own x s.own_low o.low)) (dist_some own x s.own_low o.low (λ z. o.not_own (sym z))) (dist_low own x) o.in_set_lem near))
+        ∙ ap Some (sym (found (has r) (up own) y ys x (dist_of own x) e (sym (up_dist own x s.own_low o.low)) (dist_some own x s.own_low o.low (λ z. o.not_own (sym z))) (dist_low own x) o.in_set_lem near))
 
 -- previous is the only one of the others with no member strictly between it and own
 pub previous_only : (r : Ring) (x : ℕ) → SoundRing r → Other r x → ((y : ℕ) → y < 126 → between_of x y r.own ≡ true → has r y ≡ false) → x ≡ prev_of r

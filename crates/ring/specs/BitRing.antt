@@ -1,9 +1,8 @@
 -- The ring as it was kept before the tables: 126 bits in two words, and a search for the neighbours. No code has it any more; it is
 -- what the tables are held against (Alike).
-use Rattle.std.specs.Prelude.{ℕ, Bool, true, false, cond, ◌&&◌, ◌||◌, List, [], ◌∷◌, ltb, leb, eqb}
+use Rattle.std.specs.Prelude.{ℕ, Bool, true, false, cond, ◌&&◌, ◌||◌, List, [], ◌∷◌, ltb, leb, eqb, Option}
 use Rattle.ring_addresses.specs.Set.{up, walk, nearest, only, add_to, take_out, keeps_all, same_set}
 use Rattle.ring_addresses.specs.Words.{word_of, has_in}
-use Rattle.ring.specs.declared.NextStation.{NextStation}
 use Rattle.ring.specs.declared.GapState.{GapState}
 use Rattle.ring.specs.declared.GapState.TheVariants.{Waiting, DoPoll}
 use Rattle.ring.specs.Ring.{first_of, laps_of, candidate_of, polls_on}
@@ -26,7 +25,7 @@ unfoldable pub make_bits : ℕ → (ℕ → Bool) → ℕ → Bool → BitRing
 make_bits own f laps ready = record { low = word_of f 0 64; high = word_of f 64 62; own = own; laps = laps; ready = ready }
 
 -- what `next_station` answered: the first member going up from own, nobody when we are alone
-unfoldable pub next_bits : BitRing → NextStation
+unfoldable pub next_bits : BitRing → Option ℕ
 next_bits b = first_of (walk (has_bit b) (up b.own) 125 1)
 
 -- what `previous_station` answered: the first member going down from own, own if alone

@@ -6,4 +6,3 @@ pub mod Sets
 pub mod Near
 pub mod LinkLaws
 pub mod Passes
-pub mod Loops

@@ -74,9 +74,15 @@ highest_less f (suc n) l h =
     let here : f n ≡ false = ap f (sym e) ∙ h in
     rw here (ap (highest_below f) (sym e))
 
-pub highest_none : (f : ℕ → Bool) → highest_below f 0 ≡ 0
+-- a search for the highest begins where nobody is from there on
+pub highest_from : (f : ℕ → Bool) (n : ℕ) → n ≤ 126 → ((x : ℕ) → n ≤ x → x < 126 → f x ≡ false) → highest_below f n ≡ highest_below f 126
+highest_from f n low none = sym (highest_down f n 126 low none)
+
+-- one that went on down to 0 met nobody
+pub highest_none : (f : ℕ → Bool) (n m : ℕ) → n ≤ 0 → highest_below f n ≡ highest_below f m → 0 ≡ highest_below f m
 unfolding highest_below
-highest_none f = refl
+highest_none f zero m l e = e
+highest_none f (suc n) m l e = absurd (omega (arith, l))
 
 -- what the highest of some is
 record Highest (f : ℕ → Bool) (n h : ℕ) : Type 0 where

@@ -1,7 +1,8 @@
 -- The weights of a byte's members, weighed one after the other (`Weighed`) and added, are the byte. Assumes nothing.
-use Rattle.std.specs.Prelude.{ℕ, ◌+◌, ◌-◌, ◌*◌, ◌%◌, ◌^◌, ◌<◌, ◌≤◌, ◌≡◌, refl, Bool, true, false, cond, not, List, length, get_or, set, eqb, ltb}
-use Rattle.std.proofs.Common.{sym, ap, subst, ◌∙◌, arith, eqb-true, length-set, get_or-set_same, get_or-set_other}
+use Rattle.std.specs.Prelude.{ℕ, ◌+◌, ◌-◌, ◌*◌, ◌%◌, ◌^◌, ◌<◌, ◌≤◌, ◌≡◌, refl, Bool, true, false, cond, not, List, ◌++◌, length, get_or, set, take, replicate, eqb, ltb}
+use Rattle.std.proofs.Common.{sym, ap, subst, ◌∙◌, arith, eqb-true, ltb-true, length-set, get_or-set_same, get_or-set_other}
 use Rattle.std.proofs.lemmas.Bool.{eqb-false}
+use Rattle.std.proofs.lemmas.List.{get_or-take, get_or_append_left, length-append}
 use borrow.Table.Steps.{cases}
 use Rattle.codec_fields.specs.Fields.{bit_number}
 use Rattle.ring_links.specs.Links.{listed, tab}
@@ -17,22 +18,41 @@ weighed_none l w e =
       left = λ x u low. ap (λ (t : List ℕ). get_or t x 0) e ∙ tab_at 0 weight_of 128 x low;
     }
 
-pub weighed_more : (l w : List ℕ) (a v : ℕ) → a < 128 → Weighed l a w → v ≡ cond (eqb (get_or l a 0) 127) 0 (get_or w a 0) → Weighed l (a + 1) (set w a v)
-unfolding weighed
-weighed_more l w a v low k e =
+-- of 128 entries, the first 126 of which are the table, the two more weigh nothing
+entry_weighed : (l t : List ℕ) (a : ℕ) → length t ≡ 128 → t ≡ take 126 l ++ replicate 2 127 → cond (eqb (get_or t a 0) 127) 0 (weight_of a) ≡ weighed l a
+unfolding weighed weight_of
+entry_weighed l t a long entries = cases (ltb a 126) (λ h. address (ltb-true a 126 h)) (λ h. rw h (zeros (eqb (get_or t a 0) 127) (eqb (get_or l a 0) 127)))
+  where
+    table : length (take 126 l) ≡ 126
+    table = let both : length (take 126 l ++ replicate {A = ℕ} 2 127) ≡ 128 = sym (ap length entries) ∙ long in omega (arith, length-append (take 126 l) (replicate {A = ℕ} 2 127), both)
+
+    address : a < 126 → cond (eqb (get_or t a 0) 127) 0 (cond (ltb a 126) (2 ^ (7 - a % 8)) 0) ≡ cond (eqb (get_or l a 0) 127) 0 (cond (ltb a 126) (2 ^ (7 - a % 8)) 0)
+    address h =
+        ap (λ (n : ℕ). cond (eqb n 127) 0 (cond (ltb a 126) (2 ^ (7 - a % 8)) 0))
+        (ap (λ (xs : List ℕ). get_or xs a 0) entries ∙ get_or_append_left (take 126 l) (replicate 2 127) 0 a (omega (arith, table)) ∙ get_or-take 126 l a 0 h)
+
+    zeros : (b c : Bool) → ◌≡◌ {A = ℕ} (cond b 0 0) (cond c 0 0)
+    zeros true true = refl
+    zeros true false = refl
+    zeros false true = refl
+    zeros false false = refl
+
+pub weighed_more : (l t w : List ℕ) (a v : ℕ) → a < 128 → length t ≡ 128 → t ≡ take 126 l ++ replicate 2 127 → Weighed l a w → v ≡ cond (eqb (get_or t a 0) 127) 0 (get_or w a 0) → Weighed l (a + 1) (set w a v)
+weighed_more l t w a v low long entries k e =
     record {
       long = length-set w a v ∙ k.long;
       done = λ x u. cases (eqb x a) (λ t. here x (eqb-true x a t)) (λ f. get_or-set_other w a x v 0 (eqb-false x a f) ∙ k.done x (omega (arith, u, eqb-false x a f)));
       left = λ x u lx. get_or-set_other w a x v 0 (λ z. omega (arith, z, u)) ∙ k.left x (omega (arith, u)) lx;
     }
   where
-    here : (x : ℕ) → x ≡ a → get_or (set w a v) x 0 ≡ cond (eqb (get_or l x 0) 127) 0 (weight_of x)
+    here : (x : ℕ) → x ≡ a → get_or (set w a v) x 0 ≡ weighed l x
     here x z =
         ap (λ (n : ℕ). get_or (set w a v) n 0) z
         ∙ get_or-set_same w a v 0 (omega (arith, k.long, low))
         ∙ e
-        ∙ ap (λ (n : ℕ). cond (eqb (get_or l a 0) 127) 0 n) (k.left a (omega arith) low)
-        ∙ ap (λ (n : ℕ). cond (eqb (get_or l n 0) 127) 0 (weight_of n)) (sym z)
+        ∙ ap (λ (n : ℕ). cond (eqb (get_or t a 0) 127) 0 n) (k.left a (omega arith) low)
+        ∙ entry_weighed l t a long entries
+        ∙ ap (weighed l) (sym z)
 
 pub weighed_all : (l w : List ℕ) (a : ℕ) → a ≡ 128 → Weighed l a w → w ≡ tab (weighed l) 128 0
 weighed_all l w a e k = tab_is 0 (weighed l) 128 w k.long (λ x u. k.done x (omega (arith, u, e)))

@@ -1,108 +1,79 @@
-// The members of a ring as a set of bits: 16 bytes, a bit for each address, address 0 the highest bit of the first byte. Read, the
-// addresses are added to a ring one by one, so that a sound ring stays sound whatever the bytes are; or the tables of the set are made
-// in one pass. It leans on ring for adding, on ring_links for the tables, and on codec_fields for a bit.
+//! The members of a ring as a set of bits: 16 bytes, a bit for each address, address 0 the highest bit of the first byte. Read, the
+//! addresses are added to a ring one by one, so that a sound ring stays sound whatever the bytes are; or the links of the set are made
+//! in one pass. It leans on ring for adding, on ring_links for the links, and on codec_fields for a bit.
 #![tactic(auto)]
 
-ghost use Rattle.std.specs.Prelude.{◌≡◌, ℕ, ◌+◌, ◌-◌, ◌*◌, ◌^◌, ◌<◌, ◌≤◌, false, cond, get_or, replicate, eqb};
-ghost use Rattle.ring.specs.Ring.{ring_of};
+ghost use Rattle.std.specs.Prelude.{◌≡◌, ℕ, ◌+◌, ◌-◌, ◌*◌, ◌^◌, ◌<◌, ◌≤◌, ◌++◌, false, cond, get_or, take, replicate, eqb};
 ghost use Rattle.ring_links.specs.Links.{listed, links_of, tab};
-ghost use Rattle.ring_members.specs.Members.{byte_at, in_set, bit_added, byte_added, set_added, highest_below, chain_of, bit_linked, byte_linked, bytes_linked, weight_of, weighed, eight_added, set_over};
+ghost use Rattle.ring_members.specs.Members.{byte_at, in_set, byte_added, set_added, highest_below, chain_of, byte_linked, bytes_linked, weight_of, weighed, eight_added, set_over};
 
-use codec_fields::bit;
-use ring::{Head, set_next_station};
+use codec_fields::field;
+use ring::TokenRing;
+use ring_links::RingLinks;
 
 // The byte at `i`, 0 where the slice ends before.
 #[tactic(auto, unfolding(crate::specs::Members::byte_at))]
 fn byte_at(set: &[u8], i: usize) -> u8
     ensures { result ≡ byte_at set.now i }
 {
-    if i < set.len() {
-        return set[i];
-    }
-    0
+    set.get(i).copied().unwrap_or(0)
 }
 
-// Whether `a` is in the set that these bytes are.
+/// Whether `a` is in the set that these bytes are; bytes that are not there are 0.
 #[tactic(auto, unfolding(crate::specs::Members::in_set))]
 pub fn in_set(set: &[u8], a: u8) -> bool
     ensures { result ≡ in_set set.now a }
 {
-    bit(byte_at(set, (a / 8) as usize) as u64, (7 - a % 8) as u64)
-}
-
-// Adds `a` where its bit is one, the one above the lowest `at` of the byte.
-#[tactic(auto, unfolding(crate::specs::Members::bit_added))]
-fn add_bit(head: Head, links: &mut [u8; 252], byte: u8, at: u8, a: u8)
-    ensures { ring_of head links.new ≡ bit_added (ring_of head links.old) byte at a }
-{
-    if bit(byte as u64, at as u64) {
-        set_next_station(head, links, a);
-        return;
-    }
+    field(byte_at(set, (a / 8) as usize) as u64, (7 - a % 8) as u64, 1)
 }
 
 // Adds the addresses from `a` on whose bits in a byte are one, the highest bit the first. Most bytes of a set are 0.
-#[tactic(auto, using(ring::specs::Ring::ring_of, crate::specs::Members::bit_added), unfolding(crate::specs::Members::bits_added, crate::specs::Members::byte_added))]
-fn add_byte(head: Head, links: &mut [u8; 252], byte: u8, a: u8)
+#[tactic(auto, unfolding(crate::specs::Members::bit_added, crate::specs::Members::bits_added, crate::specs::Members::byte_added))]
+fn add_byte(ring: &mut TokenRing, byte: u8, a: u8)
     requires { a ≤ 120 }
-    ensures { ring_of head links.new ≡ byte_added (ring_of head links.old) byte a }
+    ensures { ring.new ≡ byte_added ring.old byte a }
 {
     if byte == 0 {
         return;
     }
-    let mut k: u8 = 0;
-    while k < 8 {
-        add_bit(head, links, byte, 7 - k, a + k);
-        k += 1;
-    }
-}
-
-// Adds the addresses whose bits are one in the 16 bytes of a set; bytes that are not there are 0.
-#[tactic(auto, using(ring::specs::Ring::ring_of, crate::specs::Members::byte_at, crate::specs::Members::byte_added), unfolding(crate::specs::Members::set_added))]
-pub fn add_members(head: Head, links: &mut [u8; 252], set: &[u8])
-    ensures { ring_of head links.new ≡ set_added (ring_of head links.old) set.now 16 }
-{
-    let mut i: u8 = 0;
-    while i < 16 {
-        add_byte(head, links, byte_at(set, i as usize), 8 * i);
-        i += 1;
-    }
-}
-
-// The last byte of a set that is not 0; the first where there is none.
-#[tactic(auto, using(crate::specs::Members::in_set, crate::proofs::Linked::nobody_from))]
-fn last_byte(set: &[u8]) -> u8
-    ensures { (result ≤ 15) × ((x : ℕ) → 8 * result + 8 ≤ x → x < 128 → in_set set.now x ≡ false) }
-{
-    let mut i: u8 = 15;
-    while 0 < i {
-        if byte_at(set, i as usize) != 0 {
-            return i;
+    for k in 0..8u8 {
+        if field(byte as u64, (7 - k) as u64, 1) {
+            ring.set_next_station(a + k);
         }
-        i -= 1;
     }
-    0
 }
 
-// The end of a byte's addresses.
-fn end_of(i: u8) -> u8
-    requires { i ≤ 15 }
-    ensures { (result ≤ 126) × ((x : ℕ) → result ≤ x → x < 126 → 8 * i + 8 ≤ x) }
+/// Adds the addresses whose bits are one in the 16 bytes of a set; bytes that are not there are 0.
+#[tactic(auto, using(crate::specs::Members::byte_at, crate::specs::Members::byte_added), unfolding(crate::specs::Members::set_added))]
+pub fn add_members(ring: &mut TokenRing, set: &[u8])
+    ensures { ring.new ≡ set_added ring.old set.now 16 }
 {
-    if i == 15 {
-        return 126;
+    for i in 0..16u8 {
+        add_byte(ring, byte_at(set, i as usize), 8 * i);
     }
-    8 * i + 8
+}
+
+// Where the search for the highest address begins: past the last byte of a set that is not 0, or past the first.
+#[tactic(auto, using(crate::specs::Members::in_set, crate::proofs::Linked::nobody_from))]
+fn search_end(set: &[u8]) -> u8
+    ensures low { result ≤ 126 }
+    ensures none { (x : ℕ) → result ≤ x → x < 126 → in_set set.now x ≡ false }
+{
+    for i in (1..16u8).rev() {
+        if byte_at(set, i as usize) != 0 {
+            return (8 * i + 8).min(126);
+        }
+    }
+    8
 }
 
 // The highest address in a set; 0 where there is none.
-#[tactic(auto, using(crate::specs::Members::in_set, crate::specs::Members::highest_below, crate::proofs::Linked::highest_down, crate::proofs::Linked::highest_at, crate::proofs::Linked::highest_less, crate::proofs::Linked::highest_none))]
+#[tactic(auto, using(crate::specs::Members::in_set, crate::specs::Members::highest_below, crate::proofs::Linked::highest_from, crate::proofs::Linked::highest_at, crate::proofs::Linked::highest_less, crate::proofs::Linked::highest_none))]
 fn highest(set: &[u8]) -> u8
-    ensures { (result ≡ highest_below (in_set set.now) 126) × (result < 126) }
+    ensures is { result ≡ highest_below (in_set set.now) 126 }
+    ensures low { result < 126 }
 {
-    let mut a = end_of(last_byte(set));
-    while 0 < a {
-        a -= 1;
+    for a in (0..search_end(set)).rev() {
         if in_set(set, a) {
             return a;
         }
@@ -110,68 +81,51 @@ fn highest(set: &[u8]) -> u8
     0
 }
 
-// Links `a` behind `last` where its bit is one, the one above the lowest `at` of the byte; who is the last then.
-#[tactic(auto, unfolding(ring_links::specs::Links::link_of, crate::specs::Members::bit_linked))]
-fn link_bit(links: &mut [u8; 252], byte: u8, at: u8, last: u8, a: u8) -> u8
-    requires { (last < 126) × (a < 126) }
-    ensures { (chain_of links.new result ≡ bit_linked (chain_of links.old last) byte at a) × (result < 126) }
-{
-    if bit(byte as u64, at as u64) {
-        links[last as usize] = a;
-        links[126 + a as usize] = last;
-        return a;
-    }
-    last
-}
-
-// Links the addresses from `a` on whose bits are one among the first `count` of a byte, each behind the one before it. Most bytes of a
-// set are 0.
-#[tactic(auto, using(crate::specs::Members::chain_of, crate::specs::Members::bit_linked), unfolding(crate::specs::Members::bits_linked, crate::specs::Members::byte_linked))]
-fn link_byte(links: &mut [u8; 252], byte: u8, a: u8, count: u8, before: u8) -> u8
-    requires { (before < 126) × (a + count ≤ 126) × (count ≤ 8) }
-    ensures { (chain_of links.new result ≡ byte_linked (chain_of links.old before) byte a count) × (result < 126) }
+// Links the addresses from `a` on whose bits are one among the first `count` of a byte, each behind the one before it; who is the last
+// then. Most bytes of a set are 0.
+#[tactic(auto, using(crate::specs::Members::chain_of), unfolding(ring_links::specs::Links::link_of, crate::specs::Members::bit_linked, crate::specs::Members::bits_linked, crate::specs::Members::byte_linked))]
+fn link_byte(links: &mut RingLinks, byte: u8, a: u8, count: u8, before: u8) -> u8
+    requires before { before < 126 }
+    requires addresses { a + count ≤ 126 }
+    requires bits { count ≤ 8 }
+    ensures linked { chain_of links.new result ≡ byte_linked (chain_of links.old before) byte a count }
+    ensures low { result < 126 }
 {
     if byte == 0 {
         return before;
     }
     let mut last = before;
-    let mut k: u8 = 0;
-    while k < count {
-        last = link_bit(links, byte, 7 - k, last, a + k);
-        k += 1;
+    for k in 0..count {
+        if field(byte as u64, (7 - k) as u64, 1) {
+            links.link(last, a + k);
+            last = a + k;
+        }
     }
     last
 }
 
 // Links the addresses of the first 15 bytes of a set.
 #[tactic(auto, using(crate::specs::Members::byte_at, crate::specs::Members::chain_of, crate::specs::Members::byte_linked), unfolding(crate::specs::Members::bytes_linked))]
-fn link_bytes(links: &mut [u8; 252], set: &[u8], before: u8) -> u8
+fn link_bytes(links: &mut RingLinks, set: &[u8], before: u8) -> u8
     requires { before < 126 }
-    ensures { (chain_of links.new result ≡ bytes_linked (chain_of links.old before) set.now 15) × (result < 126) }
+    ensures linked { chain_of links.new result ≡ bytes_linked (chain_of links.old before) set.now 15 }
+    ensures low { result < 126 }
 {
     let mut last = before;
-    let mut i: u8 = 0;
-    while i < 15 {
+    for i in 0..15u8 {
         last = link_byte(links, byte_at(set, i as usize), 8 * i, 8, last);
-        i += 1;
     }
     last
 }
 
-// Tables that hold 127 everywhere.
-fn nobody() -> [u8; 252]
-    ensures { result ≡ replicate 252 127 }
+/// The links of the addresses in a set. The first comes behind the highest.
+pub fn link_members(set: &[u8]) -> RingLinks
+    ensures { result ≡ links_of (in_set set.now) }
 {
-    [127u8; 252]
-}
-
-// Makes the tables of the addresses in a set, whatever stood in them. The first comes behind the highest.
-pub fn link_members(links: &mut [u8; 252], set: &[u8])
-    ensures { links.new ≡ links_of (in_set set.now) }
-{
-    *links = nobody();
-    let last = link_bytes(links, set, highest(set));
-    link_byte(links, byte_at(set, 15), 120, 6, last);
+    let mut links = RingLinks::new();
+    let last = link_bytes(&mut links, set, highest(set));
+    link_byte(&mut links, byte_at(set, 15), 120, 6, last);
+    links
 }
 
 // The weight of each address in its byte; the two that are none have 0.
@@ -193,22 +147,28 @@ fn weights() -> [u8; 128]
 fn weight(link: u8, bit: u8) -> u8
     ensures { result ≡ cond (eqb link 127) 0 bit }
 {
-    if link == 127 {
-        return 0;
-    }
-    bit
+    if link == 127 { 0 } else { bit }
+}
+
+// The member after each address, filled up to whole sixteens.
+fn entries(links: &RingLinks) -> [u8; 128]
+    ensures { result ≡ take 126 links.now ++ replicate 2 127 }
+{
+    let mut entries = [127; 128];
+    entries[..126].copy_from_slice(links.members_after());
+    entries
 }
 
 // The weights of the members, 0 for all others. In a loop by itself: so the compiler weighs sixteen at a time.
 #[tactic(auto, using(crate::proofs::WeightLaws::weighed_none, crate::proofs::WeightLaws::weighed_more, crate::proofs::WeightLaws::weighed_all))]
-fn weigh(links: &[u8; 252]) -> [u8; 128]
+fn weigh(links: &RingLinks) -> [u8; 128]
     ensures { result ≡ tab (weighed links.now) 128 0 }
 {
+    let entries = entries(links);
     let mut weighed = weights();
-    let mut a: usize = 0;
-    while a < 128 {
-        weighed[a] = weight(links[a], weighed[a]);
-        a += 1;
+    // By index: nothing is known of what a zip over iter_mut writes.
+    for (a, entry) in entries.iter().enumerate() {
+        weighed[a] = weight(*entry, weighed[a]);
     }
     weighed
 }
@@ -229,18 +189,16 @@ fn add_eight(weighed: &[u8; 128], a: usize) -> u8
         + weighed[a + 7]
 }
 
-// Writes the set of the members into the first 16 bytes; every other byte stays, and all do where there are fewer.
+/// Writes the set of the members into the first 16 bytes; every other byte stays, and all do where there are fewer.
 #[tactic(auto, using(ring_links::specs::Links::listed, crate::proofs::WeightLaws::weight_most, crate::proofs::WeightLaws::byte_added_up), unfolding(crate::specs::Members::set_written, crate::specs::Members::set_over))]
-pub fn write_members(links: &[u8; 252], out: &mut [u8])
+pub fn write_members(links: &RingLinks, out: &mut [u8])
     ensures { out.new ≡ set_over out.old (listed links.now) }
 {
     if out.len() < 16 {
         return;
     }
     let weighed = weigh(links);
-    let mut i: usize = 0;
-    while i < 16 {
-        out[i] = add_eight(&weighed, 8 * i);
-        i += 1;
+    for (i, byte) in out[..16].iter_mut().enumerate() {
+        *byte = add_eight(&weighed, 8 * i);
     }
 }
