@@ -1,9 +1,10 @@
 -- An answer and its 64 bits (document 01, "Station": answer). Assumes nothing.
-use Rattle.std.specs.Prelude.{ℕ, ◌^◌, ◌<◌, ◌≤◌, ◌≡◌, List, [], ◌∷◌, Bool, true, false, cond, not, eqb, ltb, leb}
+use Rattle.std.specs.Prelude.{ℕ, ◌^◌, ◌<◌, ◌≤◌, ◌≡◌, List, [], ◌∷◌, Bool, true, false, Option, Some, None, cond, not, eqb, ltb, leb}
 use Rattle.codec_fields.specs.Fields.{is_one, bit_number, put_all, reads}
 use Rattle.codec_telegrams.specs.Words.{response_number, response_state_of}
 use Rattle.codec_answers.specs.declared.Outcome.{Outcome}
-use Rattle.codec_answers.specs.declared.Outcome.TheVariants.{None, Offline, Transmission, Bus, Delay}
+use Rattle.codec_answers.specs.declared.Outcome.TheVariants.{Offline, Transmission, Bus, Delay}
+use Rattle.codec_answers.specs.declared.Outcome.TheVariants as outcome
 use Rattle.codec_answers.specs.declared.Sent.{Sent}
 use Rattle.codec_answers.specs.declared.Sent.TheVariants.{Nothing, Token, StatusRequest, StatusResponse, Application}
 use Rattle.codec_answers.specs.declared.Notice.{Notice}
@@ -11,8 +12,6 @@ use Rattle.codec_answers.specs.declared.Notice.TheVariants.{NoNotice, Reply, Tim
 use Rattle.codec_answers.specs.declared.SentFields.{SentFields}
 use Rattle.codec_answers.specs.declared.NoticeFields.{NoticeFields}
 use Rattle.codec_answers.specs.declared.Answer.{Answer}
-use Rattle.codec_answers.specs.declared.Unpacked.{Unpacked}
-use Rattle.codec_answers.specs.declared.Unpacked.TheVariants.{NoAnswer, Is}
 
 -- the largest state: 0 Offline, 1 ListenToken, 2 ActiveIdle, 3 UseToken, 4 ClaimToken, 5 AwaitDataResponse, 6 PassToken,
 -- 7 CheckTokenPass, 8 AwaitStatusResponse, 9 PassiveIdle (document 02)
@@ -21,7 +20,7 @@ last_state = 9
 
 -- outcome: 0 none, 1 offline, 2 transmission, 3 bus, 4 delay
 abbrev pub outcome_number : Outcome → ℕ
-outcome_number None = 0
+outcome_number outcome.None = 0
 outcome_number Offline = 1
 outcome_number Transmission = 2
 outcome_number Bus = 3
@@ -29,7 +28,7 @@ outcome_number Delay = 4
 
 -- the outcome of a number; none where there is no such outcome
 unfoldable pub outcome_of : ℕ → Outcome
-outcome_of n = cond (eqb n 1) Offline (cond (eqb n 2) Transmission (cond (eqb n 3) Bus (cond (eqb n 4) Delay None)))
+outcome_of n = cond (eqb n 1) Offline (cond (eqb n 2) Transmission (cond (eqb n 3) Bus (cond (eqb n 4) Delay outcome.None)))
 
 -- the six fields of what was sent
 abbrev pub sending : ℕ → ℕ → ℕ → ℕ → Bool → ℕ → SentFields
@@ -80,7 +79,7 @@ unfoldable pub refused_answer : ℕ → ℕ → ℕ → ℕ → Answer
 refused_answer refusal state application station =
     record {
       refusal = refusal;
-      outcome = None;
+      outcome = outcome.None;
       state = state;
       sent = Nothing;
       consumed = 0;
@@ -147,8 +146,8 @@ unfoldable pub meant : Answer → Bool
 meant a = cond (ltb last_state a.state) false (cond (ltb 8 a.consumed) false (cond (sent_meant a.sent) (refusal_known a.refusal) false))
 
 -- the answer whose word this is, if there is one
-unfoldable pub unpack_of : ℕ → Unpacked
-unpack_of w = cond (eqb (answer_word (answer_of w)) w) (cond (meant (answer_of w)) (Is (answer_of w)) NoAnswer) NoAnswer
+unfoldable pub unpack_of : ℕ → Option Answer
+unpack_of w = cond (eqb (answer_word (answer_of w)) w) (cond (meant (answer_of w)) (Some (answer_of w)) None) None
 
 -- what was sent, with numbers that fit their widths
 abbrev pub SentFits : Sent → Type 0

@@ -1,5 +1,5 @@
 -- Unpacking undoes packing for every answer that document 01 has, and packing undoes unpacking for every word. Assumes nothing.
-use Rattle.std.specs.Prelude.{ℕ, ◌^◌, ◌<◌, ◌≤◌, ◌≡◌, refl, List, true, false, not, get_or, eqb, ltb}
+use Rattle.std.specs.Prelude.{ℕ, ◌^◌, ◌<◌, ◌≤◌, ◌≡◌, refl, List, true, false, Some, None, not, get_or, eqb, ltb}
 use Rattle.std.proofs.Common.{sym, ap, ◌∙◌, subst, arith, eq-eqb, ne_eqb, le-ltb, ltb-true, ltb-false, leb-true, eqb-true, lit<, lit≤}
 use Rattle.std.proofs.lemmas.Bool.{eqb-false}
 use borrow.Table.Steps.{cases}
@@ -8,7 +8,8 @@ use Rattle.codec_fields.proofs.Widths.{field_below}
 use Rattle.codec_fields.proofs.Laws.{unpack_put, bit_below, bit_read}
 use Rattle.codec_telegrams.specs.Laws.{state_read, state_below}
 use Rattle.codec_answers.specs.declared.Outcome.{Outcome}
-use Rattle.codec_answers.specs.declared.Outcome.TheVariants.{None, Offline, Transmission, Bus, Delay}
+use Rattle.codec_answers.specs.declared.Outcome.TheVariants.{Offline, Transmission, Bus, Delay}
+use Rattle.codec_answers.specs.declared.Outcome.TheVariants as outcome
 use Rattle.codec_answers.specs.declared.Sent.{Sent}
 use Rattle.codec_answers.specs.declared.Sent.TheVariants.{Nothing, Token, StatusRequest, StatusResponse, Application}
 use Rattle.codec_answers.specs.declared.Notice.{Notice}
@@ -16,13 +17,12 @@ use Rattle.codec_answers.specs.declared.Notice.TheVariants.{NoNotice, Reply, Tim
 use Rattle.codec_answers.specs.declared.SentFields.{SentFields}
 use Rattle.codec_answers.specs.declared.NoticeFields.{NoticeFields}
 use Rattle.codec_answers.specs.declared.Answer.{Answer}
-use Rattle.codec_answers.specs.declared.Unpacked.TheVariants.{NoAnswer, Is}
 use Rattle.codec_answers.specs.Answers.{last_state, outcome_number, outcome_of, sending, sent_fields, sent_from, telling, notice_fields, notice_from, refused_answer, answer_widths, answer_values, answer_word, full_of, answer_of, refusal_known, sent_meant, meant, unpack_of, SentFits, NoticeFits, Fits}
 
 -- an outcome reads back from its number
 outcome_read : (o : Outcome) → outcome_of (outcome_number o) ≡ o
 unfolding outcome_of
-outcome_read None = refl
+outcome_read outcome.None = refl
 outcome_read Offline = refl
 outcome_read Transmission = refl
 outcome_read Bus = refl
@@ -50,7 +50,7 @@ notice_read (Timeout a d) = refl
 
 -- an outcome's number is within its width
 outcome_below : (o : Outcome) → outcome_number o < 2 ^ 3
-outcome_below None = lit< tt
+outcome_below outcome.None = lit< tt
 outcome_below Offline = lit< tt
 outcome_below Transmission = lit< tt
 outcome_below Bus = lit< tt
@@ -222,25 +222,25 @@ answer_fits w m =
     rw z (refused_fits (field_of w 59 5) (field_of w 52 4) (field_of w 9 3) (field_of w 2 7) p.refusal p.state (field_below w 9 3) (field_below w 2 7)))
 
 -- an answer within document 01's ranges is what its word says
-pub answer_unpacks : (a : Answer) → Fits a → unpack_of (answer_word a) ≡ Is a
+pub answer_unpacks : (a : Answer) → Fits a → unpack_of (answer_word a) ≡ Some a
 unfolding unpack_of
 answer_unpacks a f =
     let r = answer_read (answer_word a) a f (word_fields a f) in
     rw (r, eq-eqb (answer_word a) (answer_word a) refl, fits_meant a f)
 
 -- what a word says is an answer within document 01's ranges, and packs to that word
-pub answer_packs : (w : ℕ) (a : Answer) → unpack_of w ≡ Is a → (answer_word a ≡ w) × Fits a
+pub answer_packs : (w : ℕ) (a : Answer) → unpack_of w ≡ Some a → (answer_word a ≡ w) × Fits a
 unfolding unpack_of
 answer_packs w a h =
     cases (eqb (answer_word (answer_of w)) w)
     (λ x.
     cases (meant (answer_of w))
     (λ m.
-    let g : Is (answer_of w) ≡ Is a = rw (x, m) at h in
+    let g : Some (answer_of w) ≡ Some a = rw (x, m) at h in
     let e : answer_of w ≡ a = cc in
     subst (λ b. (answer_word b ≡ w) × Fits b) e (eqb-true _ _ x, answer_fits w m))
     (λ m. nothing (rw (x, m) at h)))
     (λ x. nothing (rw x at h))
   where
-    nothing : NoAnswer ≡ Is a → (answer_word a ≡ w) × Fits a
+    nothing : None ≡ Some a → (answer_word a ≡ w) × Fits a
     nothing e = let z : ◌≡◌ {A = ℕ} 0 1 = cc in absurd (omega arith)

@@ -1,96 +1,93 @@
-// An application's decision of 24 bits (document 01, "Poll record"): what it says, the refusal of a word that no decision has,
-// and the writer. It leans on codec_fields.
+//! An application's decision of 24 bits (document 01, "Poll record"): what it says, the refusal of a word that no decision has,
+//! and the writer. It leans on codec_fields.
 #![tactic(auto)]
 
 ghost use Rattle.std.specs.Prelude.{◌≡◌, [], ◌∷◌};
 ghost use Rattle.codec_fields.specs.Fields.{bit_number, put_all};
 ghost use Rattle.codec_decisions.specs.Decisions.{decision_of, decision_refusal, decision_widths, decision_word, length_refusal};
+ghost use Rattle.refusals.specs.Refusals.{number_in};
 
-use codec_fields::{bit, field, field_byte, put, put_bit, put_byte, zero_or_14};
+use codec_fields::{bits_at, check_zero, field, put};
+use refusals::Refusal;
 
-// What an application decides when it is asked: to send nothing, to send so many bytes, or to send them and await a reply.
-#[derive(Clone, Copy)]
+/// What an application decides when it is asked: to send nothing, to send so many bytes, or to send them and await a reply.
+#[derive(Clone, Copy, Debug, PartialEq, Eq)]
 pub enum Decision {
     Decline,
     Send { length: u8 },
     SendExpectReply { address: u8, length: u8 },
 }
 
-// What a decision's word says.
-#[tactic(auto, unfolding(crate::specs::Decisions::decision_of))]
-pub fn read_decision(word: u64) -> Decision
-    ensures { result ≡ decision_of word }
-{
-    if bit(word, 23) {
-        let length = field_byte(word, 7, 8);
-        if bit(word, 22) {
-            return Decision::SendExpectReply {
-                address: field_byte(word, 15, 7),
-                length: length,
-            };
+impl From<u64> for Decision {
+    ghost from_gives = { λ word decision. decision ≡ decision_of word };
+
+    /// What a decision's word says.
+    #[tactic(auto, unfolding(crate::specs::Decisions::decision_of))]
+    fn from(word: u64) -> Decision {
+        if !field::<bool>(word, 23, 1) {
+            return Decision::Decline;
         }
-        return Decision::Send { length: length };
+        let length = field(word, 7, 8);
+        if field(word, 22, 1) {
+            Decision::SendExpectReply {
+                address: field(word, 15, 7),
+                length,
+            }
+        } else {
+            Decision::Send { length }
+        }
     }
-    Decision::Decline
 }
 
-// 15 for a send of 0 bytes.
+impl From<Decision> for u64 {
+    ghost from_gives = { λ decision word. word ≡ decision_word decision };
+
+    /// The word that says a decision. Of an address that does not fit its field the lowest bits are taken.
+    #[tactic(auto, unfolding(crate::specs::Decisions::decision_word))]
+    fn from(decision: Decision) -> u64 {
+        match decision {
+            Decision::Decline => decision_word(false, false, 0, 0),
+            Decision::Send { length } => decision_word(true, false, 0, length),
+            Decision::SendExpectReply { address, length } => decision_word(
+                true, true, address, length,
+            ),
+        }
+    }
+}
+
+/// Refuses a decision's word with a bit that should be zero (14), and after that one that sends 0 bytes (15).
+#[tactic(auto, using(codec_fields::specs::Fields::zero_or14, codec_fields::proofs::Laws::zeros_field), unfolding(codec_fields::specs::Fields::zeros_or14, crate::specs::Decisions::decision_refusal))]
+pub fn check_word(word: u64) -> Result<(), Refusal>
+    ensures { number_in result ≡ decision_refusal word }
+{
+    if word >= 1 << 24 {
+        return Err(Refusal::ReservedBit);
+    }
+    if !field::<bool>(word, 23, 1) {
+        return check_zero(bits_at(word, 0, 23));
+    }
+    check_zero(bits_at(word, 0, 7))?;
+    if !field::<bool>(word, 22, 1) {
+        check_zero(bits_at(word, 15, 7))?;
+    }
+    check_length(field(word, 7, 8))
+}
+
+// Refuses a send of 0 bytes (15).
 #[tactic(auto, unfolding(crate::specs::Decisions::length_refusal))]
-fn length_refusal(length: u8) -> u8
-    ensures { result ≡ length_refusal length }
+fn check_length(length: u8) -> Result<(), Refusal>
+    ensures { number_in result ≡ length_refusal length }
 {
     if length == 0 {
-        return 15;
+        return Err(Refusal::NoBytesToSend);
     }
-    0
-}
-
-// 14 for a decision's word with a bit that should be zero, else 15 for one that sends 0 bytes, 0 for any other.
-#[tactic(auto, using(codec_fields::specs::Fields::zero_or14, codec_fields::proofs::Laws::zeros_field), unfolding(crate::specs::Decisions::decision_refusal))]
-pub fn decision_refusal(word: u64) -> u8
-    ensures { result ≡ decision_refusal word }
-{
-    if 16777216 <= word {
-        return 14;
-    }
-    if bit(word, 23) {
-        if field(word, 0, 7) != 0 {
-            return 14;
-        }
-        if bit(word, 22) {
-            return length_refusal(field_byte(word, 7, 8));
-        }
-        if field(word, 15, 7) != 0 {
-            return 14;
-        }
-        return length_refusal(field_byte(word, 7, 8));
-    }
-    zero_or_14(field(word, 0, 23))
+    Ok(())
 }
 
 // The word of a decision's fields.
-fn decision_word(sends: bool, expects: bool, address: u8, length: u8) -> u64
-    ensures { result ≡ put_all 0 decision_widths (bit_number sends ∷ bit_number expects ∷ address ∷ length ∷ 0 ∷ []) }
+fn decision_word(sends: bool, expects_reply: bool, address: u8, length: u8) -> u64
+    ensures { result ≡ put_all 0 decision_widths (bit_number sends ∷ bit_number expects_reply ∷ address ∷ length ∷ 0 ∷ []) }
 {
-    put(
-        put_byte(
-            put_byte(put_bit(put_bit(0, sends), expects), 7, address),
-            8,
-            length,
-        ),
-        7,
-        0,
-    )
-}
-
-// The word that says a decision. Of an address that does not fit its field the lowest bits are taken.
-#[tactic(auto, unfolding(crate::specs::Decisions::decision_word))]
-pub fn write_decision(decision: Decision) -> u64
-    ensures { result ≡ decision_word decision }
-{
-    match decision {
-        Decision::Decline => decision_word(false, false, 0, 0),
-        Decision::Send { length } => decision_word(true, false, 0, length),
-        Decision::SendExpectReply { address, length } => decision_word(true, true, address, length),
-    }
+    let word = put(put(0, 1, sends), 1, expects_reply);
+    put(put(put(word, 7, address), 8, length), 7, 0u8)
 }

@@ -102,3 +102,21 @@ unfolding be_from
 be_suc s at i h =
     let k : i < length (drop at s) = simp length-drop (omega arith) in
     rw (add-one, take-suc (drop at s) i 0, be_from_snoc, get_or-drop)
+
+-- a field is below 2 to any width that is no less
+pub field_within : (word at width bits : ℕ) → width ≤ bits → field_of word at width < 2 ^ bits
+field_within word at width bits l = lt_of_lt_of_le (field_below word at width) (pow_mono l)
+
+-- one byte more of bytes: their number, put below the number of those before it
+pub be_more :
+    (bs : List ℕ) (i : ℕ)
+    → i < length bs
+    → i < 8
+    → get_or bs i 0 < 2 ^ 8
+    → be (take i bs) < 2 ^ (8 * i)
+    → (put_of (be (take i bs)) 8 (get_or bs i 0) ≡ be (take (i + 1) bs)) × (be (take (i + 1) bs) < 2 ^ (8 * (i + 1)))
+unfolding be_from
+be_more bs i l few byte small =
+    let e : be (take (i + 1) bs) ≡ be (take i bs) * 2 ^ 8 + get_or bs i 0 = rw (add-one, take-suc bs i 0, be_from_snoc) in
+    let m : 8 * i + 8 ≡ 8 * (i + 1) = omega arith in
+    (put_plain (8 * i) 8 _ _ small byte (omega arith) ∙ sym e, rw e (rw m at (grown (8 * i) 8 _ _ small byte)))

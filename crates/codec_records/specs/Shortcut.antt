@@ -1,7 +1,7 @@
 -- The first refusal of a record as the code looks for it: six zero bytes of an application are passed over at once, and the
 -- telegrams come after the decisions. In a record that is long enough it is the first refusal from the left. Assumes nothing.
 use Rattle.std.specs.Prelude.{ℕ, zero, suc, ◌+◌, ◌-◌, ◌*◌, ◌^◌, ◌<◌, ◌≤◌, ◌≡◌, refl, List, Bool, true, false, cond, length, take, drop, get_or, eqb}
-use Rattle.std.proofs.Common.{sym, ap, ◌∙◌, ⊎_elim, add-one, arith, eq-or-lt_of_le, eq-eqb, ne_eqb, lt-ltb, le-ltb, eqb-true, lit≤}
+use Rattle.std.proofs.Common.{sym, ◌∙◌, ⊎_elim, add-one, arith, eq-or-lt_of_le, eq-eqb, ne_eqb, lt-ltb, le-ltb, eqb-true, lit≤}
 use borrow.Table.Steps.{cases}
 use Rattle.codec_fields.specs.Fields.{field_of, bit_number, zeros_or14, be, be_from, load_of}
 use Rattle.codec_fields.proofs.Widths.{be_suc}

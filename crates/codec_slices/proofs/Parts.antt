@@ -1,6 +1,6 @@
 -- What the calls lean on: the few bytes that a field touches say of it what the number of all bytes says. Assumes nothing.
 use Rattle.std.specs.Prelude.{ℕ, suc, ◌+◌, ◌-◌, ◌*◌, ◌/◌, ◌%◌, ◌^◌, ◌<◌, ◌≤◌, ◌≡◌, List, [], ◌∷◌, ◌++◌, Bool, true, false, ◌&&◌, length, take, drop, get_or, leb}
-use Rattle.std.proofs.Common.{sym, ap, ◌∙◌, subst, add-zero, zero-add, mul-one, mul-suc, add_comm, add_assoc, add-mul, mul_assoc, arith, le-leb, leb-true, leb-false, length-append, length-drop, take-append-drop, length-take-le, drop-drop, pow-add, pow_pos}
+use Rattle.std.proofs.Common.{sym, ap, ◌∙◌, subst, add-zero, zero-add, mul-one, mul-suc, add_comm, add_assoc, add-mul, mul_assoc, arith, le-leb, leb-true, leb-false, length-append, length-drop, take-append-drop, length-take-le, drop-drop, pow-add, pow_pos, pow_mono, lt_of_lt_of_le}
 use Rattle.std.proofs.Math.Nat.{zero-div, zero-mod}
 use Rattle.std.proofs.lemmas.Bool.{lt-leb}
 use borrow.Table.Steps.{cases}
@@ -200,6 +200,10 @@ pub field_small : (s : List ℕ) (at width : ℕ) → field_at s at width < 2 ^ 
 unfolding field_at
 field_small s at width =
     cases (has_bits (length s) at width) (λ t. rw t (field_below (be s) (8 * length s - (at + width)) width)) (λ t. rw t (pow_pos width))
+
+-- a field is below 2 to any width that is no less
+pub field_smaller : (s : List ℕ) (at width most : ℕ) → width ≤ most → field_at s at width < 2 ^ most
+field_smaller s at width most l = lt_of_lt_of_le (field_small s at width) (pow_mono l)
 
 -- a field that is put leaves the length as it is
 pub put_keeps_length : (s : List ℕ) (at width value : ℕ) → length (put_at s at width value) ≡ length s

@@ -19,6 +19,10 @@ has_bits length at width = leb (touched at width) 8 && leb (at + width) (8 * len
 unfoldable pub field_at : List ℕ → ℕ → ℕ → ℕ
 field_at s at width = cond (has_bits (length s) at width) (field_of (be s) (8 * length s - (at + width)) width) 0
 
+-- the same for a field of at most so many bits; 0 for a wider one, too
+abbrev pub field_up_to : ℕ → List ℕ → ℕ → ℕ → ℕ
+field_up_to most s at width = cond (leb width most) (field_at s at width) 0
+
 -- the number n with the lowest width bits of value in the place of those above its lowest at
 unfoldable pub over_field : ℕ → ℕ → ℕ → ℕ → ℕ
 over_field n at width value = (n / 2 ^ (at + width) * 2 ^ width + value % 2 ^ width) * 2 ^ at + n % 2 ^ at
