@@ -1,11 +1,11 @@
 -- Trace entries exported as a capture (document 02, P13): a line for each telegram that P1 can write. Online, offline and passive
 -- give no line; a record that document 01 refuses for one application, or a cut entry, ends the export. Assumes nothing.
-use Rattle.std.specs.Prelude.{ℕ, zero, suc, ◌+◌, ◌-◌, List, [], ◌∷◌, ◌++◌, cond, length, get_or, take, drop, eqb, ltb}
-use Rattle.codec_frames.specs.Frames.{Written, not_written, fitted, write_of}
-use Rattle.codec_records.specs.declared.Head.{Head}
+use Rattle.std.specs.Prelude.{ℕ, zero, suc, ◌+◌, ◌-◌, List, [], ◌∷◌, ◌++◌, cond, length, take, drop, eqb, ltb, Result, Ok, Err}
+use Rattle.codec_frames.specs.Frames.{Written, not_written, write_of}
 use Rattle.codec_records.specs.Records.{head_of, telegram_word_at, record_refusal}
 use Rattle.capture_text.specs.Text.{line_text}
-use Rattle.capture_export.specs.declared.Exported.{Exported}
+use Rattle.refusals.specs.Refusals.{number_of}
+use Rattle.capture_export.specs.declared.RefusedEntry.{RefusedEntry}
 
 -- The lines of a record
 
@@ -78,7 +78,18 @@ export_from (suc most) (kind ∷ rest) before room =
 unfoldable pub export_of : List ℕ → ℕ → Export
 export_of entries room = export_from (length entries) entries 0 room
 
--- what the call returns
+-- and as numbers: the refused entry, counted from 1, or 0; the bytes written; the refusal's number, or 0
+pub record Exported : Type 0 where
+  pub entry : ℕ
+  pub written : ℕ
+  pub refusal : ℕ
+
+-- what the call's answer says, as numbers
+abbrev pub export_told : Result ℕ RefusedEntry → Exported
+export_told (Ok written) = record { entry = 0; written = written; refusal = 0 }
+export_told (Err e) = record { entry = e.entry; written = e.written; refusal = number_of e.refusal }
+
+-- what an export's is
 unfoldable pub exported_of : Export → Exported
 exported_of x = record { entry = x.entry; written = length x.text; refusal = x.refusal }
 

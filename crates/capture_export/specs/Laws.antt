@@ -1,29 +1,28 @@
 -- What the code writes is what the definitions say: a telegram's line, a record's lines, an entry, the loop over entries. Assumes
 -- nothing.
-use Rattle.std.specs.Prelude.{ℕ, zero, suc, ◌+◌, ◌-◌, ◌*◌, ◌/◌, ◌%◌, ◌<◌, ◌≤◌, ◌≡◌, refl, Bool, cond, not, get_or, drop, replicate}
-use Rattle.std.proofs.Common.{sym, ◌∙◌, add-one, le_refl, add-zero, length-append, length-drop, length-take, drop_of_length-le, take-append-drop, length-take-le, take_all, take_at, drop_at, drop-drop, drop-cons, lit≤}
+use Rattle.std.specs.Prelude.{ℕ, zero, suc, ◌+◌, ◌-◌, ◌<◌, ◌≤◌, ◌≡◌, refl, get_or, drop, replicate, Result, Ok, Err, IsErrAnd}
+use Rattle.std.proofs.Common.{sym, ◌∙◌, le_refl, add-zero, length-append, length-drop, drop_of_length-le, take_all, take_at, drop_at, drop-drop}
 use Rattle.std.proofs.Math.Path.{ap}
 use mathlib.Core.List.{List, [], ◌∷◌, ◌++◌, append-nil, append_assoc}
 use Rattle.std.proofs.Math.Bool.{true, false}
 use native.Mathlib.Omega.{arith}
 use Rattle.std.proofs.Math.Nat.{sub-zero}
-use borrow.Author.Tests.{lt-ltb, le-ltb, ltb-true, ltb-false, eq-eqb, ne_eqb, eqb-true, eqb-false}
+use borrow.Author.Tests.{lt-ltb, le-ltb, ltb-false, eq-eqb, ne_eqb, eqb-true, eqb-false}
 use borrow.Table.Steps.{cases}
 use borrow.Rule.Slice.PartMut.{put_mid}
 use Rattle.std.proofs.Math.ListN.{length, take}
 use Rattle.std.proofs.Math.Dec.{eqb, ltb}
 use Rattle.codec_fields.proofs.Laws.{never}
-use Rattle.codec_telegrams.specs.declared.Telegram.{Telegram}
 use Rattle.codec_telegrams.specs.Words.{telegram_of, telegram_refusal}
-use Rattle.codec_frames.specs.Frames.{Written, not_written, fitted, write_of, write_number, written_over, frame_bytes, is_other_request}
-use Rattle.codec_records.specs.declared.Head.{Head}
+use Rattle.codec_frames.specs.Frames.{Written, not_written, fitted, write_of, written_count, written_over, frame_bytes, is_other_request}
 use Rattle.codec_records.specs.Records.{head_of, telegram_word_at, record_refusal}
-use Rattle.capture_text.specs.declared.LineWritten.{LineWritten}
-use Rattle.capture_text.specs.Text.{line_text, line_written}
-use Rattle.capture_export.specs.declared.EntryWritten.{EntryWritten}
-use Rattle.capture_export.specs.declared.Exported.{Exported}
-use Rattle.capture_export.specs.Export.{longest_frame, word_line, lines_from, record_lines, and_then, lines_fitted, entry_fitted, entry_used, Export, preceded, export_from, export_of, exported_of, buffer_of}
-use Rattle.capture_export.specs.Turns.{entry_written}
+use Rattle.capture_text.specs.Text.{line_text}
+use Rattle.refusals.specs.declared.refusal.Refusal.{Refusal}
+use Rattle.refusals.proofs.Numbers.{refused}
+use Rattle.codec_frames.specs.Laws.{number_same}
+use Rattle.capture_export.specs.declared.RefusedEntry.{RefusedEntry}
+use Rattle.capture_export.specs.Export.{Exported, export_told, longest_frame, word_line, lines_from, record_lines, and_then, lines_fitted, entry_fitted, entry_used, Export, preceded, export_from, export_of, exported_of, buffer_of}
+use Rattle.capture_export.specs.Turns.{LineWritten, line_written, EntryTold, entry_written}
 
 -- A telegram's line
 
@@ -49,49 +48,64 @@ write_small word room =
     (λ b. rw (a, b) (fitted_small (frame_bytes (telegram_of word)) room)))
     (λ a. rw a (record { number = omega arith; size = omega arith }))
 
+-- what a count says of what is written
+counted_is : (w : Written) {count : ℕ} → Ok count ≡ written_count w → (w.refusal ≡ 0) × (count ≡ length w.bytes)
+counted_is w e =
+    cases (eqb w.refusal 0)
+    (λ a. let g = rw a at e in (eqb-true w.refusal 0 a, cc))
+    (λ a. let g = rw a at e in cc)
+
+refused_is : (w : Written) {refusal : ℕ} → Err refusal ≡ written_count w → (w.refusal ≡ 0 → ⊥) × (refusal ≡ w.refusal)
+refused_is w e =
+    cases (eqb w.refusal 0)
+    (λ a. let g = rw a at e in cc)
+    (λ a. let g = rw a at e in (eqb-false w.refusal 0 a, cc))
+
+-- and as bytes and a number
+pub line_counted : (bytes : List ℕ) (room : ℕ) {count : ℕ} → Ok count ≡ written_count (fitted bytes room) → record { bytes = count; refusal = 0 } ≡ line_written (fitted bytes room)
+line_counted bytes room e = let is = counted_is (fitted bytes room) e in rw (is.0, is.1)
+
+pub line_refused : (bytes : List ℕ) (room : ℕ) {refusal : ℕ} → Err refusal ≡ written_count (fitted bytes room) → record { bytes = 0; refusal = refusal } ≡ line_written (fitted bytes room)
+unfolding fitted
+line_refused bytes room {refusal} e =
+    cases (ltb room (length bytes))
+    (λ a. let g = rw a at e in let same : refusal ≡ 18 = cc in rw (a, same))
+    (λ a. let g = rw a at e in cc)
+
 -- nothing always fits
-nothing_fits : (before : List ℕ) → (record { bytes = 0; refusal = 0 } ≡ line_written (fitted [] (length before))) × (before ≡ written_over (fitted [] (length before)) before)
+nothing_fits : (before : List ℕ) → (Ok 0 ≡ written_count (fitted [] (length before))) × (before ≡ written_over (fitted [] (length before)) before)
 unfolding fitted
 nothing_fits before = rw (le-ltb (length before) 0 (omega arith)) (refl, refl)
 
-module _ (time word : ℕ) {number : ℕ} (is : number ≡ write_number (write_of word longest_frame)) where
+module _ (time word : ℕ) where
   -- a telegram that P1 cannot write is skipped
   pub word_skipped :
-      (number % 256 ≡ 0 → ⊥)
+      {refusal : ℕ}
+      → Err refusal ≡ written_count (write_of word longest_frame)
       → (before : List ℕ)
-      → (record { bytes = 0; refusal = 0 } ≡ line_written (fitted (word_line time word) (length before))) × (before ≡ written_over (fitted (word_line time word) (length before)) before)
+      → (Ok 0 ≡ written_count (fitted (word_line time word) (length before))) × (before ≡ written_over (fitted (word_line time word) (length before)) before)
   unfolding word_line
-  word_skipped h before =
+  word_skipped is before =
       let w = write_of word longest_frame in
-      let small = write_small word longest_frame in
-      let rest : (length w.bytes * 256 + w.refusal) % 256 ≡ w.refusal = omega (arith, small.number) in
-      let no : eqb w.refusal 0 ≡ false = ne_eqb w.refusal 0 (λ e. h (rw is (rest ∙ e))) in
+      let no : eqb w.refusal 0 ≡ false = ne_eqb w.refusal 0 (refused_is w is).0 in
       rw no (nothing_fits before)
 
   -- else its frame has so many bytes
-  module _ (ok : number % 256 ≡ 0) where
-    pub word_size : number / 256 ≡ length (write_of word longest_frame).bytes
-    word_size =
-        let w = write_of word longest_frame in
-        let small = write_small word longest_frame in
-        rw is (omega (arith, small.number))
-
-    pub word_small : number / 256 ≤ 6
-    word_small = omega (arith, word_size, (write_small word longest_frame).size)
+  module _ {size : ℕ} (is : Ok size ≡ written_count (write_of word longest_frame)) where
+    pub word_small : size ≤ 6
+    word_small = omega (arith, (counted_is (write_of word longest_frame) is).1, (write_small word longest_frame).size)
 
     pub word_written :
-        (before : List ℕ) {frame : List ℕ} {wrote : LineWritten} {left : List ℕ}
+        (before : List ℕ) {frame : List ℕ} {wrote : Result ℕ ℕ} {left : List ℕ}
         → frame ≡ written_over (write_of word longest_frame) (replicate 6 0)
-        → (wrote ≡ line_written (fitted (line_text time (take (number / 256 - 0) frame)) (length before))) × (left ≡ written_over (fitted (line_text time (take (number / 256 - 0) frame)) (length before)) before)
-        → (wrote ≡ line_written (fitted (word_line time word) (length before))) × (left ≡ written_over (fitted (word_line time word) (length before)) before)
+        → (wrote ≡ written_count (fitted (line_text time (take size frame)) (length before))) × (left ≡ written_over (fitted (line_text time (take size frame)) (length before)) before)
+        → (wrote ≡ written_count (fitted (word_line time word) (length before))) × (left ≡ written_over (fitted (word_line time word) (length before)) before)
     unfolding word_line
     word_written before {frame} {wrote} {left} stands says =
         let w = write_of word longest_frame in
-        let small = write_small word longest_frame in
-        let rest : (length w.bytes * 256 + w.refusal) % 256 ≡ w.refusal = omega (arith, small.number) in
-        let yes : eqb w.refusal 0 ≡ true = eq-eqb w.refusal 0 (sym rest ∙ rw (← is) ok) in
-        let e : number / 256 - 0 ≡ length w.bytes = omega (arith, word_size) in
-        let all : take (number / 256 - 0) frame ≡ w.bytes = rw (stands, e) (take_at w.bytes (drop (length w.bytes) (replicate 6 0)) (length w.bytes) refl) in
+        let yes : eqb w.refusal 0 ≡ true = eq-eqb w.refusal 0 (counted_is w is).0 in
+        let e : size ≡ length w.bytes = (counted_is w is).1 in
+        let all : take size frame ≡ w.bytes = rw (stands, e) (take_at w.bytes (drop (length w.bytes) (replicate 6 0)) (length w.bytes) refl) in
         rw yes (rw all at says)
 
 -- What is written behind what stands
@@ -349,6 +363,11 @@ pub code_lines :
 code_lines [] before some poll whole is h says = absurd (omega arith)
 code_lines (kind ∷ rest) before some poll whole is h says = entry_lines kind rest before poll (omega arith) (rw (back kind) at is) h (rw (back kind) at says)
 
+-- a refusal that is handed on
+pub handed_on : {A E : Type 0} (r : Result A E) (e : E) → IsErrAnd r (λ (x : E). x ≡ e) → r ≡ Err e
+handed_on (Ok x) e h = absurd h
+handed_on (Err x) e h = ap Err h
+
 -- The loop over entries
 
 -- an entry that is taken lies within the bytes
@@ -436,7 +455,7 @@ module _ {entries before text : List ℕ} {at out entry : ℕ} (g : Going entrie
 
   module _
       (more : at < length entries)
-      {became : EntryWritten}
+      {became : EntryTold}
       {left : List ℕ}
       (is : became ≡ entry_written (take (length entries - at) (drop at entries)) (length (take (length text - out) (drop out text))))
       (leaves :
@@ -455,10 +474,10 @@ module _ {entries before text : List ℕ} {at out entry : ℕ} (g : Going entrie
     became_is = is ∙ rw (tail, over_room g.over)
 
     number : became.refusal ≡ (entry_fitted (drop at entries) (length before - out)).refusal
-    number = ap (λ (x : EntryWritten). x.refusal) became_is
+    number = ap (λ (x : EntryTold). x.refusal) became_is
 
     bytes : became.bytes ≡ length (entry_fitted (drop at entries) (length before - out)).bytes
-    bytes = ap (λ (x : EntryWritten). x.bytes) became_is
+    bytes = ap (λ (x : EntryTold). x.bytes) became_is
 
     -- what stands after the entry
     next : Over (g.done ++ (entry_fitted (drop at entries) (length before - out)).bytes) before (put_mid out (length text - out) text left) (out + became.bytes)
@@ -498,7 +517,7 @@ module _ {entries before text : List ℕ} {at out entry : ℕ} (g : Going entrie
         let w = entry_fitted (drop at entries) (length before - out) in
         let ok : w.refusal ≡ 0 = sym number ∙ h in
         let inside = entry_within (drop at entries) (length before - out) some ok in
-        let used : became.used ≡ entry_used (get_or (drop at entries) 0 0) = ap (λ (x : EntryWritten). x.used) became_is in
+        let used : became.used ≡ entry_used (get_or (drop at entries) 0 0) = ap (λ (x : EntryTold). x.used) became_is in
         let within : at + became.used ≤ length entries = omega (arith, used, inside.1, length-drop at entries) in
         let less : length before - out - length w.bytes ≡ length before - (out + became.bytes) = omega (arith, bytes) in
         let y = export_from (length entries - (entry + 1)) (drop (at + became.used) entries) (entry + 1) (length before - (out + became.bytes)) in
@@ -515,3 +534,13 @@ module _ {entries before text : List ℕ} {at out entry : ℕ} (g : Going entrie
           omega (arith, used, inside.0),
           within,
         )
+
+-- answers that say the same as numbers are the same
+pub export_same : (x y : Result ℕ RefusedEntry) → export_told x ≡ export_told y → x ≡ y
+export_same (Ok m) (Ok n) h = ap (λ (i : Exported). Ok i.written) h
+export_same (Ok m) (Err e) h = absurd (refused e.refusal (sym (ap (λ (i : Exported). i.refusal) h)))
+export_same (Err d) (Ok n) h = absurd (refused d.refusal (ap (λ (i : Exported). i.refusal) h))
+export_same (Err d) (Err e) h =
+    ap (λ (n : ℕ). Err (record { entry = n; refusal = d.refusal; written = d.written })) (ap (λ (i : Exported). i.entry) h)
+    ∙ ap (λ (r : Refusal). Err (record { entry = e.entry; refusal = r; written = d.written })) (number_same d.refusal e.refusal (ap (λ (i : Exported). i.refusal) h))
+    ∙ ap (λ (n : ℕ). Err (record { entry = e.entry; refusal = e.refusal; written = n })) (ap (λ (i : Exported). i.written) h)

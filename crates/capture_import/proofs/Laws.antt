@@ -1,6 +1,6 @@
 -- What the code writes is what the definitions say: an entry, one telegram more in it, a line (`Standing`), the loop over lines
 -- (`Going`). Assumes nothing.
-use Rattle.std.specs.Prelude.{ℕ, zero, suc, ◌+◌, ◌-◌, ◌*◌, ◌<◌, ◌≤◌, ◌≡◌, set, leb}
+use Rattle.std.specs.Prelude.{ℕ, zero, suc, ◌+◌, ◌-◌, ◌*◌, ◌<◌, ◌≤◌, ◌≡◌, set, leb, Result, Ok, Err}
 use Rattle.std.proofs.Math.Path.{refl, sym, ap}
 use Rattle.std.proofs.Common.{◌∙◌, add-one, le_refl, drop_of_length-le, take_all, lit≤}
 use mathlib.Core.List.{List, [], ◌∷◌, ◌++◌, append-nil, append_assoc}
@@ -21,14 +21,16 @@ use Rattle.codec_telegrams.specs.Words.{telegram_word}
 use Rattle.codec_records_written.specs.Stored.{head_word, head_stored, telegram_stored}
 use Rattle.codec_records_written.specs.Whole.{each, application_bytes, telegram_bytes, record_bytes, record_stored}
 use Rattle.codec_records_written.proofs.Written.{round_trip}
-use Rattle.capture_lines.specs.declared.LineRead.{LineRead}
-use Rattle.capture_lines.specs.declared.LineRead.TheVariants.{NotBuilt, Refused, Accepted}
-use Rattle.capture_lines.specs.Lines.{lines_of, line_at}
+use Rattle.capture_lines.specs.Lines.{LineRead, NotBuilt, Refused, Accepted, lines_of, line_at}
 use Rattle.capture_lines.proofs.Laws.{first_line, accepts, numbered}
+use Rattle.refusals.specs.declared.refusal.Refusal.{Refusal}
+use Rattle.refusals.proofs.Numbers.{refused}
+use Rattle.codec_frames.specs.Laws.{number_same}
+use Rattle.capture_import.specs.declared.RefusedLine.{RefusedLine}
 use Rattle.capture_import.specs.declared.Newest.{Newest}
 use Rattle.capture_import.specs.declared.Taken.{Taken}
-use Rattle.capture_import.specs.Import.{Poll, head_of, declines, telegram_of, poll_bytes, entry_bytes, entries_of, new_poll, with_telegram, heard_after, polls_after, last_time, last_count, time_refusal, line_refusal, import_from, import_of, imported_of, buffer_of}
-use Rattle.capture_import.specs.Turns.{Fits, refused_taken, taken, added_taken, added_left, extended_bytes, extended_taken, extended_left, is_newest, hear_taken, hear_left, line_taken, line_left}
+use Rattle.capture_import.specs.Import.{Imported, import_told, Poll, head_of, declines, telegram_of, poll_bytes, entry_bytes, entries_of, new_poll, with_telegram, heard_after, polls_after, last_time, last_count, time_refusal, line_refusal, import_from, import_of, imported_of, buffer_of}
+use Rattle.capture_import.specs.Turns.{Fits, taken, added_taken, added_left, extended_bytes, extended_taken, extended_left, is_newest, hear_taken, hear_left, line_taken, line_left}
 use Rattle.capture_import.specs.Laws.{Going, Good, Standing, laid, newest_of}
 
 -- An entry
@@ -265,7 +267,7 @@ module _ (polls : List Poll) (before : List ℕ) (fits : length (entries_of poll
   added_taken_lem :
       (used : ℕ)
       → added_taken (newest_of polls) time used (length before)
-      ≡ cond (ltb (length before) (length (entries_of (new_poll time heard ∷ polls)))) (refused_taken (newest_of polls) 18) (taken used (newest_of (new_poll time heard ∷ polls)))
+      ≡ cond (ltb (length before) (length (entries_of (new_poll time heard ∷ polls)))) (Err 18) (taken used (newest_of (new_poll time heard ∷ polls)))
   unfolding added_taken
   added_taken_lem used = rw (newest_end polls, room_more (length before) (length (entries_of polls)) 19 fits, new_length)
 
@@ -294,7 +296,7 @@ module _ (p : Poll) (older : List Poll) (before : List ℕ) (fits : length (entr
   extended_taken_lem :
       (used : ℕ)
       → extended_taken (newest_of (p ∷ older)) used (length before)
-      ≡ cond (ltb (length before) (length (entries_of (with_telegram p heard ∷ older)))) (refused_taken (newest_of (p ∷ older)) 18) (taken used (newest_of (with_telegram p heard ∷ older)))
+      ≡ cond (ltb (length before) (length (entries_of (with_telegram p heard ∷ older)))) (Err 18) (taken used (newest_of (with_telegram p heard ∷ older)))
   unfolding extended_taken
   extended_taken_lem used = rw (room_more (length before) (length (entries_of (p ∷ older))) 4 fits, more_length, more_count p heard)
 
@@ -341,7 +343,7 @@ module _ (p : Poll) (older : List Poll) (before : List ℕ) (fits : length (entr
 module _ {polls : List Poll} {before entries : List ℕ} {newest : Newest} (s : Standing polls before entries newest) (time : ℕ) (heard : Telegram) (used : ℕ) where
   hear_taken_lem :
       hear_taken newest time used (length entries)
-      ≡ cond (ltb (length before) (length (entries_of (heard_after polls time heard)))) (refused_taken newest 18) (taken used (newest_of (heard_after polls time heard)))
+      ≡ cond (ltb (length before) (length (entries_of (heard_after polls time heard)))) (Err 18) (taken used (newest_of (heard_after polls time heard)))
   unfolding hear_taken is_newest heard_after
   hear_taken_lem = rw (stands_length s, s.is) (by_polls polls s.good s.room)
     where
@@ -350,7 +352,7 @@ module _ {polls : List Poll} {before entries : List ℕ} {newest : Newest} (s : 
           → Good ps
           → length (entries_of ps) ≤ length before
           → hear_taken (newest_of ps) time used (length before)
-          ≡ cond (ltb (length before) (length (entries_of (heard_after ps time heard)))) (refused_taken (newest_of ps) 18) (taken used (newest_of (heard_after ps time heard)))
+          ≡ cond (ltb (length before) (length (entries_of (heard_after ps time heard)))) (Err 18) (taken used (newest_of (heard_after ps time heard)))
       by_polls [] good room = added_taken_lem [] before room time heard used
       by_polls (p ∷ older) good room =
           let some : eqb (length p.telegrams) 0 ≡ false = ne_eqb (length p.telegrams) 0 (λ e. omega (arith, good.0)) in
@@ -408,6 +410,11 @@ heard_good (p ∷ older) time heard good ok =
     (λ b. rw a (omega (arith, more_count p heard), omega (arith, leb-false 8 k b, more_count p heard), good.2)))
     (λ a. rw a (lit≤ tt, lit≤ tt, good))
 
+-- the number of what became of a line
+abbrev number_at : Result Taken ℕ → ℕ
+number_at (Ok t) = 0
+number_at (Err refusal) = refusal
+
 -- how many bytes a line has
 abbrev used_in : LineRead → ℕ
 used_in NotBuilt = 0
@@ -420,7 +427,7 @@ module _ {polls : List Poll} {before entries : List ℕ} {newest : Newest} (s : 
   time_same time = rw (s.is, newest_time polls, newest_count polls)
 
   -- a line is refused with the definition's number
-  line_refusal_lem : (line : LineRead) → (line_taken line newest (length entries)).refusal ≡ line_refusal polls line (length before)
+  line_refusal_lem : (line : LineRead) → number_at (line_taken line newest (length entries)) ≡ line_refusal polls line (length before)
   unfolding line_taken line_refusal
   line_refusal_lem NotBuilt = refl
   line_refusal_lem (Refused time refusal) = rw (time_same time)
@@ -447,11 +454,13 @@ module _ {polls : List Poll} {before entries : List ℕ} {newest : Newest} (s : 
   line_stands :
       (line : LineRead)
       → line_refusal polls line (length before) ≡ 0
-      → Standing (polls_after polls line) before (line_left line newest entries) (line_taken line newest (length entries)).newest × ((line_taken line newest (length entries)).used ≡ used_in line)
+      → {t : Taken}
+      → Ok t ≡ line_taken line newest (length entries)
+      → Standing (polls_after polls line) before (line_left line newest entries) t.newest × (t.used ≡ used_in line)
   unfolding line_taken line_left line_refusal
-  line_stands NotBuilt h = never 30 h
-  line_stands (Refused time refusal) h = (s, refl)
-  line_stands (Accepted time heard used) h =
+  line_stands NotBuilt h e = never 30 h
+  line_stands (Refused time refusal) h {t} e = cc
+  line_stands (Accepted time heard used) h {t} e =
       let number = time_refusal (last_time polls) (last_count polls) time in
       let full = ltb (length before) (length (entries_of (heard_after polls time heard))) in
       cases (eqb number 0)
@@ -459,7 +468,9 @@ module _ {polls : List Poll} {before entries : List ℕ} {newest : Newest} (s : 
       cases full
       (λ b. never 17 (rw (a, b) at h))
       (λ b.
-      rw (time_same time, a, hear_taken_lem s time heard used, b) (
+      let is = rw (time_same time, a, hear_taken_lem s time heard used, b) at e in
+      let same : t ≡ record { used = used; newest = newest_of (heard_after polls time heard) } = cc in
+      rw (time_same time, a, same) (
         record {
           good = heard_good polls time heard s.good (eqb-true number 0 a);
           is = refl;
@@ -536,44 +547,47 @@ module _ {text before entries : List ℕ} {at line : ℕ} {newest : Newest} (g :
 
   module _
       (more : at < length text)
-      {became : Taken}
+      {became : Result Taken ℕ}
       {left : List ℕ}
       (is : became ≡ line_taken (line_at (take (length text - at) (drop at text))) newest (length entries))
       (leaves : left ≡ line_left (line_at (take (length text - at) (drop at text))) newest entries) where
     some : 1 ≤ length (drop at text)
     some = rw length-drop (omega arith)
 
-    number : became.refusal ≡ line_refusal g.polls (line_at (drop at text)) (length before)
-    number = ap (λ (x : Taken). x.refusal) is ∙ rw (tail_of text at) (line_refusal_lem g.stands (line_at (drop at text)))
+    number : number_at became ≡ line_refusal g.polls (line_at (drop at text)) (length before)
+    number = ap number_at is ∙ rw (tail_of text at) (line_refusal_lem g.stands (line_at (drop at text)))
 
-    -- a refused line changes nothing
-    pub goes_kept : (became.refusal ≡ 0 → ⊥) → left ≡ entries
-    goes_kept h = leaves ∙ rw (tail_of text at) (line_kept g.stands (line_at (drop at text)) (λ e. h (number ∙ e)))
+    module _ {refusal : ℕ} (refused : became ≡ Err refusal) (numbers : refusal ≡ 0 → ⊥) where
+      bad : line_refusal g.polls (line_at (drop at text)) (length before) ≡ 0 → ⊥
+      bad e = numbers (sym (ap number_at refused) ∙ number ∙ e)
 
-    -- the next line is refused
-    pub goes_refused :
-        (became.refusal ≡ 0 → ⊥)
-        → (record { line = line + 1; written = newest.end; refusal = became.refusal } ≡ imported_of (import_of text (length before))) × (left ≡ buffer_of (import_of text (length before)) before)
-    goes_refused h =
-        let bad : line_refusal g.polls (line_at (drop at text)) (length before) ≡ 0 → ⊥ = λ e. h (number ∙ e) in
-        rw (goes_kept h, number)
-        (came text g.stands (line_refusal g.polls (line_at (drop at text)) (length before)) (line + 1)
-        (g.run ∙ import_refused g.polls line (length before) (drop at text) some bad))
+      -- a refused line changes nothing
+      pub goes_kept : left ≡ entries
+      goes_kept = leaves ∙ rw (tail_of text at) (line_kept g.stands (line_at (drop at text)) bad)
+
+      -- the next line is refused
+      pub goes_refused :
+          (record { line = line + 1; written = newest.end; refusal = refusal } ≡ imported_of (import_of text (length before))) × (left ≡ buffer_of (import_of text (length before)) before)
+      goes_refused =
+          let same : refusal ≡ line_refusal g.polls (line_at (drop at text)) (length before) = sym (ap number_at refused) ∙ number in
+          rw (goes_kept, same)
+          (came text g.stands (line_refusal g.polls (line_at (drop at text)) (length before)) (line + 1)
+          (g.run ∙ import_refused g.polls line (length before) (drop at text) some bad))
 
     -- it is taken
-    pub goes_next : became.refusal ≡ 0 → Going text before left (at + became.used) (line + 1) became.newest × (1 ≤ became.used) × (at + became.used ≤ length text)
-    goes_next h =
+    pub goes_next : {t : Taken} → became ≡ Ok t → Going text before left (at + t.used) (line + 1) t.newest × (1 ≤ t.used) × (at + t.used ≤ length text)
+    goes_next {t} h =
         let said = line_at (drop at text) in
-        let ok : line_refusal g.polls said (length before) ≡ 0 = sym number ∙ h in
-        let stands = line_stands g.stands said ok in
-        let next = import_taken g.polls line (length before) (drop at text) some ok in
+        let ok : line_refusal g.polls said (length before) ≡ 0 = sym number ∙ ap number_at h in
         let became_is : became ≡ line_taken said newest (length entries) = is ∙ rw (tail_of text at) in
-        let used : became.used ≡ used_in said = ap (λ (x : Taken). x.used) became_is ∙ stands.1 in
+        let stands = line_stands g.stands said ok (sym h ∙ became_is) in
+        let next = import_taken g.polls line (length before) (drop at text) some ok in
+        let used : t.used ≡ used_in said = stands.1 in
         let here : left ≡ line_left said newest entries = leaves ∙ rw (tail_of text at) in
-        let within : at + became.used ≤ length text = omega (arith, next.2, length-drop at text) in (
+        let within : at + t.used ≤ length text = omega (arith, next.2, length-drop at text) in (
           record {
             polls = polls_after g.polls said;
-            stands = rw (here, became_is) stands.0;
+            stands = rw here stands.0;
             begun = omega (arith, g.begun, next.1);
             within = within;
             run = g.run ∙ next.0 ∙ rw (← used, drop-drop);
@@ -581,3 +595,13 @@ module _ {text before entries : List ℕ} {at line : ℕ} {newest : Newest} (g :
           omega (arith, next.1),
           within,
         )
+
+-- answers that say the same as numbers are the same
+pub import_same : (x y : Result ℕ RefusedLine) → import_told x ≡ import_told y → x ≡ y
+import_same (Ok m) (Ok n) h = ap (λ (i : Imported). Ok i.written) h
+import_same (Ok m) (Err e) h = absurd (refused e.refusal (sym (ap (λ (i : Imported). i.refusal) h)))
+import_same (Err d) (Ok n) h = absurd (refused d.refusal (ap (λ (i : Imported). i.refusal) h))
+import_same (Err d) (Err e) h =
+    ap (λ (n : ℕ). Err (record { line = n; refusal = d.refusal; written = d.written })) (ap (λ (i : Imported). i.line) h)
+    ∙ ap (λ (r : Refusal). Err (record { line = e.line; refusal = r; written = d.written })) (number_same d.refusal e.refusal (ap (λ (i : Imported). i.refusal) h))
+    ∙ ap (λ (n : ℕ). Err (record { line = e.line; refusal = e.refusal; written = n })) (ap (λ (i : Imported). i.written) h)

@@ -1,6 +1,6 @@
 -- A capture imported (document 02, P13): lines with equal time make one record, in their order, up to 8, pending 0, not
 -- transmitting, written as a trace entry for a station with one application that declines. Assumes nothing.
-use Rattle.std.specs.Prelude.{ℕ, ◌+◌, List, [], ◌∷◌, ◌++◌, Bool, false, cond, ◌&&◌, length, get_or, drop, eqb, ltb, leb}
+use Rattle.std.specs.Prelude.{ℕ, ◌+◌, List, [], ◌∷◌, ◌++◌, Bool, false, cond, ◌&&◌, length, get_or, drop, eqb, ltb, leb, Result, Ok, Err}
 use Rattle.codec_telegrams.specs.declared.Telegram.{Telegram}
 use Rattle.codec_telegrams.specs.declared.Telegram.TheVariants.{ShortConfirmation}
 use Rattle.codec_decisions.specs.declared.Decision.{Decision}
@@ -8,10 +8,9 @@ use Rattle.codec_decisions.specs.declared.Decision.TheVariants.{Decline}
 use Rattle.codec_records.specs.declared.Head.{Head}
 use Rattle.codec_records.specs.Records.{most_telegrams}
 use Rattle.codec_records_written.specs.Whole.{record_bytes}
-use Rattle.capture_lines.specs.declared.LineRead.{LineRead}
-use Rattle.capture_lines.specs.declared.LineRead.TheVariants.{NotBuilt, Refused, Accepted}
-use Rattle.capture_lines.specs.Lines.{lines_of, line_of}
-use Rattle.capture_import.specs.declared.Imported.{Imported}
+use Rattle.refusals.specs.Refusals.{number_of}
+use Rattle.capture_lines.specs.Lines.{LineRead, NotBuilt, Refused, Accepted, lines_of, line_of}
+use Rattle.capture_import.specs.declared.RefusedLine.{RefusedLine}
 
 -- a poll of a capture: its time, and the telegrams of that time in their order
 pub record Poll : Type 0 where
@@ -111,7 +110,18 @@ import_from polls before (l ∷ ls) room =
 unfoldable pub import_of : List ℕ → ℕ → Import
 import_of text room = import_from [] 0 (lines_of text) room
 
--- what the call returns
+-- and as numbers: the refused line, counted from 1, or 0; the bytes written; the refusal's number, or 0
+pub record Imported : Type 0 where
+  pub line : ℕ
+  pub written : ℕ
+  pub refusal : ℕ
+
+-- what the call's answer says, as numbers
+abbrev pub import_told : Result ℕ RefusedLine → Imported
+import_told (Ok written) = record { line = 0; written = written; refusal = 0 }
+import_told (Err e) = record { line = e.line; written = e.written; refusal = number_of e.refusal }
+
+-- what an import's is
 unfoldable pub imported_of : Import → Imported
 imported_of i = record { line = i.line; written = length (entries_of i.polls); refusal = i.refusal }
 

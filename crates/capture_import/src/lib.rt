@@ -4,28 +4,31 @@
 #![tactic(auto)]
 
 ghost use Rattle.std.specs.Prelude.{◌≡◌, ◌+◌, ◌*◌, ◌≤◌, [], ◌∷◌, length};
+ghost use Rattle.refusals.specs.Refusals.{number_in};
+ghost use Rattle.codec_frames.specs.Frames.{numbered};
 ghost use Rattle.codec_records_written.specs.Stored.{head_stored, telegram_stored};
 ghost use Rattle.codec_records_written.specs.Whole.{record_stored};
 ghost use Rattle.capture_lines.specs.Lines.{line_at};
-ghost use Rattle.capture_import.specs.Import.{head_of, declines, telegram_of, new_poll, entry_bytes, time_refusal, import_of, imported_of, buffer_of};
-ghost use Rattle.capture_import.specs.Turns.{Fits, is_newest, refused_taken, added_taken, added_left, extended_bytes, extended_taken, extended_left, hear_taken, hear_left, line_taken, line_left};
+ghost use Rattle.capture_import.specs.Import.{head_of, declines, telegram_of, new_poll, entry_bytes, time_refusal, import_of, imported_of, import_told, buffer_of};
+ghost use Rattle.capture_import.specs.Turns.{Fits, is_newest, added_taken, added_left, extended_bytes, extended_taken, extended_left, hear_taken, hear_left, line_taken, line_left};
 
-use capture_lines::{LineRead, read_line};
+use capture_lines::{LineError, read_line};
 use codec_decisions::Decision;
 use codec_records::Head;
 use codec_records_written::{store_decision, store_head, store_telegram};
 use codec_telegrams::Telegram;
+use refusals::Refusal;
 
-// What an import comes to: the refused line, counted from 1, or 0; the bytes written; the refusal's number, or 0.
-#[derive(Clone, Copy)]
-pub struct Imported {
+/// A line that ended an import: which, counted from 1, why, and how many bytes the entries of the lines before it have.
+#[derive(Clone, Copy, Debug, PartialEq, Eq)]
+pub struct RefusedLine {
     pub line: u64,
+    pub refusal: Refusal,
     pub written: u64,
-    pub refusal: u8,
 }
 
 // The newest entry: where it begins, where it ends, its time, and how many telegrams it has; all 0 before the first.
-#[derive(Clone, Copy)]
+#[derive(Clone, Copy, Debug, PartialEq, Eq)]
 struct Newest {
     place: usize,
     end: usize,
@@ -33,23 +36,11 @@ struct Newest {
     telegrams: u8,
 }
 
-// What became of a line: how many bytes it has, the newest entry after it, and its refusal, or 0.
-#[derive(Clone, Copy)]
+// What became of a line that was taken: how many bytes it has, and the newest entry after it.
+#[derive(Clone, Copy, Debug, PartialEq, Eq)]
 struct Taken {
     used: usize,
     newest: Newest,
-    refusal: u8,
-}
-
-// A line that is refused.
-fn refused(newest: Newest, refusal: u8) -> Taken
-    ensures { result ≡ refused_taken newest refusal }
-{
-    Taken {
-        used: 0,
-        newest: newest,
-        refusal: refusal,
-    }
 }
 
 // The head of a poll of a capture.
@@ -59,7 +50,7 @@ fn poll_head(time: u64, telegrams: u8) -> Head
     Head {
         clock: time,
         pending: 0,
-        telegrams: telegrams,
+        telegrams,
         transmitting: false,
     }
 }
@@ -106,159 +97,155 @@ fn extend(entry: &mut [u8], time: u64, telegrams: u8, heard: Telegram)
 
 // A new entry behind the newest, or 18 where there is no room for it.
 #[tactic(auto, using(crate::proofs::Laws::added_written), unfolding(crate::specs::Turns::added_taken, crate::specs::Turns::added_left))]
-fn add_entry(entries: &mut [u8], newest: Newest, time: u64, heard: Telegram, used: usize) -> Taken
+fn add_entry(
+    entries: &mut [u8],
+    newest: Newest,
+    time: u64,
+    heard: Telegram,
+    used: usize,
+) -> Result<Taken, Refusal>
     requires { Fits newest (length entries.old) }
-    ensures value { result ≡ added_taken newest time used (length entries.old) }
+    ensures value { numbered result ≡ added_taken newest time used (length entries.old) }
     ensures entries_after { entries.new ≡ added_left newest time heard entries.old }
 {
-    let end = newest.end;
-    if entries.len() - end < 19 {
-        return refused(newest, 18);
+    let place = newest.end;
+    if entries.len() - place < 19 {
+        return Err(Refusal::NoRoom);
     }
-    let next = end + 19;
-    write_entry(&mut entries[end..next], time, heard);
-    Taken {
-        used: used,
-        newest: Newest {
-            place: end,
-            end: next,
-            time: time,
-            telegrams: 1,
-        },
-        refusal: 0,
-    }
+    let end = place + 19;
+    write_entry(&mut entries[place..end], time, heard);
+    let newest = Newest {
+        place,
+        end,
+        time,
+        telegrams: 1,
+    };
+    Ok(Taken { used, newest })
 }
 
 // One telegram more in the newest entry, or 18 where there is no room for it.
 #[tactic(auto, using(crate::proofs::Laws::newest_written), unfolding(crate::specs::Turns::extended_taken, crate::specs::Turns::extended_left))]
-fn extend_newest(entries: &mut [u8], newest: Newest, heard: Telegram, used: usize) -> Taken
+fn extend_newest(
+    entries: &mut [u8],
+    mut newest: Newest,
+    heard: Telegram,
+    used: usize,
+) -> Result<Taken, Refusal>
     requires { Fits newest (length entries.old) }
-    ensures value { result ≡ extended_taken newest used (length entries.old) }
+    ensures value { numbered result ≡ extended_taken newest used (length entries.old) }
     ensures entries_after { entries.new ≡ extended_left newest heard entries.old }
 {
-    let place = newest.place;
-    let end = newest.end;
-    let telegrams = newest.telegrams;
-    if entries.len() - end < 4 {
-        return refused(newest, 18);
+    if entries.len() - newest.end < 4 {
+        return Err(Refusal::NoRoom);
     }
-    let next = end + 4;
-    extend(&mut entries[place..next], newest.time, telegrams, heard);
-    Taken {
-        used: used,
-        newest: Newest {
-            place: place,
-            end: next,
-            time: newest.time,
-            telegrams: telegrams + 1,
-        },
-        refusal: 0,
-    }
+    let end = newest.end + 4;
+    extend(
+        &mut entries[newest.place..end],
+        newest.time,
+        newest.telegrams,
+        heard,
+    );
+    newest.end = end;
+    newest.telegrams += 1;
+    Ok(Taken { used, newest })
 }
 
-// Whether there is an entry and it has this time.
-#[tactic(auto, unfolding(crate::specs::Turns::is_newest))]
-fn is_newest(newest: Newest, time: u64) -> bool
-    ensures { result ≡ is_newest newest time }
-{
-    if newest.telegrams == 0 {
-        return false;
+impl Newest {
+    // Whether there is an entry and it has this time.
+    #[tactic(auto, unfolding(crate::specs::Turns::is_newest))]
+    fn has_time(self, time: u64) -> bool
+        ensures { result ≡ is_newest self time }
+    {
+        self.telegrams != 0 && time == self.time
     }
-    time == newest.time
+
+    // Refuses a time below the newest entry's with 32, and its own after the eighth telegram with 33.
+    #[tactic(auto, unfolding(crate::specs::Import::time_refusal))]
+    fn check_time(self, time: u64) -> Result<(), Refusal>
+        ensures { number_in result ≡ time_refusal self.time self.telegrams time }
+    {
+        if time < self.time {
+            return Err(Refusal::TimeGoesBack);
+        }
+        if self.telegrams >= 8 && time == self.time {
+            return Err(Refusal::LinesOfOneTime);
+        }
+        Ok(())
+    }
 }
 
 // A telegram of this time: into the newest entry, or into a new one.
 #[tactic(auto, unfolding(crate::specs::Turns::hear_taken, crate::specs::Turns::hear_left))]
-fn hear(entries: &mut [u8], newest: Newest, time: u64, heard: Telegram, used: usize) -> Taken
+fn hear(
+    entries: &mut [u8],
+    newest: Newest,
+    time: u64,
+    heard: Telegram,
+    used: usize,
+) -> Result<Taken, Refusal>
     requires { Fits newest (length entries.old) }
-    ensures value { result ≡ hear_taken newest time used (length entries.old) }
+    ensures value { numbered result ≡ hear_taken newest time used (length entries.old) }
     ensures entries_after { entries.new ≡ hear_left newest time heard entries.old }
 {
-    if is_newest(newest, time) {
-        return extend_newest(entries, newest, heard, used);
+    if newest.has_time(time) {
+        extend_newest(entries, newest, heard, used)
+    } else {
+        add_entry(entries, newest, time, heard, used)
     }
-    add_entry(entries, newest, time, heard, used)
-}
-
-// The refusal of a time after an entry of time `last` with so many telegrams: 32 below, 33 after the eighth; else 0.
-#[tactic(auto, unfolding(crate::specs::Import::time_refusal))]
-fn time_refusal(last: u64, telegrams: u8, time: u64) -> u8
-    ensures { result ≡ time_refusal last telegrams time }
-{
-    if time < last {
-        return 32;
-    }
-    if telegrams < 8 {
-        return 0;
-    }
-    if time == last {
-        return 33;
-    }
-    0
 }
 
 // The line at the start of a text: what it says is written, or it is refused.
-#[tactic(auto, unfolding(crate::specs::Turns::line_taken, crate::specs::Turns::line_left))]
-fn take_line(text: &[u8], entries: &mut [u8], newest: Newest) -> Taken
+#[tactic(auto, using(refusals::proofs::Numbers::refused), unfolding(crate::specs::Turns::line_taken, crate::specs::Turns::line_left))]
+fn take_line(text: &[u8], entries: &mut [u8], newest: Newest) -> Result<Taken, Refusal>
     requires { Fits newest (length entries.old) }
-    ensures value { result ≡ line_taken (line_at text.now) newest (length entries.old) }
+    ensures value { numbered result ≡ line_taken (line_at text.now) newest (length entries.old) }
     ensures entries_after { entries.new ≡ line_left (line_at text.now) newest entries.old }
 {
     match read_line(text) {
-        LineRead::NotBuilt => refused(newest, 31),
-        LineRead::Refused { time, refusal } => {
-            let number = time_refusal(newest.time, newest.telegrams, time);
-            if number != 0 {
-                return refused(newest, number);
-            }
-            refused(newest, refusal)
+        Ok(line) => {
+            newest.check_time(line.time)?;
+            hear(entries, newest, line.time, line.telegram, line.used)
         }
-        LineRead::Accepted {
-            time,
-            telegram,
-            used,
-        } => {
-            let number = time_refusal(newest.time, newest.telegrams, time);
-            if number != 0 {
-                return refused(newest, number);
-            }
-            hear(entries, newest, time, telegram, used)
+        Err(LineError::Frame { time, refusal }) => {
+            newest.check_time(time)?;
+            Err(refusal)
         }
+        Err(LineError::NotBuilt) => Err(Refusal::CaptureLine),
     }
 }
 
-// Imports a capture: the entries stand at the start of `entries`, and the bytes past them stay. The first bad line decides; nothing
-// of it or after it is written.
-#[tactic(auto, using(crate::proofs::Laws::goes_first, crate::proofs::Laws::goes_fit, crate::proofs::Laws::goes_length, crate::proofs::Laws::goes_done, crate::proofs::Laws::goes_kept, crate::proofs::Laws::goes_refused, crate::proofs::Laws::goes_next))]
-pub fn import_capture(text: &[u8], entries: &mut [u8]) -> Imported
-    ensures value { result ≡ imported_of (import_of text.now (length entries.old)) }
+/// Imports a capture: the entries stand at the start of `entries`, and the bytes past them stay. The answer is how many bytes they
+/// have. The first bad line decides; nothing of it or after it is written. Refused with 31 for a line that is not built as lines are or
+/// has bytes after its frame, 32 for a time below the one before, 33 for a ninth line of one time, 18 without room, or the number of
+/// the line's frame.
+#[tactic(auto, using(refusals::proofs::Numbers::refused, crate::proofs::Laws::goes_first, crate::proofs::Laws::goes_fit, crate::proofs::Laws::goes_length, crate::proofs::Laws::goes_done, crate::proofs::Laws::goes_kept, crate::proofs::Laws::goes_refused, crate::proofs::Laws::goes_next))]
+pub fn import_capture(text: &[u8], entries: &mut [u8]) -> Result<u64, RefusedLine>
+    ensures value { import_told result ≡ imported_of (import_of text.now (length entries.old)) }
     ensures entries_after { entries.new ≡ buffer_of (import_of text.now (length entries.old)) entries.old }
 {
-    let mut at: usize = 0;
-    let mut line: u64 = 0;
+    let mut at = 0;
+    let mut line = 0;
     let mut newest = Newest {
         place: 0,
         end: 0,
         time: 0,
         telegrams: 0,
     };
+    // A line's length is known once it is read, so the loop goes by the bytes that each line took.
     while at < text.len() {
-        let taken = take_line(&text[at..], entries, newest);
-        let refusal = taken.refusal;
-        if refusal != 0 {
-            return Imported {
-                line: line + 1,
-                written: newest.end as u64,
-                refusal: refusal,
-            };
-        }
-        newest = taken.newest;
-        at += taken.used;
         line += 1;
+        let taken = match take_line(&text[at..], entries, newest) {
+            Ok(taken) => taken,
+            Err(refusal) => {
+                return Err(RefusedLine {
+                    line,
+                    refusal,
+                    written: newest.end as u64,
+                });
+            }
+        };
+        at += taken.used;
+        newest = taken.newest;
     }
-    Imported {
-        line: 0,
-        written: newest.end as u64,
-        refusal: 0,
-    }
+    Ok(newest.end as u64)
 }

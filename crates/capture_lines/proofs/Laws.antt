@@ -1,6 +1,6 @@
 -- The reader of a line as the code goes is what the line says, and what import and export cite of lines (`FirstLine`, `Accepts`).
 -- Assumes nothing.
-use Rattle.std.specs.Prelude.{ℕ, suc, ◌+◌, ◌-◌, ◌*◌, ◌<◌, ◌≤◌, ◌≡◌, Bool, true, false, cond, not, ◌&&◌, length, get_or, set, eqb, ltb, leb}
+use Rattle.std.specs.Prelude.{ℕ, suc, ◌+◌, ◌-◌, ◌*◌, ◌<◌, ◌≤◌, ◌≡◌, Bool, true, false, cond, not, ◌&&◌, length, get_or, set, eqb, ltb, leb, Some, None, Result, Ok, Err}
 use Rattle.std.proofs.Math.Path.{refl}
 use Rattle.std.proofs.Common.{sym, ap, ◌∙◌, arith, add-zero, zero-add, le_refl, length-set, length-append, drop_of_length-le, length-take-le, drop_at, drop-drop, drop-cons, lit≤}
 use mathlib.Core.List.{List, [], ◌∷◌, ◌++◌, append-nil}
@@ -8,20 +8,22 @@ use Rattle.std.proofs.Math.Numerals.{add-one}
 use borrow.Author.Tests.{le-leb, lt-leb, lt-ltb, le-ltb, leb-true, leb-false, ltb-true, ltb-false, ne_eqb, eqb-true}
 use borrow.Table.Steps.{cases}
 use Rattle.std.proofs.Math.ListN.{take, drop, length-drop}
-use Rattle.std.proofs.Math.Seq.{take-nil, take_all, take-append_seam, append_snoc, set_out}
+use Rattle.std.proofs.Math.Seq.{take-nil, take_all, take-append_seam, append_snoc, set_out, length-sets}
 use Rattle.std.proofs.lemmas.List.Edits.{sets, sets-eq}
 use Rattle.std.proofs.Math.Dec.{eqb-suc-zero}
-use Rattle.codec_frames.specs.declared.FrameRead.{FrameRead}
-use Rattle.codec_frames.specs.declared.FrameRead.TheVariants as frame
+use Rattle.codec_frames.specs.declared.Frame.{Frame}
 use Rattle.codec_frames.specs.Frames.{frame_of}
-use Rattle.codec_frames.specs.Laws.{frame_numbered}
+use Rattle.codec_frames.specs.Laws.{frame_numbered, number_same}
 use Rattle.codec_telegrams.specs.declared.Telegram.{Telegram}
+use Rattle.refusals.specs.declared.refusal.Refusal.{Refusal}
+use Rattle.refusals.specs.Refusals.{number_of}
+use Rattle.capture_lines.specs.declared.Line.{Line}
+use Rattle.capture_lines.specs.declared.LineError.{LineError}
+use Rattle.capture_lines.specs.declared.LineError.TheVariants as error
 use Rattle.codec_frames.specs.Behind.{first_255}
-use Rattle.capture_lines.specs.declared.LineRead.{LineRead}
-use Rattle.capture_lines.specs.declared.LineRead.TheVariants.{NotBuilt, Refused, Accepted}
 use Rattle.capture_lines.specs.declared.Digits.{Digits}
-use Rattle.capture_lines.specs.Lines.{space, line_feed, zero_digit, clock_limit, lines_of, between, digit_of, is_decimal, is_hex, digits_at, after_digits, decimal_from, decimal, pairs_at, after_pairs, some, begins, is_end, is_time, after_time, is_built, said_of, line_of, first_said, line_at}
-use Rattle.capture_lines.specs.Ways.{capped, capped_more, digits_from, zero_leads, rest_way, line_way}
+use Rattle.capture_lines.specs.Lines.{LineRead, line_read, NotBuilt, Refused, Accepted, space, line_feed, zero_digit, clock_limit, lines_of, between, digit_of, is_decimal, is_hex, digits_at, after_digits, decimal_from, decimal, pairs_at, after_pairs, some, begins, is_end, is_time, after_time, is_built, said_of, line_of, first_said, line_at}
+use Rattle.capture_lines.specs.Ways.{digit_in, byte_in, capped, capped_more, digits_from, zero_leads, rest_way, line_way}
 use Rattle.capture_lines.specs.Laws.{Accepts, First, FirstLine, NoFeed, Paired, ended, unended}
 
 -- Digits
@@ -348,16 +350,26 @@ module _ (text : List ℕ) (value count : ℕ) where
 
   module _ (more : count < length text) where
     -- the next byte is no digit
-    pub digits_stop : 10 ≤ digit_of (get_or text count 0) → digits_from value count (drop count text) ≡ record { value = value; count = count }
+    pub digits_stop : None ≡ digit_in 10 (get_or text count 0) → digits_from value count (drop count text) ≡ record { value = value; count = count }
     unfolding digits_from
-    digits_stop h = rw (drop-cons text count 0 more, le-ltb (digit_of (get_or text count 0)) 10 h)
+    digits_stop h =
+        cases (is_decimal (get_or text count 0))
+        (λ a. let g = rw a at h in cc)
+        (λ a. rw (drop-cons text count 0 more, a))
 
     -- it is one
     pub digits_go :
-        digit_of (get_or text count 0) < 10
-        → digits_from value count (drop count text) ≡ digits_from (capped_more value (digit_of (get_or text count 0))) (count + 1) (drop (count + 1) text)
+        {digit : ℕ}
+        → Some digit ≡ digit_in 10 (get_or text count 0)
+        → digits_from value count (drop count text) ≡ digits_from (capped_more value digit) (count + 1) (drop (count + 1) text)
     unfolding digits_from
-    digits_go h = rw (drop-cons text count 0 more, lt-ltb (digit_of (get_or text count 0)) 10 h, add-one count)
+    digits_go {digit} h =
+        cases (is_decimal (get_or text count 0))
+        (λ a.
+        let g = rw a at h in
+        let same : digit ≡ digit_of (get_or text count 0) = cc in
+        rw (drop-cons text count 0 more, a, same, add-one count))
+        (λ a. let g = rw a at h in cc)
 
 -- fewer than two bytes are no pair
 few : (l : List ℕ) → length l ≤ 1 → pairs_at l ≡ []
@@ -366,50 +378,57 @@ few (a ∷ []) h = refl
 few (a ∷ b ∷ l) h = absurd (omega arith)
 
 -- before the first pair
-pub paired_none : (text before : List ℕ) → Paired text before before 0 0
+pub paired_none : (text before : List ℕ) → Paired text before before text 0
 paired_none text before =
-    record { place = refl; within = omega arith; long = refl; many = sym (zero-add (length (pairs_at text))); stand = refl }
+    record { within = omega arith; long = refl; many = sym (zero-add (length (pairs_at text))); stand = refl }
 
-module _ {text before frame : List ℕ} {count at : ℕ} (p : Paired text before frame count at) where
+module _ {text before frame left : List ℕ} {count : ℕ} (p : Paired text before frame left count) where
   -- no pair more
-  all_paired : pairs_at (drop at text) ≡ [] → (count ≡ length (pairs_at text)) × (frame ≡ sets before 0 (pairs_at text))
+  all_paired : pairs_at left ≡ [] → (count ≡ length (pairs_at text)) × (frame ≡ sets before 0 (pairs_at text))
   all_paired e = (sym (p.many ∙ rw (e, add-zero)), sym (p.stand ∙ rw e))
 
   -- fewer than two bytes are left
-  pub paired_end : length text - at ≤ 1 → (count ≡ length (pairs_at text)) × (frame ≡ sets before 0 (pairs_at text))
-  paired_end h = all_paired (few (drop at text) (simp length-drop h))
+  pub paired_end : length left < 2 → (count ≡ length (pairs_at text)) × (frame ≡ sets before 0 (pairs_at text))
+  paired_end h = all_paired (few left (omega arith))
 
-  module _ (more : 1 < length text - at) {high low : ℕ} (is-high : high ≡ digit_of (get_or text at 0)) (is-low : low ≡ digit_of (get_or text (at + 1) 0)) where
-    -- two bytes are
-    two : drop at text ≡ get_or text at 0 ∷ get_or text (at + 1) 0 ∷ drop (at + 2) text
-    two =
-        let first : at < length text = omega arith in
-        let second : at + 1 < length text = omega arith in
-        let e : suc (at + 1) ≡ at + 2 = omega arith in
-        drop-cons text at 0 first ∙ ap (λ (l : List ℕ). get_or text at 0 ∷ l) (rw (← add-one at, drop-cons text (at + 1) 0 second, e))
+  module _ (pair rest : List ℕ) (splits : left ≡ pair ++ rest) (size : length pair ≡ 2) where
+    pairs_are : pairs_at left ≡ cond (is_hex (get_or pair 0 0) && is_hex (get_or pair 1 0)) ((16 * digit_of (get_or pair 0 0) + digit_of (get_or pair 1 0)) ∷ pairs_at rest) []
+    pairs_are = rw splits (by_pair pair size)
+      where
+        by_pair : (l : List ℕ) → length l ≡ 2 → pairs_at (l ++ rest) ≡ cond (is_hex (get_or l 0 0) && is_hex (get_or l 1 0)) ((16 * digit_of (get_or l 0 0) + digit_of (get_or l 1 0)) ∷ pairs_at rest) []
+        by_pair [] h = absurd (omega arith)
+        by_pair (a ∷ []) h = absurd (omega arith)
+        by_pair (a ∷ b ∷ []) h = refl
+        by_pair (a ∷ b ∷ d ∷ l) h = absurd (omega arith)
 
-    -- the first is no digit
-    pub paired_high : 16 ≤ high → (count ≡ length (pairs_at text)) × (frame ≡ sets before 0 (pairs_at text))
-    paired_high h = all_paired (rw (two, ← is-high, le-ltb high 16 h))
+    -- the next two bytes are no pair
+    pub paired_stop : None ≡ byte_in (get_or pair 0 0) (get_or pair 1 0) → (count ≡ length (pairs_at text)) × (frame ≡ sets before 0 (pairs_at text))
+    paired_stop h =
+        cases (is_hex (get_or pair 0 0) && is_hex (get_or pair 1 0))
+        (λ a. let g = rw a at h in cc)
+        (λ a. all_paired (pairs_are ∙ rw a))
 
-    -- the second is none
-    pub paired_low : 16 ≤ low → (count ≡ length (pairs_at text)) × (frame ≡ sets before 0 (pairs_at text))
-    paired_low h = all_paired (rw (two, ← is-low, le-ltb low 16 h, no_and (is_hex (get_or text at 0))))
-
-    -- both are: one pair more
-    pub paired_more : high < 16 → low < 16 → {after : List ℕ} → after ≡ set frame count (16 * high + low) → Paired text before after (count + 1) (at + 2)
-    paired_more h l {after} is =
-        let byte = 16 * high + low in
-        let rest = length (pairs_at (drop (at + 2) text)) in
-        let e : pairs_at (drop at text) ≡ byte ∷ pairs_at (drop (at + 2) text) = rw (two, ← is-high, ← is-low, lt-ltb high 16 h, lt-ltb low 16 l) in
-        let sum : count + suc rest ≡ count + 1 + rest = omega arith in
+    -- they are one: one pair more
+    pub paired_more :
+        {byte : ℕ}
+        → Some byte ≡ byte_in (get_or pair 0 0) (get_or pair 1 0)
+        → {after : List ℕ}
+        → after ≡ set frame count byte
+        → Paired text before after rest (count + 1)
+    paired_more {byte} h {after} is =
+        cases (is_hex (get_or pair 0 0) && is_hex (get_or pair 1 0))
+        (λ a.
+        let g = rw a at h in
+        let same : byte ≡ 16 * digit_of (get_or pair 0 0) + digit_of (get_or pair 1 0) = cc in
+        let e : pairs_at left ≡ byte ∷ pairs_at rest = pairs_are ∙ rw (a, same) in
+        let sum : count + suc (length (pairs_at rest)) ≡ count + 1 + length (pairs_at rest) = omega arith in
         record {
-          place = omega (arith, p.place);
-          within = omega arith;
+          within = omega (arith, p.within, ap length splits, length-append pair rest);
           long = ap length is ∙ length-set frame count byte ∙ p.long;
           many = p.many ∙ ap (λ (l : List ℕ). count + length l) e ∙ sum;
           stand = p.stand ∙ rw (e, is, add-one count);
-        }
+        })
+        (λ a. let g = rw a at h in cc)
 
 -- The frame of a line
 
@@ -479,15 +498,24 @@ module _ (text : List ℕ) (time begun : ℕ) {count : ℕ} (is : count ≡ leng
       -- a line feed: the line says what its frame says
       pub rest_ended :
           get_or text (2 * count) 0 ≡ line_feed
-          → (l : List ℕ) {frame : List ℕ} {read : FrameRead} {said : LineRead}
+          → (l : List ℕ) {frame : List ℕ} {first : ℕ} {read : Result Frame ℕ} {said : LineRead}
           → length l ≡ 255
           → frame ≡ sets l 0 (pairs_at text)
-          → read ≡ frame_of (take count frame)
+          → (count ≤ 255 → first ≡ count)
+          → (255 < count → first ≡ 255)
+          → read ≡ frame_of (take first frame)
           → said ≡ said_of time read count (begun + 2 * count + 1)
           → said ≡ rest_way text time begun
       unfolding rest_way
-      rest_ended h l {frame} {read} {said} size stands reads says =
-          let whole : read ≡ frame_of (pairs_at text) = reads ∙ rw (stands, is) (stored_frame (pairs_at text) l size) in
+      rest_ended h l {frame} {first} {read} {said} size stands below above reads says =
+          let long : length frame ≡ 255 = ap length stands ∙ length-sets l 0 (pairs_at text) ∙ size in
+          let same : take first frame ≡ take count frame =
+          cases (leb count 255)
+          (λ a. ap (λ (n : ℕ). take n frame) (below (leb-true count 255 a)))
+          (λ a.
+          let over : 255 < count = leb-false count 255 a in
+          rw (above over, take_all 255 frame (omega arith), take_all count frame (omega arith))) in
+          let whole : read ≡ frame_of (pairs_at text) = reads ∙ rw (same, stands, is) (stored_frame (pairs_at text) l size) in
           rw (← is, ne_eqb count 0 some_pairs, begins_at line_feed text (2 * count) more, h) (says ∙ rw whole)
 
 module _ (text : List ℕ) (digits : Digits) (is : digits ≡ digits_from 0 0 text) where
@@ -564,11 +592,11 @@ first_line text h = by_first text h (first_of text)
         record { line = line ++ (line_feed ∷ []); others = lines_of rest; splits = split; says = rw split }
 
 -- a line says how many bytes it has
-said_used : (time count : ℕ) (read : FrameRead) {size at used : ℕ} {telegram : Telegram} → said_of time read count size ≡ Accepted at telegram used → used ≡ size
+said_used : (time count : ℕ) (read : Result Frame ℕ) {size at used : ℕ} {telegram : Telegram} → said_of time read count size ≡ Accepted at telegram used → used ≡ size
 unfolding said_of
-said_used time count (frame.Refused refusal) e = let z : ◌≡◌ {A = ℕ} 0 1 = cc in absurd (omega arith)
-said_used time count (frame.Accepted telegram bytes) e =
-    cases (eqb bytes count) (λ a. let g = rw a at e in cc) (λ a. let g = rw a at e in let z : ◌≡◌ {A = ℕ} 0 1 = cc in absurd (omega arith))
+said_used time count (Err refusal) e = let z : ◌≡◌ {A = ℕ} 0 1 = cc in absurd (omega arith)
+said_used time count (Ok f) e =
+    cases (eqb f.used count) (λ a. let g = rw a at e in cc) (λ a. let g = rw a at e in let z : ◌≡◌ {A = ℕ} 0 1 = cc in absurd (omega arith))
 
 line_used : (l : List ℕ) {at used : ℕ} {telegram : Telegram} → line_of l ≡ Accepted at telegram used → used ≡ length l
 unfolding line_of
@@ -603,11 +631,11 @@ accepts text {at} {used} {telegram} says = by_first text says (first_of text)
         }
 
 -- a refused line has a number
-said_numbered : (time count size : ℕ) (f : List ℕ) (read : FrameRead) → frame_of f ≡ read → {at refusal : ℕ} → said_of time read count size ≡ Refused at refusal → refusal ≡ 0 → ⊥
+said_numbered : (time count size : ℕ) (f : List ℕ) (read : Result Frame ℕ) → frame_of f ≡ read → {at refusal : ℕ} → said_of time read count size ≡ Refused at refusal → refusal ≡ 0 → ⊥
 unfolding said_of
-said_numbered time count size f (frame.Refused n) g {at} {refusal} e z = let same : n ≡ refusal = cc in frame_numbered f g (same ∙ z)
-said_numbered time count size f (frame.Accepted telegram bytes) g {at} {refusal} e z =
-    cases (eqb bytes count)
+said_numbered time count size f (Err n) g {at} {refusal} e z = let same : n ≡ refusal = cc in frame_numbered f g (same ∙ z)
+said_numbered time count size f (Ok r) g {at} {refusal} e z =
+    cases (eqb r.used count)
     (λ a. let h = rw a at e in let y : ◌≡◌ {A = ℕ} 0 1 = cc in absurd (omega arith))
     (λ a. let h = rw a at e in let same : refusal ≡ 31 = cc in absurd (omega arith))
 
@@ -626,3 +654,24 @@ numbered text {at} {refusal} e z = by_lines (lines_of text) e
     by_lines : (ls : List (List ℕ)) → first_said ls ≡ Refused at refusal → ⊥
     by_lines [] g = let y : ◌≡◌ {A = ℕ} 0 1 = cc in absurd (omega arith)
     by_lines (l ∷ ls) g = line_numbered l g z
+
+-- answers that say the same was read are the same
+pub line_same : (x y : Result Line LineError) → line_read x ≡ line_read y → x ≡ y
+line_same (Ok l) (Ok m) h =
+    let time : l.time ≡ m.time = cc in
+    let telegram : l.telegram ≡ m.telegram = cc in
+    let used : l.used ≡ m.used = cc in
+    ap (λ (t : ℕ). Ok (record { time = t; telegram = l.telegram; used = l.used })) time
+    ∙ ap (λ (t : Telegram). Ok (record { time = m.time; telegram = t; used = l.used })) telegram
+    ∙ ap (λ (u : ℕ). Ok (record { time = m.time; telegram = m.telegram; used = u })) used
+line_same (Ok l) (Err error.NotBuilt) h = cc
+line_same (Ok l) (Err (error.Frame time refusal)) h = cc
+line_same (Err error.NotBuilt) (Ok m) h = cc
+line_same (Err error.NotBuilt) (Err error.NotBuilt) h = refl
+line_same (Err error.NotBuilt) (Err (error.Frame time refusal)) h = cc
+line_same (Err (error.Frame time refusal)) (Ok m) h = cc
+line_same (Err (error.Frame time refusal)) (Err error.NotBuilt) h = cc
+line_same (Err (error.Frame time refusal)) (Err (error.Frame at other)) h =
+    let clock : time ≡ at = cc in
+    let number : number_of refusal ≡ number_of other = cc in
+    ap (λ (t : ℕ). Err (error.Frame t refusal)) clock ∙ ap (λ (e : Refusal). Err (error.Frame at e)) (number_same refusal other number)

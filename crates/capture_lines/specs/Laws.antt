@@ -18,13 +18,12 @@ pub data First : List ℕ → Type 0 where
   unended : {text : List ℕ} → NoFeed text → First text
   ended : (line rest : List ℕ) {text : List ℕ} → NoFeed line → text ≡ line ++ (line_feed ∷ rest) → First text
 
--- where the loop over pairs stands: those of the whole text are those passed and those of what is left
-pub record Paired (text before frame : List ℕ) (count at : ℕ) : Type 0 where
-  pub place : at ≡ 2 * count
-  pub within : at ≤ length text
+-- where the loop over pairs stands: those of the whole text are those counted and those of what is left
+pub record Paired (text before frame left : List ℕ) (count : ℕ) : Type 0 where
+  pub within : 2 * count + length left ≤ length text
   pub long : length frame ≡ length before
-  pub many : length (pairs_at text) ≡ count + length (pairs_at (drop at text))
-  pub stand : sets before 0 (pairs_at text) ≡ sets frame count (pairs_at (drop at text))
+  pub many : length (pairs_at text) ≡ count + length (pairs_at left)
+  pub stand : sets before 0 (pairs_at text) ≡ sets frame count (pairs_at left)
 
 -- What import cites
 

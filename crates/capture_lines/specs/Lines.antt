@@ -1,11 +1,13 @@
 -- The lines of a capture (document 02, P13): a decimal time in microseconds, one space, the frame as one or more pairs of hex
 -- digits, lower or upper case, one per line, ended by a line feed. Assumes nothing.
-use Rattle.std.specs.Prelude.{ℕ, ◌+◌, ◌-◌, ◌*◌, ◌^◌, List, [], ◌∷◌, Bool, true, false, cond, not, ◌&&◌, length, drop, eqb, ltb, leb}
-use Rattle.codec_frames.specs.declared.FrameRead.{FrameRead}
-use Rattle.codec_frames.specs.declared.FrameRead.TheVariants as frame
+use Rattle.std.specs.Prelude.{ℕ, ◌+◌, ◌-◌, ◌*◌, ◌^◌, List, [], ◌∷◌, Bool, true, false, cond, not, ◌&&◌, length, drop, eqb, ltb, leb, Result, Ok, Err}
+use Rattle.refusals.specs.Refusals.{number_of}
+use Rattle.codec_telegrams.specs.declared.Telegram.{Telegram}
+use Rattle.codec_frames.specs.declared.Frame.{Frame}
 use Rattle.codec_frames.specs.Frames.{frame_of}
-use Rattle.capture_lines.specs.declared.LineRead.{LineRead}
-use Rattle.capture_lines.specs.declared.LineRead.TheVariants.{NotBuilt, Refused, Accepted}
+use Rattle.capture_lines.specs.declared.Line.{Line}
+use Rattle.capture_lines.specs.declared.LineError.{LineError}
+use Rattle.capture_lines.specs.declared.LineError.TheVariants as error
 
 -- the byte between time and frame, the byte that ends a line, and the digit 0
 abbrev pub space : ℕ
@@ -89,6 +91,19 @@ after_pairs (a ∷ b ∷ rest) = cond (is_hex a && is_hex b) (after_pairs rest) 
 
 -- What a line is
 
+-- what is read of a line: not built as lines are; built so, with its time, but its frame is refused, or bytes follow it (31); or its
+-- time and telegram, with the number of its bytes, the line feed among them
+pub data LineRead : Type 0 where
+  NotBuilt : LineRead
+  Refused : (time refusal : ℕ) → LineRead
+  Accepted : (time : ℕ) → (telegram : Telegram) → (used : ℕ) → LineRead
+
+-- and what the call's answer says was read
+abbrev pub line_read : Result Line LineError → LineRead
+line_read (Ok line) = Accepted line.time line.telegram line.used
+line_read (Err error.NotBuilt) = NotBuilt
+line_read (Err (error.Frame time refusal)) = Refused time (number_of refusal)
+
 -- whether there are any bytes
 abbrev pub some : List ℕ → Bool
 some [] = false
@@ -119,9 +134,9 @@ is_built l = is_time (digits_at l) && begins space (after_digits l) && some (pai
 
 -- a line with this time that has so many bytes of frame and `used` bytes in all, by what was read of its frame: P1's numbers, then
 -- 31 for bytes after the frame
-unfoldable pub said_of : ℕ → FrameRead → ℕ → ℕ → LineRead
-said_of time (frame.Refused refusal) count used = Refused time refusal
-said_of time (frame.Accepted telegram bytes) count used = cond (eqb bytes count) (Accepted time telegram used) (Refused time 31)
+unfoldable pub said_of : ℕ → Result Frame ℕ → ℕ → ℕ → LineRead
+said_of time (Err refusal) count used = Refused time refusal
+said_of time (Ok frame) count used = cond (eqb frame.used count) (Accepted time frame.telegram used) (Refused time 31)
 
 -- what a line says
 unfoldable pub line_of : List ℕ → LineRead

@@ -1,11 +1,17 @@
 -- The reader of a line as the code goes, over the whole text that the line begins; proofs/Laws.antt has that it is `line_at`. Assumes
 -- nothing.
-use Rattle.std.specs.Prelude.{ℕ, ◌+◌, ◌*◌, List, [], ◌∷◌, Bool, false, cond, not, length, get_or, drop, eqb, leb}
+use Rattle.std.specs.Prelude.{ℕ, ◌+◌, ◌*◌, List, [], ◌∷◌, Bool, false, cond, not, ◌&&◌, length, get_or, drop, eqb, leb, ltb, Option, Some, None}
 use Rattle.codec_frames.specs.Frames.{frame_of}
-use Rattle.capture_lines.specs.declared.LineRead.{LineRead}
-use Rattle.capture_lines.specs.declared.LineRead.TheVariants.{NotBuilt}
 use Rattle.capture_lines.specs.declared.Digits.{Digits}
-use Rattle.capture_lines.specs.Lines.{space, line_feed, zero_digit, clock_limit, digit_of, is_decimal, pairs_at, begins, said_of}
+use Rattle.capture_lines.specs.Lines.{LineRead, NotBuilt, space, line_feed, zero_digit, clock_limit, digit_of, is_decimal, is_hex, pairs_at, begins, said_of}
+
+-- the value of a digit below a radix
+abbrev pub digit_in : ℕ → ℕ → Option ℕ
+digit_in radix b = cond (ltb (digit_of b) radix) (Some (digit_of b)) None
+
+-- the byte that two hex digits are
+abbrev pub byte_in : ℕ → ℕ → Option ℕ
+byte_in high low = cond (is_hex high && is_hex low) (Some (16 * digit_of high + digit_of low)) None
 
 -- a number up to the clock's limit
 abbrev pub capped : ℕ → ℕ

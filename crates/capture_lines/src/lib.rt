@@ -2,76 +2,60 @@
 // in one pass over its bytes, and its frame by codec_frames.
 #![tactic(auto)]
 
-ghost use Rattle.std.specs.Prelude.{◌≡◌, ◌+◌, ◌^◌, ◌<◌, length, take, set};
+ghost use Rattle.std.specs.Prelude.{◌≡◌, ◌+◌, ◌^◌, ◌<◌, ◌≤◌, length, set};
 ghost use Rattle.std.proofs.lemmas.List.Edits.{sets};
-ghost use Rattle.codec_frames.specs.Frames.{frame_of};
-ghost use Rattle.capture_lines.specs.Lines.{between, digit_of, said_of, pairs_at, line_at};
-ghost use Rattle.capture_lines.specs.Ways.{capped_more, digits_from, zero_leads, rest_way};
+ghost use Rattle.codec_frames.specs.Frames.{numbered};
+ghost use Rattle.capture_lines.specs.Lines.{line_read, pairs_at, said_of, line_at};
+ghost use Rattle.capture_lines.specs.Ways.{digit_in, byte_in, capped_more, digits_from, rest_way};
 
-use codec_frames::{FrameRead, read_frame};
+use codec_frames::{Frame, read_frame};
 use codec_telegrams::Telegram;
+use refusals::Refusal;
 
-// The byte between time and frame, the byte that ends a line, and the digit 0.
-const SPACE: u8 = 32;
+// The byte between time and frame, and the byte that ends a line.
+const SPACE: u8 = b' ';
 
-const LINE_FEED: u8 = 10;
-
-const ZERO: u8 = 48;
-
-// What no digit has as its value.
-const NO_DIGIT: u8 = 16;
+const LINE_FEED: u8 = b'\n';
 
 // The times that fit the clock lie below.
-const CLOCK_LIMIT: u64 = 281474976710656;
+const CLOCK_LIMIT: u64 = 1 << 48;
 
-// A line of a capture: not built as lines are; built so, with its time, but its frame is refused, or bytes follow it (31); or its
-// time and telegram, with the number of its bytes, the line feed among them.
-#[derive(Clone, Copy)]
-pub enum LineRead {
+/// A line of a capture: its time in microseconds, its telegram, and how many bytes it has, the line feed among them.
+#[derive(Clone, Copy, Debug, PartialEq, Eq)]
+pub struct Line {
+    pub time: u64,
+    pub telegram: Telegram,
+    pub used: usize,
+}
+
+/// Why a line says no telegram: it is not built as lines are; or it is, and its frame is refused, or bytes follow the frame
+/// (`CaptureLine`).
+#[derive(Clone, Copy, Debug, PartialEq, Eq)]
+pub enum LineError {
     NotBuilt,
-    Refused {
-        time: u64,
-        refusal: u8,
-    },
-    Accepted {
-        time: u64,
-        telegram: Telegram,
-        used: usize,
-    },
+    Frame { time: u64, refusal: Refusal },
 }
 
 // Decimal digits at the start of a slice: how many, and the number that they are, up to the clock's limit.
-#[derive(Clone, Copy)]
+#[derive(Clone, Copy, Debug, PartialEq, Eq)]
 struct Digits {
     value: u64,
     count: usize,
 }
 
-// Whether a byte lies between two others, both included.
-fn is_between(byte: u8, low: u8, high: u8) -> bool
-    ensures { result ≡ between low high byte }
+// The value of a digit below the radix, lower or upper case.
+#[tactic(auto, unfolding(crate::specs::Lines::digit_of))]
+fn digit_of(byte: u8, radix: u8) -> Option<u8>
+    requires { radix ≤ 16 }
+    ensures { result ≡ digit_in radix byte }
 {
-    if byte < low {
-        return false;
-    }
-    byte <= high
-}
-
-// The value of a hex digit, lower or upper case; 16 for any other byte.
-#[tactic(auto, using(crate::proofs::Laws::between_is), unfolding(crate::specs::Lines::digit_of))]
-fn digit_of(byte: u8) -> u8
-    ensures { result ≡ digit_of byte }
-{
-    if is_between(byte, 48, 57) {
-        return byte - 48;
-    }
-    if is_between(byte, 65, 70) {
-        return byte - 55;
-    }
-    if is_between(byte, 97, 102) {
-        return byte - 87;
-    }
-    NO_DIGIT
+    let digit = match byte {
+        b'0'..=b'9' => byte - b'0',
+        b'A'..=b'F' => byte - b'A' + 10,
+        b'a'..=b'f' => byte - b'a' + 10,
+        _ => return None,
+    };
+    if digit < radix { Some(digit) } else { None }
 }
 
 // A number with one decimal digit more, up to the clock's limit.
@@ -79,14 +63,10 @@ fn digit_of(byte: u8) -> u8
 fn with_digit(value: u64, digit: u8) -> u64
     ensures { result ≡ capped_more value digit }
 {
-    if CLOCK_LIMIT <= value {
-        return CLOCK_LIMIT;
-    }
-    let more = value * 10 + (digit as u64);
-    if CLOCK_LIMIT <= more {
-        return CLOCK_LIMIT;
-    }
-    more
+    value
+        .saturating_mul(10)
+        .saturating_add(u64::from(digit))
+        .min(CLOCK_LIMIT)
 }
 
 // The decimal digits at the start of a slice.
@@ -94,151 +74,107 @@ fn with_digit(value: u64, digit: u8) -> u64
 fn read_digits(text: &[u8]) -> Digits
     ensures { result ≡ digits_from 0 0 text.now }
 {
-    let mut value: u64 = 0;
-    let mut count: usize = 0;
-    while count < text.len() {
-        let digit = digit_of(text[count]);
-        if 10 <= digit {
-            return Digits {
-                value: value,
-                count: count,
-            };
-        }
-        value = with_digit(value, digit);
-        count += 1;
+    let mut digits = Digits { value: 0, count: 0 };
+    for &byte in text {
+        let Some(digit) = digit_of(byte, 10) else {
+            return digits;
+        };
+        digits = Digits {
+            value: with_digit(digits.value, digit),
+            count: digits.count + 1,
+        };
     }
-    Digits {
-        value: value,
-        count: count,
-    }
+    digits
 }
 
-// Whether a time of so many digits has a zero at its start that it should not have.
-fn zero_leads(first: u8, count: usize) -> bool
-    ensures { result ≡ zero_leads first count }
+// The byte that two hex digits are.
+#[tactic(auto, using(crate::proofs::Laws::digit_most))]
+fn byte_of(high: u8, low: u8) -> Option<u8>
+    ensures { result ≡ byte_in high low }
 {
-    if first == ZERO {
-        return count != 1;
-    }
-    false
+    Some(16 * digit_of(high, 16)? + digit_of(low, 16)?)
 }
 
 // Writes a byte at a place; past the end nothing.
 fn put_at(bytes: &mut [u8], at: usize, byte: u8)
     ensures { bytes.new ≡ set bytes.old at byte }
 {
+    // Not by `get_mut`, whose contract does not say that the bytes stay where it gives none.
     if at < bytes.len() {
         bytes[at] = byte;
     }
 }
 
 // The pairs of hex digits at the start of a slice: how many there are, and their bytes into `frame`, as far as it goes.
-#[tactic(auto, using(crate::proofs::Laws::paired_none, crate::proofs::Laws::paired_end, crate::proofs::Laws::paired_high, crate::proofs::Laws::paired_low, crate::proofs::Laws::paired_more))]
+#[tactic(auto, using(crate::proofs::Laws::paired_none, crate::proofs::Laws::paired_end, crate::proofs::Laws::paired_stop, crate::proofs::Laws::paired_more))]
 fn read_pairs(text: &[u8], frame: &mut [u8]) -> usize
     ensures value { result ≡ length (pairs_at text.now) }
     ensures frame_after { frame.new ≡ sets frame.old 0 (pairs_at text.now) }
 {
-    let mut count: usize = 0;
-    let mut at: usize = 0;
-    while 1 < text.len() - at {
-        let high = digit_of(text[at]);
-        let low = digit_of(text[at + 1]);
-        if NO_DIGIT <= high {
+    let mut count = 0;
+    for pair in text.chunks_exact(2) {
+        let Some(byte) = byte_of(pair[0], pair[1]) else {
             return count;
-        }
-        if NO_DIGIT <= low {
-            return count;
-        }
-        put_at(frame, count, 16 * high + low);
+        };
+        put_at(frame, count, byte);
         count += 1;
-        at += 2;
     }
     count
 }
 
-// The frame that the first `count` bytes begin with; all bytes where there are fewer.
-#[tactic(auto, using(codec_frames::specs::Frames::frame_of))]
-fn read_first(bytes: &[u8], count: usize) -> FrameRead
-    ensures { result ≡ frame_of (take count bytes.now) }
-{
-    if bytes.len() < count {
-        return read_frame(bytes);
-    }
-    read_frame(&bytes[0..count])
-}
-
 // What a line of `used` bytes says by what was read of its frame, which has `count` bytes.
 #[tactic(auto, unfolding(crate::specs::Lines::said_of))]
-fn line_said(time: u64, read: FrameRead, count: usize, used: usize) -> LineRead
-    ensures { result ≡ said_of time read count used }
+fn line_said(
+    time: u64,
+    read: Result<Frame, Refusal>,
+    count: usize,
+    used: usize,
+) -> Result<Line, LineError>
+    ensures { line_read result ≡ said_of time (numbered read) count used }
 {
     match read {
-        FrameRead::Accepted {
-            telegram,
-            used: bytes,
-        } => {
-            if (bytes as usize) == count {
-                return LineRead::Accepted {
-                    time: time,
-                    telegram: telegram,
-                    used: used,
-                };
-            }
-            LineRead::Refused {
-                time: time,
-                refusal: 31,
-            }
-        }
-        FrameRead::Refused(refusal) => LineRead::Refused {
-            time: time,
-            refusal: refusal,
-        },
+        Ok(frame) if usize::from(frame.used) == count => Ok(Line {
+            time,
+            telegram: frame.telegram,
+            used,
+        }),
+        Ok(_) => Err(LineError::Frame {
+            time,
+            refusal: Refusal::CaptureLine,
+        }),
+        Err(refusal) => Err(LineError::Frame { time, refusal }),
     }
 }
 
 // The rest of a line, after the `begun` bytes of its time and the space.
 #[tactic(auto, using(crate::proofs::Laws::pairs_within, crate::proofs::Laws::rest_none, crate::proofs::Laws::rest_cut, crate::proofs::Laws::rest_other, crate::proofs::Laws::rest_ended))]
-fn read_rest(text: &[u8], time: u64, begun: usize) -> LineRead
+fn read_rest(text: &[u8], time: u64, begun: usize) -> Result<Line, LineError>
     requires { begun + length text.now < 2 ^ 64 }
-    ensures { result ≡ rest_way text.now time begun }
+    ensures { line_read result ≡ rest_way text.now time begun }
 {
     let mut frame = [0u8; 255];
     let count = read_pairs(text, &mut frame);
-    if count == 0 {
-        return LineRead::NotBuilt;
-    }
     let end = 2 * count;
-    if text.len() <= end {
-        return LineRead::NotBuilt;
+    if count == 0 || text.len() <= end || text[end] != LINE_FEED {
+        return Err(LineError::NotBuilt);
     }
-    if text[end] != LINE_FEED {
-        return LineRead::NotBuilt;
-    }
-    line_said(time, read_first(&frame, count), count, begun + end + 1)
+    let read = read_frame(&frame[..count.min(255)]);
+    line_said(time, read, count, begun + end + 1)
 }
 
-// The line at the start of a slice. Bytes behind it are not looked at.
+/// The line at the start of a slice. Bytes behind it are not looked at.
 #[tactic(auto, using(crate::proofs::Laws::digits_within, crate::proofs::Laws::line_none, crate::proofs::Laws::line_late, crate::proofs::Laws::line_led, crate::proofs::Laws::line_cut, crate::proofs::Laws::line_other, crate::proofs::Laws::line_rest))]
-pub fn read_line(text: &[u8]) -> LineRead
-    ensures { result ≡ line_at text.now }
+pub fn read_line(text: &[u8]) -> Result<Line, LineError>
+    ensures { line_read result ≡ line_at text.now }
 {
     let digits = read_digits(text);
     let count = digits.count;
     let time = digits.value;
-    if count == 0 {
-        return LineRead::NotBuilt;
+    if count == 0 || time >= CLOCK_LIMIT || (text[0] == b'0' && count != 1) {
+        return Err(LineError::NotBuilt);
     }
-    if CLOCK_LIMIT <= time {
-        return LineRead::NotBuilt;
-    }
-    if zero_leads(text[0], count) {
-        return LineRead::NotBuilt;
-    }
-    if text.len() <= count {
-        return LineRead::NotBuilt;
-    }
-    if text[count] != SPACE {
-        return LineRead::NotBuilt;
+    if text.len() <= count || text[count] != SPACE {
+        return Err(LineError::NotBuilt);
     }
     let begun = count + 1;
     read_rest(&text[begun..], time, begun)

@@ -1,22 +1,20 @@
 -- What the loops write, turn by turn, and a line put together. Assumes nothing.
 use Prim.Native.Nat.{ℕ, zero, suc, ◌+◌, ◌-◌, ◌*◌, ◌/◌, ◌%◌, ◌<◌, ◌≤◌}
-use Rattle.std.specs.Prelude.{◌≡◌, refl, Bool, true, false, cond, get_or, take, set, ltb}
+use Rattle.std.specs.Prelude.{◌≡◌, refl, get_or, take, set, Ok, Err}
 use Rattle.std.proofs.Math.Path.{sym, ap}
-use Rattle.std.proofs.Common.{◌∙◌, add-zero, zero-add, length-append, length-drop, drop_of_length-le, take-append-drop, take_at, drop_at, drop-drop, drop-cons, take_all}
+use Rattle.std.proofs.Common.{◌∙◌, add-zero, zero-add, length-append, length-drop, drop_of_length-le, take_at, drop_at, drop-drop, drop-cons}
 use mathlib.Core.List.{List, [], ◌∷◌, ◌++◌, append-nil, append_assoc}
 use native.Mathlib.Omega.{arith}
 use Rattle.std.proofs.Math.Numerals.{add-one}
 use borrow.Author.Tests.{lt-ltb, le-ltb}
-use borrow.Table.Steps.{cases}
 use borrow.Rule.Slice.PartMut.{put_mid}
 use Rattle.std.proofs.Math.ListN.{length, drop, length-set}
-use Rattle.std.proofs.Math.Seq.{length-take-le, length-sets, append_snoc, drop-length}
-use Rattle.std.proofs.lemmas.List.{set_at, set_split, drop-set-add}
+use Rattle.std.proofs.Math.Seq.{length-take-le, append_snoc, drop-length}
+use Rattle.std.proofs.lemmas.List.{set_at, set_split}
 use Rattle.std.proofs.lemmas.List.Edits.{sets, sets-eq}
-use Rattle.codec_frames.specs.Frames.{fitted, written_over}
+use Rattle.codec_frames.specs.Frames.{fitted, written_count, written_over}
 use Rattle.capture_lines.specs.Lines.{space, line_feed, zero_digit}
-use Rattle.capture_text.specs.declared.LineWritten.{LineWritten}
-use Rattle.capture_text.specs.Text.{digit_count, last_digits, most_digits, decimal_text, hex_digit, hex_text, line_text, line_written}
+use Rattle.capture_text.specs.Text.{digit_count, last_digits, most_digits, decimal_text, hex_digit, hex_text, line_text}
 
 -- How many digits
 
@@ -94,30 +92,28 @@ module _ {before text : List ℕ} {number left place : ℕ} (p : Filled before t
 -- Hex digits
 
 -- where the loop stands: what is left to write over what is written
-pub record Hexed (before text bytes : List ℕ) (i at : ℕ) : Type 0 where
-  pub place : at ≡ 2 * i
+pub record Hexed (before text bytes : List ℕ) (i : ℕ) : Type 0 where
   pub within : i ≤ length bytes
   pub long : length text ≡ length before
-  pub same : sets before 0 (hex_text bytes) ≡ sets text at (hex_text (drop i bytes))
+  pub same : sets before 0 (hex_text bytes) ≡ sets text (2 * i) (hex_text (drop i bytes))
 
-pub hexed_none : (before bytes : List ℕ) → Hexed before before bytes 0 0
-hexed_none before bytes = record { place = refl; within = omega arith; long = refl; same = refl }
+pub hexed_none : (before bytes : List ℕ) → Hexed before before bytes 0
+hexed_none before bytes = record { within = omega arith; long = refl; same = refl }
 
-module _ {before text bytes : List ℕ} {i at : ℕ} (p : Hexed before text bytes i at) where
+module _ {before text bytes : List ℕ} {i : ℕ} (p : Hexed before text bytes i) where
   pub hexed_more :
       i < length bytes
       → {high low : ℕ}
       → high ≡ hex_digit (get_or bytes i 0 / 16)
       → low ≡ hex_digit (get_or bytes i 0 % 16)
-      → Hexed before (set (set text at high) (at + 1) low) bytes (i + 1) (at + 2)
+      → Hexed before (set (set text (2 * i) high) (2 * i + 1) low) bytes (i + 1)
   unfolding hex_text
   hexed_more h {high} {low} is-high is-low =
-      let two : at + 2 ≡ suc (suc at) = omega arith in
+      let two : 2 * suc i ≡ suc (suc (2 * i)) = omega arith in
       record {
-        place = omega (arith, p.place);
         within = omega arith;
-        long = length-set (set text at high) (at + 1) low ∙ length-set text at high ∙ p.long;
-        same = p.same ∙ rw (drop-cons bytes i 0 h, ← is-high, ← is-low, add-one at, two, add-one i);
+        long = length-set (set text (2 * i) high) (2 * i + 1) low ∙ length-set text (2 * i) high ∙ p.long;
+        same = p.same ∙ rw (drop-cons bytes i 0 h, ← is-high, ← is-low, add-one (2 * i), add-one i, two);
       }
 
   pub hexed_all : length bytes ≤ i → text ≡ sets before 0 (hex_text bytes)
@@ -172,45 +168,44 @@ module _ (time : ℕ) (frame before : List ℕ) {digits : ℕ} (is : digits ≡ 
   timed_length : length (timed time) ≡ digits + 1
   timed_length = length-append (decimal_text time) (space ∷ []) ∙ rw (decimal_length time, is)
 
-  module _ {d : List ℕ} (writes : d ≡ last_digits (length (take (digits - 0) before)) time) where
+  module _ {d : List ℕ} (writes : d ≡ last_digits (length (take digits before)) time) where
     -- the time stands
-    time_stands : put_mid 0 (digits - 0) before d ≡ decimal_text time ++ drop digits before
+    time_stands : d ++ drop digits before ≡ decimal_text time ++ drop digits before
     unfolding decimal_text
     time_stands =
-        let e : digits - 0 ≡ digits = omega arith in
         let size : length (take digits before) ≡ digits = length-take-le digits before (omega arith) in
-        let whole : d ≡ last_digits (digit_count most_digits time) time = writes ∙ rw (e, size, is) in
-        rw (e, whole)
+        let whole : d ≡ last_digits (digit_count most_digits time) time = writes ∙ rw (size, is) in
+        rw whole
 
-    pub time_length : length (put_mid 0 (digits - 0) before d) ≡ length before
+    pub time_length : length ((d ++ drop digits before)) ≡ length before
     time_length = ap length time_stands ∙ over_length (decimal_text time) before digits (decimal_length time ∙ sym is) (omega arith)
 
     -- and the space
-    pub space_stands : set (put_mid 0 (digits - 0) before d) digits space ≡ timed time ++ drop (digits + 1) before
+    pub space_stands : set ((d ++ drop digits before)) digits space ≡ timed time ++ drop (digits + 1) before
     space_stands = rw time_stands (byte_next (decimal_text time) before digits space (decimal_length time ∙ sym is) (omega arith))
 
-    pub space_length : length (set (put_mid 0 (digits - 0) before d) digits space) ≡ length before
-    space_length = length-set (put_mid 0 (digits - 0) before d) digits space ∙ time_length
+    pub space_length : length (set ((d ++ drop digits before)) digits space) ≡ length before
+    space_length = length-set ((d ++ drop digits before)) digits space ∙ time_length
 
     -- the place for the hex digits
-    pub hex_room : length (take (digits + 1 + 2 * length frame - (digits + 1)) (drop (digits + 1) (set (put_mid 0 (digits - 0) before d) digits space))) ≡ 2 * length frame
+    pub hex_room : length (take (digits + 1 + 2 * length frame - (digits + 1)) (drop (digits + 1) (set ((d ++ drop digits before)) digits space))) ≡ 2 * length frame
     hex_room =
         let e : digits + 1 + 2 * length frame - (digits + 1) ≡ 2 * length frame = omega arith in
         rw e (length-take-le (2 * length frame) _ (rw (length-drop, space_length) (omega arith)))
 
     module _
         {h : List ℕ}
-        (hexes : h ≡ sets (take (digits + 1 + 2 * length frame - (digits + 1)) (drop (digits + 1) (set (put_mid 0 (digits - 0) before d) digits space))) 0 (hex_text frame)) where
+        (hexes : h ≡ sets (take (digits + 1 + 2 * length frame - (digits + 1)) (drop (digits + 1) (set ((d ++ drop digits before)) digits space))) 0 (hex_text frame)) where
       hex_is : h ≡ hex_text frame
       hex_is =
-          let part = take (digits + 1 + 2 * length frame - (digits + 1)) (drop (digits + 1) (set (put_mid 0 (digits - 0) before d) digits space)) in
+          let part = take (digits + 1 + 2 * length frame - (digits + 1)) (drop (digits + 1) (set ((d ++ drop digits before)) digits space)) in
           let fits : 0 + length (hex_text frame) ≤ length part = omega (arith, hex_room, hex_length frame) in
           let none : drop (0 + length (hex_text frame)) part ≡ [] = drop_of_length-le part {i = 0 + length (hex_text frame)} (omega (arith, hex_room, hex_length frame)) in
           hexes ∙ sets-eq (hex_text frame) part 0 fits ∙ rw none (append-nil (hex_text frame))
 
       -- the hex digits stand
       hex_stands :
-          put_mid (digits + 1) (digits + 1 + 2 * length frame - (digits + 1)) (set (put_mid 0 (digits - 0) before d) digits space) h
+          put_mid (digits + 1) (digits + 1 + 2 * length frame - (digits + 1)) (set ((d ++ drop digits before)) digits space) h
           ≡ (timed time ++ hex_text frame) ++ drop (digits + 1 + 2 * length frame) before
       hex_stands =
           let e : digits + 1 + 2 * length frame - (digits + 1) ≡ 2 * length frame = omega arith in
@@ -219,17 +214,17 @@ module _ (time : ℕ) (frame before : List ℕ) {digits : ℕ} (is : digits ≡ 
       hexed_length : length (timed time ++ hex_text frame) ≡ digits + 1 + 2 * length frame
       hexed_length = length-append (timed time) (hex_text frame) ∙ rw (timed_length, hex_length frame)
 
-      pub hex_whole : length (put_mid (digits + 1) (digits + 1 + 2 * length frame - (digits + 1)) (set (put_mid 0 (digits - 0) before d) digits space) h) ≡ length before
+      pub hex_whole : length (put_mid (digits + 1) (digits + 1 + 2 * length frame - (digits + 1)) (set ((d ++ drop digits before)) digits space) h) ≡ length before
       hex_whole = ap length hex_stands ∙ over_length (timed time ++ hex_text frame) before (digits + 1 + 2 * length frame) hexed_length (omega arith)
 
       pub line_whole :
-          length (set (put_mid (digits + 1) (digits + 1 + 2 * length frame - (digits + 1)) (set (put_mid 0 (digits - 0) before d) digits space) h) (digits + 1 + 2 * length frame) line_feed)
+          length (set (put_mid (digits + 1) (digits + 1 + 2 * length frame - (digits + 1)) (set ((d ++ drop digits before)) digits space) h) (digits + 1 + 2 * length frame) line_feed)
           ≡ length before
-      line_whole = length-set (put_mid (digits + 1) (digits + 1 + 2 * length frame - (digits + 1)) (set (put_mid 0 (digits - 0) before d) digits space) h) (digits + 1 + 2 * length frame) line_feed ∙ hex_whole
+      line_whole = length-set (put_mid (digits + 1) (digits + 1 + 2 * length frame - (digits + 1)) (set ((d ++ drop digits before)) digits space) h) (digits + 1 + 2 * length frame) line_feed ∙ hex_whole
 
       -- the line stands
       line_stands :
-          set (put_mid (digits + 1) (digits + 1 + 2 * length frame - (digits + 1)) (set (put_mid 0 (digits - 0) before d) digits space) h) (digits + 1 + 2 * length frame) line_feed
+          set (put_mid (digits + 1) (digits + 1 + 2 * length frame - (digits + 1)) (set ((d ++ drop digits before)) digits space) h) (digits + 1 + 2 * length frame) line_feed
           ≡ line_text time frame ++ drop (length (line_text time frame)) before
       unfolding line_text
       line_stands =
@@ -240,8 +235,8 @@ module _ (time : ℕ) (frame before : List ℕ) {digits : ℕ} (is : digits ≡ 
           (append_assoc (timed time) (hex_text frame) (line_feed ∷ []) ∙ append_assoc (decimal_text time) (space ∷ []) (hex_text frame ++ (line_feed ∷ []))))
 
       pub line_fits :
-          (record { bytes = digits + 1 + 2 * length frame + 1; refusal = 0 } ≡ line_written (fitted (line_text time frame) (length before)))
-          × (set (put_mid (digits + 1) (digits + 1 + 2 * length frame - (digits + 1)) (set (put_mid 0 (digits - 0) before d) digits space) h) (digits + 1 + 2 * length frame) line_feed
+          (Ok (digits + 1 + 2 * length frame + 1) ≡ written_count (fitted (line_text time frame) (length before)))
+          × (set (put_mid (digits + 1) (digits + 1 + 2 * length frame - (digits + 1)) (set ((d ++ drop digits before)) digits space) h) (digits + 1 + 2 * length frame) line_feed
           ≡ written_over (fitted (line_text time frame) (length before)) before)
       unfolding fitted
       line_fits =
@@ -253,7 +248,7 @@ pub line_full :
     (time : ℕ) (frame before : List ℕ) {digits : ℕ}
     → digits ≡ digit_count most_digits time
     → length before ≤ digits + 1 + 2 * length frame
-    → (record { bytes = 0; refusal = 18 } ≡ line_written (fitted (line_text time frame) (length before))) × (before ≡ written_over (fitted (line_text time frame) (length before)) before)
+    → (Err 18 ≡ written_count (fitted (line_text time frame) (length before))) × (before ≡ written_over (fitted (line_text time frame) (length before)) before)
 unfolding fitted
 line_full time frame before is few =
     let full : length before < length (line_text time frame) = omega (arith, line_length time frame) in

@@ -1,9 +1,7 @@
 -- The text of a capture's line (document 02, P13): a decimal time without leading zero, one space, the frame as pairs of hex digits
 -- in lower case, a line feed. Assumes nothing.
-use Rattle.std.specs.Prelude.{ℕ, zero, suc, ◌+◌, ◌/◌, ◌%◌, List, [], ◌∷◌, ◌++◌, cond, length, ltb}
-use Rattle.codec_frames.specs.Frames.{Written}
+use Rattle.std.specs.Prelude.{ℕ, zero, suc, ◌+◌, ◌/◌, ◌%◌, List, [], ◌∷◌, ◌++◌, cond, ltb}
 use Rattle.capture_lines.specs.Lines.{space, line_feed, zero_digit}
-use Rattle.capture_text.specs.declared.LineWritten.{LineWritten}
 
 -- how many decimal digits a number has, up to most of them
 unfoldable pub digit_count : ℕ → ℕ → ℕ
@@ -35,7 +33,3 @@ hex_text (b ∷ bytes) = hex_digit (b / 16) ∷ hex_digit (b % 16) ∷ hex_text 
 -- a line
 unfoldable pub line_text : ℕ → List ℕ → List ℕ
 line_text time frame = decimal_text time ++ ((space ∷ []) ++ (hex_text frame ++ (line_feed ∷ [])))
-
--- what a writer says of what it wrote
-abbrev pub line_written : Written → LineWritten
-line_written w = record { bytes = length w.bytes; refusal = w.refusal }

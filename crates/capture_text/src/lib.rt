@@ -1,26 +1,21 @@
 // A line of a capture, written (document 02, P13): the time in decimal digits, one space, the frame in hex digits of lower case, a
-// line feed. It leans on no other crate's code.
+// line feed. It leans on refusals.
 #![tactic(auto)]
 
 ghost use Rattle.std.specs.Prelude.{◌≡◌, ◌*◌, ◌<◌, ◌≤◌, length};
 ghost use Rattle.std.proofs.lemmas.List.Edits.{sets};
-ghost use Rattle.codec_frames.specs.Frames.{fitted, written_over};
-ghost use Rattle.capture_text.specs.Text.{most_digits, digit_count, last_digits, hex_digit, hex_text, line_text, line_written};
+ghost use Rattle.codec_frames.specs.Frames.{numbered, fitted, written_count, written_over};
+ghost use Rattle.capture_text.specs.Text.{most_digits, digit_count, last_digits, hex_digit, hex_text, line_text};
+
+use refusals::Refusal;
 
 // The byte between time and frame, and the byte that ends a line.
-const SPACE: u8 = 32;
+const SPACE: u8 = b' ';
 
-const LINE_FEED: u8 = 10;
+const LINE_FEED: u8 = b'\n';
 
 // The most digits that a time of the clock has.
 const MOST_DIGITS: usize = 15;
-
-// What was written: how many bytes, and the refusal's number, or 0.
-#[derive(Clone, Copy)]
-pub struct LineWritten {
-    pub bytes: usize,
-    pub refusal: u8,
-}
 
 // How many decimal digits a number has, up to 15.
 #[tactic(auto, using(crate::specs::Text::most_digits, crate::specs::Laws::counted_none, crate::specs::Laws::counted_last, crate::specs::Laws::counted_more, crate::specs::Laws::counted_all))]
@@ -28,15 +23,13 @@ fn digit_count(number: u64) -> usize
     ensures { (result ≡ digit_count most_digits number) × (result ≤ most_digits) }
 {
     let mut left = number;
-    let mut count: usize = 0;
-    while count < MOST_DIGITS {
-        count += 1;
+    for count in 0..MOST_DIGITS {
         if left < 10 {
-            return count;
+            return count + 1;
         }
-        left = left / 10;
+        left /= 10;
     }
-    count
+    MOST_DIGITS
 }
 
 // Fills a slice with the last decimal digits of a number.
@@ -45,11 +38,10 @@ fn write_digits(text: &mut [u8], number: u64)
     ensures { text.new ≡ last_digits (length text.old) number }
 {
     let mut left = number;
-    let mut place = text.len();
-    while 0 < place {
-        place -= 1;
-        text[place] = 48 + ((left % 10) as u8);
-        left = left / 10;
+    // By place, which is as plain as lent bytes in reverse: of those the proof would know what each becomes only at the loop's end.
+    for place in (0..text.len()).rev() {
+        text[place] = b'0' + (left % 10) as u8;
+        left /= 10;
     }
 }
 
@@ -59,10 +51,10 @@ fn hex_digit(number: u8) -> u8
     requires { number < 16 }
     ensures { result ≡ hex_digit number }
 {
-    if number < 10 {
-        return 48 + number;
+    match number {
+        0..=9 => b'0' + number,
+        _ => b'a' + (number - 10),
     }
-    87 + number
 }
 
 // Writes bytes as hex digits at the start of a slice.
@@ -71,44 +63,28 @@ fn write_hex(text: &mut [u8], bytes: &[u8])
     requires { 2 * length bytes.now ≤ length text.old }
     ensures { text.new ≡ sets text.old 0 (hex_text bytes.now) }
 {
-    let mut i: usize = 0;
-    let mut at: usize = 0;
-    while i < bytes.len() {
-        let byte = bytes[i];
-        text[at] = hex_digit(byte / 16);
-        text[at + 1] = hex_digit(byte % 16);
-        i += 1;
-        at += 2;
+    for (i, &byte) in bytes.iter().enumerate() {
+        text[2 * i] = hex_digit(byte / 16);
+        text[2 * i + 1] = hex_digit(byte % 16);
     }
 }
 
-// Writes the line of a time and a frame at the start of a slice; the bytes past it stay. Where there is no room, 18 and nothing.
+/// Writes the line of a time and a frame at the start of a slice, and says how many bytes it has; the bytes past it stay. Where there
+/// is no room it is refused with 18, and nothing is written.
 #[tactic(auto, using(crate::specs::Laws::line_full, crate::specs::Laws::time_length, crate::specs::Laws::space_length, crate::specs::Laws::hex_room, crate::specs::Laws::hex_whole, crate::specs::Laws::line_whole, crate::specs::Laws::line_fits))]
-pub fn write_line(text: &mut [u8], time: u64, frame: &[u8]) -> LineWritten
-    ensures value { result ≡ line_written (fitted (line_text time frame.now) (length text.old)) }
+pub fn write_line(text: &mut [u8], time: u64, frame: &[u8]) -> Result<usize, Refusal>
+    ensures value { numbered result ≡ written_count (fitted (line_text time frame.now) (length text.old)) }
     ensures text_after { text.new ≡ written_over (fitted (line_text time frame.now) (length text.old)) text.old }
 {
     let digits = digit_count(time);
     let begin = digits + 1;
-    if text.len() <= begin {
-        return LineWritten {
-            bytes: 0,
-            refusal: 18,
-        };
-    }
-    if (text.len() - begin - 1) / 2 < frame.len() {
-        return LineWritten {
-            bytes: 0,
-            refusal: 18,
-        };
+    if text.len() <= begin || (text.len() - begin - 1) / 2 < frame.len() {
+        return Err(Refusal::NoRoom);
     }
     let end = begin + 2 * frame.len();
-    write_digits(&mut text[0..digits], time);
+    write_digits(&mut text[..digits], time);
     text[digits] = SPACE;
     write_hex(&mut text[begin..end], frame);
     text[end] = LINE_FEED;
-    LineWritten {
-        bytes: end + 1,
-        refusal: 0,
-    }
+    Ok(end + 1)
 }

@@ -1,6 +1,6 @@
 -- What stands behind a frame is not looked at, and no frame has more than 255 bytes. Assumes nothing.
 use Rattle.std.specs.Prelude.{◌≡◌, ℕ, ◌+◌, ◌<◌, ◌≤◌, true, false, List, ◌++◌, length, take, drop, ◌==◌, nat_lt, slice_index, slice_index_or}
-use Rattle.std.proofs.Common.{sym, ap, ◌∙◌, arith, ne_eqb, le-ltb, length-append, length-drop, take-append-drop, get_or-take, length-take-le, lit≤}
+use Rattle.std.proofs.Common.{sym, ap, ◌∙◌, arith, ne_eqb, le-ltb, length-append, length-drop, take-append-drop, get_or-take, length-take-le}
 use borrow.Table.Steps.{cases}
 use Rattle.std.proofs.Math.ListN.{get_or-append}
 use Rattle.std.proofs.lemmas.List.{take-append-le, drop-append-le}

@@ -1,6 +1,6 @@
 -- Frames (document 02, P1): what a frame is, what a reader makes of bytes, and what a writer makes of a telegram word. Numbers of
 -- bytes are decimal here; the comments have them as document 02 does. Assumes nothing.
-use Rattle.std.specs.Prelude.{ℕ, ◌+◌, ◌*◌, ◌%◌, ◌^◌, Bool, true, false, cond, not, ◌&&◌, ◌||◌, List, [], ◌∷◌, ◌++◌, length, take, drop, ◌==◌, nat_le, nat_lt, slice_index}
+use Rattle.std.specs.Prelude.{ℕ, ◌+◌, ◌*◌, ◌%◌, ◌^◌, Bool, true, false, cond, not, ◌&&◌, ◌||◌, List, [], ◌∷◌, ◌++◌, length, take, drop, ◌==◌, nat_le, nat_lt, slice_index, Result, Ok, Err}
 use Rattle.codec_fields.specs.Fields.{field_of, bit_at}
 use Rattle.codec_telegrams.specs.declared.ResponseState.{ResponseState}
 use Rattle.codec_telegrams.specs.declared.Telegram.{Telegram}
@@ -8,8 +8,9 @@ use Rattle.codec_telegrams.specs.declared.Telegram.TheVariants.{Token, ShortConf
 use Rattle.codec_telegrams.specs.Words.{response_number, response_state_of, telegram_of, telegram_refusal, telegram_word}
 use Rattle.codec_frames.specs.declared.Start.{Start}
 use Rattle.codec_frames.specs.declared.Start.TheVariants.{Sd1, Sd2, Sd3, Sd4, Sc, Unknown}
-use Rattle.codec_frames.specs.declared.FrameRead.{FrameRead}
-use Rattle.codec_frames.specs.declared.FrameRead.TheVariants.{Accepted, Refused}
+use Rattle.refusals.specs.declared.refusal.Refusal.{Refusal}
+use Rattle.refusals.specs.Refusals.{number_of}
+use Rattle.codec_frames.specs.declared.Frame.{Frame}
 
 -- the bytes that begin a frame: SD1 (10h), SD2 (68h), SD3 (A2h), SD4 (DCh), SC (E5h); the end byte 16h; and the function code 49h
 abbrev pub sd1 : ℕ
@@ -67,7 +68,18 @@ is_other_request ShortConfirmation = false
 is_other_request (Request destination source asks) = not asks
 is_other_request (Response destination source state status) = false
 
+-- Answers: in definitions a refusal is its number
+
+-- a call's answer with its refusal as a number
+abbrev pub numbered : {A : Type 0} → Result A Refusal → Result A ℕ
+numbered (Ok x) = Ok x
+numbered (Err e) = Err (number_of e)
+
 -- What a reader makes of bytes
+
+-- a frame of this telegram, with so many bytes
+abbrev pub read_as : Telegram → ℕ → Result Frame ℕ
+read_as telegram used = Ok (record { telegram = telegram; used = used })
 
 -- how a first byte begins a frame
 unfoldable pub start_of : ℕ → Start
@@ -178,27 +190,27 @@ telegram_in Unknown f = ShortConfirmation
 -- 19 empty; 20 start byte; 19 for a cut SD2 header, then 21 if its repeated bytes differ or the length is outside 4 to 249;
 -- 19 cut short; 22 check byte; 23 end byte; 24 address extension bit; 34 top bit of the function code. Else the telegram, and
 -- how many bytes were used
-unfoldable pub frame_on : Start → List ℕ → FrameRead
+unfoldable pub frame_on : Start → List ℕ → Result Frame ℕ
 frame_on start f =
-    cond (length f == 0) (Refused 19)
-    (cond (is_unknown start) (Refused 20)
-    (cond (is_sd2 start && nat_lt (length f) 4) (Refused 19)
-    (cond (is_sd2 start && not (head_holds f)) (Refused 21)
-    (cond (nat_lt (length f) (frame_length start f)) (Refused 19)
-    (cond (is_checked start && not (slice_index f (check_place start f) == check_of (body start f))) (Refused 22)
-    (cond (is_checked start && not (slice_index f (check_place start f + 1) == end_byte)) (Refused 23)
-    (cond (is_addressed start && extended (destination_in start f) (source_in start f)) (Refused 24)
-    (cond (is_checked start && bit_at (code_in start f) 7) (Refused 34)
-    (Accepted (telegram_in start f) (frame_length start f))))))))))
+    cond (length f == 0) (Err 19)
+    (cond (is_unknown start) (Err 20)
+    (cond (is_sd2 start && nat_lt (length f) 4) (Err 19)
+    (cond (is_sd2 start && not (head_holds f)) (Err 21)
+    (cond (nat_lt (length f) (frame_length start f)) (Err 19)
+    (cond (is_checked start && not (slice_index f (check_place start f) == check_of (body start f))) (Err 22)
+    (cond (is_checked start && not (slice_index f (check_place start f + 1) == end_byte)) (Err 23)
+    (cond (is_addressed start && extended (destination_in start f) (source_in start f)) (Err 24)
+    (cond (is_checked start && bit_at (code_in start f) 7) (Err 34)
+    (read_as (telegram_in start f) (frame_length start f))))))))))
 
 -- what a reader makes of bytes
-unfoldable pub frame_of : List ℕ → FrameRead
+unfoldable pub frame_of : List ℕ → Result Frame ℕ
 frame_of f = frame_on (start_of (slice_index f 0)) f
 
 -- the call's result: word × 65536 + bytes used × 256; refused: the number alone
-unfoldable pub read_number : FrameRead → ℕ
-read_number (Accepted telegram used) = telegram_word telegram * 65536 + used * 256
-read_number (Refused refusal) = refusal
+unfoldable pub read_number : Result Frame ℕ → ℕ
+read_number (Ok frame) = telegram_word frame.telegram * 65536 + frame.used * 256
+read_number (Err refusal) = refusal
 
 -- What a writer makes of a telegram word
 
@@ -221,7 +233,11 @@ write_of word room =
     cond (not (telegram_refusal word == 0)) (not_written 14)
     (cond (is_other_request (telegram_of word)) (not_written 34) (fitted (frame_bytes (telegram_of word)) room))
 
--- the call's result: bytes written × 256 + number
+-- the call's answer: how many bytes are written, or the refusal's number
+abbrev pub written_count : Written → Result ℕ ℕ
+written_count w = cond (w.refusal == 0) (Ok (length w.bytes)) (Err w.refusal)
+
+-- and as one number: bytes written × 256 + number
 abbrev pub write_number : Written → ℕ
 write_number w = length w.bytes * 256 + w.refusal
 

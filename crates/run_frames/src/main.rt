@@ -2,30 +2,16 @@
 // frame costs is counted on it. The input has for each frame a byte with its length and its bytes. It leans on codec_frames.
 #![tactic(auto)]
 
-ghost use Rattle.std.specs.Prelude.{◌≤◌};
-
 use std::io;
 use std::io::{Cursor, Read};
 
-// A frame's length, cut where the input ends.
-fn cut(length: u8, rest: usize) -> usize
-    ensures { result ≤ rest }
-{
-    if (length as usize) < rest {
-        return length as usize;
-    }
-    rest
-}
-
-// The result of the last frame, 0 without one.
-fn read_all(s: &[u8]) -> u64 {
-    let mut last: u64 = 0;
-    let mut at: usize = 0;
-    while at < s.len() {
-        let from = at + 1;
-        let end = from + cut(s[at], s.len() - from);
-        last = codec_frames::read_number(codec_frames::read_frame(&s[from..end]));
-        at = end;
+// The result of the last frame, 0 without one. A frame is cut where the input ends.
+fn read_all(mut input: &[u8]) -> u64 {
+    let mut last = 0;
+    while let Some((&length, rest)) = input.split_first() {
+        let (frame, rest) = rest.split_at(usize::from(length).min(rest.len()));
+        last = codec_frames::read_number(codec_frames::read_frame(frame));
+        input = rest;
     }
     last
 }

@@ -1,22 +1,43 @@
-use Rattle.capture_export.specs.Laws.{lined_all, lined_full}
+use Rattle.std.proofs.Common.{◌≡◌, ◌<◌, refl, ap}
+use Rattle.refusals.proofs.Numbers.{refused}
+use Rattle.codec_records.specs.declared.Head.{Head}
+use Rattle.codec_records.specs.Records.{head_of, telegram_word_at}
+use Rattle.capture_export.specs.Export.{word_line}
+use Rattle.capture_export.specs.Laws.{line_counted, line_refused, lined_all, lined_full, lined_more}
 use Rattle.capture_export.proofs.write_lines.Goals as goal
 
 -- the next line has no room
-pub returns-then-refusal-ne0-clause-value : goal.returns-then-refusal-ne0-clause-value
-returns-then-refusal-ne0-clause-value c =
-    let inv = c.loop-index.invariant in
-    let more = rw inv.1 at c.loop-index-test.true in
-    (lined_full inv.2 more inv.0 c.load-word.ensures c.write_word-line.ensures.value c.write_word-line.ensures.text_after c.if-refusal-ne0.true).0
+pub returns-in-Err-clause-value : goal.returns-in-Err-clause-value
+returns-in-Err-clause-value c =
+    let s = c.args.bytes.now in
+    let more : c.loop-index.index < (head_of s).telegrams = rw c.read-head.ensures at c.loop-index-test.true in
+    let timed : c.read-head.result.clock ≡ (head_of s).clock = ap (λ (h : Head). h.clock) c.read-head.ensures in
+    let worded : c.load-word.result ≡ telegram_word_at s 1 c.loop-index.index = rw c.telegram_place.ensures at c.load-word.ensures in
+    let is = line_refused (word_line c.read-head.result.clock c.load-word.result) _ c.in-Err.ensures.value in
+    (lined_full c.loop-index.invariant more timed worded is c.in-Err.ensures.text_after (refused c.in-Err.refusal)).0
 
-pub returns-then-refusal-ne0-clause-text_after : goal.returns-then-refusal-ne0-clause-text_after
-returns-then-refusal-ne0-clause-text_after c =
-    let inv = c.loop-index.invariant in
-    let more = rw inv.1 at c.loop-index-test.true in
-    (lined_full inv.2 more inv.0 c.load-word.ensures c.write_word-line.ensures.value c.write_word-line.ensures.text_after c.if-refusal-ne0.true).1
+pub returns-in-Err-clause-text_after : goal.returns-in-Err-clause-text_after
+returns-in-Err-clause-text_after c =
+    let s = c.args.bytes.now in
+    let more : c.loop-index.index < (head_of s).telegrams = rw c.read-head.ensures at c.loop-index-test.true in
+    let timed : c.read-head.result.clock ≡ (head_of s).clock = ap (λ (h : Head). h.clock) c.read-head.ensures in
+    let worded : c.load-word.result ≡ telegram_word_at s 1 c.loop-index.index = rw c.telegram_place.ensures at c.load-word.ensures in
+    let is = line_refused (word_line c.read-head.result.clock c.load-word.result) _ c.in-Err.ensures.value in
+    (lined_full c.loop-index.invariant more timed worded is c.in-Err.ensures.text_after (refused c.in-Err.refusal)).1
+
+-- one line more
+pub loop-index-preserved : goal.loop-index-preserved
+loop-index-preserved c =
+    let s = c.args.bytes.now in
+    let more : c.loop-index.index < (head_of s).telegrams = rw c.read-head.ensures at c.loop-index-test.true in
+    let timed : c.read-head.result.clock ≡ (head_of s).clock = ap (λ (h : Head). h.clock) c.read-head.ensures in
+    let worded : c.load-word.result ≡ telegram_word_at s 1 c.loop-index.index = rw c.telegram_place.ensures at c.load-word.ensures in
+    let is = line_counted (word_line c.read-head.result.clock c.load-word.result) _ c.in-Ok.ensures.value in
+    lined_more c.loop-index.invariant more timed worded is c.in-Ok.ensures.text_after refl
 
 -- no telegram is left
 pub returns-clause-value : goal.returns-clause-value
-returns-clause-value c = (lined_all c.loop-index.invariant.2 (rw c.loop-index.invariant.1 at c.loop-index-test.false)).0
+returns-clause-value c = (lined_all c.loop-index.invariant (rw c.read-head.ensures at c.loop-index-test.false)).0
 
 pub returns-clause-text_after : goal.returns-clause-text_after
-returns-clause-text_after c = (lined_all c.loop-index.invariant.2 (rw c.loop-index.invariant.1 at c.loop-index-test.false)).1
+returns-clause-text_after c = (lined_all c.loop-index.invariant (rw c.read-head.ensures at c.loop-index-test.false)).1

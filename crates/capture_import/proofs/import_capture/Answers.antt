@@ -1,27 +1,29 @@
-use Rattle.std.proofs.Common.{arith}
+use Rattle.std.proofs.Common.{ap, arith}
+use Rattle.refusals.proofs.Numbers.{refused}
+use Rattle.codec_frames.specs.Frames.{numbered}
 use Rattle.capture_import.proofs.Laws.{goes_fit, goes_done, goes_refused, goes_next}
 use Rattle.capture_import.proofs.import_capture.Goals as goal
 
-pub take_line-taken-requires : goal.take_line-taken-requires
-take_line-taken-requires c = goes_fit c.loop-at.invariant
+pub take_line-requires : goal.take_line-requires
+take_line-requires c = goes_fit c.loop-at.invariant
 
 -- the next line is refused
-pub returns-then-refusal-ne0-clause-value : goal.returns-then-refusal-ne0-clause-value
-returns-then-refusal-ne0-clause-value c =
-    (goes_refused c.loop-at.invariant c.loop-at-test.true c.take_line-taken.ensures.value c.take_line-taken.ensures.entries_after c.if-refusal-ne0.true).0
+pub returns-in-Err-clause-value : goal.returns-in-Err-clause-value
+returns-in-Err-clause-value c =
+    (goes_refused c.loop-at.invariant c.loop-at-test.true c.take_line.ensures.value c.take_line.ensures.entries_after (ap numbered c.in-Err.is) (refused c.in-Err.refusal)).0
 
-pub returns-then-refusal-ne0-clause-entries_after : goal.returns-then-refusal-ne0-clause-entries_after
-returns-then-refusal-ne0-clause-entries_after c =
-    (goes_refused c.loop-at.invariant c.loop-at-test.true c.take_line-taken.ensures.value c.take_line-taken.ensures.entries_after c.if-refusal-ne0.true).1
+pub returns-in-Err-clause-entries_after : goal.returns-in-Err-clause-entries_after
+returns-in-Err-clause-entries_after c =
+    (goes_refused c.loop-at.invariant c.loop-at-test.true c.take_line.ensures.value c.take_line.ensures.entries_after (ap numbered c.in-Err.is) (refused c.in-Err.refusal)).1
 
 -- it is taken: its bytes are some, and within the text
 pub overflow_add-at : goal.overflow_add-at
 overflow_add-at c =
-    omega (arith, (goes_next c.loop-at.invariant c.loop-at-test.true c.take_line-taken.ensures.value c.take_line-taken.ensures.entries_after c.if-refusal-ne0.false).2)
+    omega (arith, (goes_next c.loop-at.invariant c.loop-at-test.true c.take_line.ensures.value c.take_line.ensures.entries_after (ap numbered c.in-Ok.is)).2)
 
 pub loop-at-smaller : goal.loop-at-smaller
 loop-at-smaller c =
-    let next = goes_next c.loop-at.invariant c.loop-at-test.true c.take_line-taken.ensures.value c.take_line-taken.ensures.entries_after c.if-refusal-ne0.false in
+    let next = goes_next c.loop-at.invariant c.loop-at-test.true c.take_line.ensures.value c.take_line.ensures.entries_after (ap numbered c.in-Ok.is) in
     omega (arith, next.1, next.2)
 
 -- no line is left

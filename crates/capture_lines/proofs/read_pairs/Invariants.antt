@@ -1,9 +1,8 @@
-use Rattle.std.proofs.Common.{◌-◌, length}
+use Rattle.std.specs.Slice.Iter.{chunks_exact_rest, chunks_exact_size}
+use Rattle.std.proofs.Common.{◌≡◌}
 use Rattle.capture_lines.specs.Laws.{Paired}
 use Rattle.capture_lines.proofs.read_pairs.Given as goal
 
-abbrev pub invariant-loop-at : goal.invariant-loop-at
-invariant-loop-at l = Paired l.text l.initial.frame l.frame l.count l.at
-
-abbrev pub decreases-loop-at : goal.decreases-loop-at
-decreases-loop-at l = length l.text - l.at
+abbrev pub invariant-loop-pair : goal.invariant-loop-pair
+invariant-loop-pair l =
+    (chunks_exact_size l.pair-iterator ≡ 2) × Paired l.text l.initial.frame l.frame (chunks_exact_rest l.pair-iterator) l.count

@@ -1,10 +1,5 @@
-use Rattle.std.proofs.Common.{◌-◌}
-use Rattle.capture_text.specs.Text.{most_digits}
 use Rattle.capture_text.specs.Laws.{Counted}
 use Rattle.capture_text.proofs.digit_count.Given as goal
 
 abbrev pub invariant-loop-count : goal.invariant-loop-count
 invariant-loop-count l = Counted l.number l.left l.count
-
-abbrev pub decreases-loop-count : goal.decreases-loop-count
-decreases-loop-count l = most_digits - l.count
