@@ -1,23 +1,22 @@
 -- The station's parts: one part changed, document 01's numbers of the states, and a fresh station.
-use Rattle.std.specs.Prelude.{ℕ, Bool, true, false}
-use Rattle.bit_times.specs.declared.Micros.{Micros}
-use Rattle.settings.specs.declared.Parameters.{Parameters}
+use Rattle.std.specs.Prelude.{ℕ, Bool, true, false, Option, None}
+use Rattle.bit_times.specs.declared.micros.Micros.{Micros}
+use Rattle.settings.specs.declared.parameters.Parameters.{Parameters}
 use Rattle.settings_rules.specs.Rules.{applications_refusal}
 use Rattle.ring.specs.declared.GapState.{GapState}
 use Rattle.ring.specs.declared.GapState.TheVariants.{Waiting}
 use Rattle.ring.specs.Ring.{fresh_of}
-use Rattle.station.specs.declared.Activity.{Activity}
-use Rattle.station.specs.declared.Activity.TheVariants as activity
-use Rattle.station.specs.declared.ConnectivityState.{ConnectivityState}
-use Rattle.station.specs.declared.ConnectivityState.TheVariants as connectivity
-use Rattle.station.specs.declared.State.{State}
-use Rattle.station.specs.declared.State.TheVariants.{Offline, ListenToken, ActiveIdle, UseToken, ClaimToken, AwaitDataResponse, PassToken, CheckTokenPass, AwaitStatusResponse, PassiveIdle}
-use Rattle.station.specs.declared.Core.{Core}
-use Rattle.station.specs.declared.Counts.{Counts}
-use Rattle.station.specs.Whole.{Station, Started}
+use Rattle.station.specs.declared.state.ConnectivityState.{ConnectivityState}
+use Rattle.station.specs.declared.state.ConnectivityState.TheVariants as connectivity
+use Rattle.station.specs.declared.state.State.{State}
+use Rattle.station.specs.declared.state.State.TheVariants.{Offline, ListenToken, ActiveIdle, UseToken, ClaimToken, AwaitDataResponse, PassToken, CheckTokenPass, AwaitStatusResponse, PassiveIdle}
+use Rattle.station.specs.declared.parts.Core.{Core}
+use Rattle.station.specs.declared.parts.Counts.{Counts}
+use Rattle.station.specs.declared.station.Station.{Station}
+use Rattle.station.specs.Whole.{Started}
 
 -- the same core but for one part; with_token_times: but for two
-unfoldable pub with_activity : Core → Activity → Core
+unfoldable pub with_activity : Core → Option Micros → Core
 with_activity c x = record { last_token_time = c.last_token_time; end_token_hold_time = c.end_token_hold_time; last_bus_activity = x; gap_state = c.gap_state; pending_bytes = c.pending_bytes; next_application = c.next_application; connectivity_state = c.connectivity_state }
 
 unfoldable pub with_gap : Core → GapState → Core
@@ -60,7 +59,7 @@ zero_time = record { 0 = 0 }
 
 -- FdlActiveStation::new, as document 01 has it: a fresh station has activity unknown, pending 0, token time 0, hold end 0, gap waiting 0, application 0
 unfoldable pub fresh_core : Core
-fresh_core = record { last_token_time = zero_time; end_token_hold_time = zero_time; last_bus_activity = activity.Unknown; gap_state = Waiting 0; pending_bytes = 0; next_application = 0; connectivity_state = connectivity.Offline }
+fresh_core = record { last_token_time = zero_time; end_token_hold_time = zero_time; last_bus_activity = None; gap_state = Waiting 0; pending_bytes = 0; next_application = 0; connectivity_state = connectivity.Offline }
 
 -- document 02: nothing counted yet
 abbrev pub no_counts : Counts

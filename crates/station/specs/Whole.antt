@@ -1,32 +1,38 @@
--- The station with its ring whole. The code's structs hold the head of the ring and the ring's tables are lent beside them; the
--- records here have the same names and hold the ring. A contract joins the two: `station_at station links` is the code's station
--- with these tables put in. Each join is all that its record holds.
-use Rattle.std.specs.Prelude.{ℕ, List}
-use Rattle.settings.specs.declared.Parameters.{Parameters}
-use Rattle.ring.specs.Ring.{Ring, ring_of}
+-- The station, and what a step of the definitions is. A step speaks of the station's parts: it takes the settings, which never
+-- change, the core, the ring where it needs it, the clock and what its state holds, and gives the new ones in a record. The code
+-- makes the step on the station itself: `after` is the station that a step leaves, beside what the code hands back.
+use Rattle.std.specs.Prelude.{ℕ, Bool}
+use Rattle.ring.specs.Ring.{Ring}
 use Rattle.codec_answers.specs.declared.Outcome.{Outcome}
-use Rattle.station.specs.declared.State.{State}
-use Rattle.station.specs.declared.Core.{Core}
-use Rattle.station.specs.declared.Counts.{Counts}
-use Rattle.station.specs.declared.Step.{Step}
-use Rattle.station.specs.declared.Station.{Station as StationHead}
-use Rattle.station.specs.declared.Started.{Started as StartedHead}
-use Rattle.station.specs.declared.RingStep.{RingStep as RingStepHead}
-use Rattle.station.specs.declared.Heard.{Heard as HeardHead}
-
--- FdlActiveStation, and the number of applications, which is fixed for life
-pub record Station : Type 0 where
-  pub state : State
-  pub core : Core
-  pub token_ring : Ring
-  pub p : Parameters
-  pub counts : Counts
-  pub applications : ℕ
+use Rattle.codec_answers.specs.declared.Sent.{Sent}
+use Rattle.codec_answers.specs.declared.Notice.{Notice}
+use Rattle.station.specs.declared.state.State.{State}
+use Rattle.station.specs.declared.parts.Core.{Core}
+use Rattle.station.specs.declared.done.Event.{Event}
+use Rattle.station.specs.declared.done.Done.{Done}
+use Rattle.station.specs.declared.done.Hearing.{Hearing}
+use Rattle.station.specs.declared.station.Station.{Station}
 
 -- a new station, and the refusal's number: 0 where there is none
 pub record Started : Type 0 where
   pub station : Station
   pub refusal : ℕ
+
+-- what asking for a time of quiet came to: the core, whose last activity is now where none was known, and whether the time has
+-- passed since the last activity
+pub record Waited : Type 0 where
+  pub core : Core
+  pub over : Bool
+
+-- what a step came to: the new state, the core, what it sent and told, how the poll ended, and what is counted of it
+pub record Step : Type 0 where
+  pub state : State
+  pub core : Core
+  pub sent : Sent
+  pub notice : Notice
+  pub outcome : Outcome
+  pub consumed : ℕ
+  pub event : Event
 
 -- a step that may change the ring too
 pub record RingStep : Type 0 where
@@ -41,15 +47,16 @@ pub record Heard : Type 0 where
   pub outcome : Outcome
   pub met : ℕ
 
--- a station of the code with the tables that are lent beside it; below, the same of what else has a ring
-abbrev pub station_at : StationHead → List ℕ → Station
-station_at s links = record { state = s.state; core = s.core; token_ring = ring_of s.token_ring links; p = s.p; counts = s.counts; applications = s.applications }
+-- the same station but for the core
+abbrev pub with_core : Station → Core → Station
+with_core s c = record s { core = c }
 
-abbrev pub started_at : StartedHead → List ℕ → Started
-started_at s links = record { station = station_at s.station links; refusal = s.refusal }
+-- the station that a step leaves, and what the step came to besides. The settings, the counts and the number of applications stay
+abbrev pub after : Station → RingStep → Station × Done
+after s r =
+    (record s { state = r.step.state; core = r.step.core; token_ring = r.ring }, record { sent = r.step.sent; notice = r.step.notice; outcome = r.step.outcome; consumed = r.step.consumed; event = r.step.event })
 
-abbrev pub ring_step_at : RingStepHead → List ℕ → RingStep
-ring_step_at s links = record { step = s.step; ring = ring_of s.ring links }
-
-abbrev pub heard_at : HeardHead → List ℕ → Heard
-heard_at h links = record { state = h.state; core = h.core; ring = ring_of h.ring links; outcome = h.outcome; met = h.met }
+-- the station that a telegram leaves, and what it led to besides; the same for all telegrams of a poll
+abbrev pub after_hearing : Station → Heard → Station × Hearing
+after_hearing s h =
+    (record s { state = h.state; core = h.core; token_ring = h.ring }, record { outcome = h.outcome; met = h.met })

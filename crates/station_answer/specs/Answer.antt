@@ -1,23 +1,28 @@
 -- What a call hands back (document 01, "Answer, 64 bits"): the station and the answer.
-use Rattle.std.specs.Prelude.{ℕ, List}
-use Rattle.settings.specs.declared.Parameters.{Parameters}
+use Rattle.std.specs.Prelude.{ℕ}
+use Rattle.settings.specs.declared.parameters.Parameters.{Parameters}
 use Rattle.ring.specs.Ring.{next_of, next_number}
 use Rattle.codec_answers.specs.declared.Answer.{Answer}
 use Rattle.codec_answers.specs.Answers.{refused_answer}
-use Rattle.station.specs.Whole.{Station, RingStep, station_at}
-use Rattle.station.specs.declared.Counts.{Counts}
+use Rattle.station.specs.declared.station.Station.{Station}
+use Rattle.station.specs.Whole.{RingStep}
+use Rattle.station.specs.declared.parts.Counts.{Counts}
+use Rattle.station.specs.declared.done.Done.{Done}
 use Rattle.station.specs.Parts.{state_number}
 use Rattle.station_answer.specs.Counted.{counted_of}
-use Rattle.station_answer.specs.declared.Polled.{Polled as PolledHead}
 
--- what a call hands back, with the ring whole, as the records of `Whole` have it
+-- what a call hands back: the station that it leaves, and its answer
 pub record Polled : Type 0 where
   pub station : Station
   pub answer : Answer
 
--- what a call of the code hands back, with the tables that are lent beside its station
-abbrev pub polled_at : PolledHead → List ℕ → Polled
-polled_at r links = record { station = station_at r.station links; answer = r.answer }
+abbrev pub polled_at : Station → Answer → Polled
+polled_at s a = record { station = s; answer = a }
+
+-- the step that left this station and came to this besides, whose `after` they are
+abbrev pub stepped : Station → Done → RingStep
+stepped s d =
+    record { step = record { state = s.state; core = s.core; sent = d.sent; notice = d.notice; outcome = d.outcome; consumed = d.consumed; event = d.event }; ring = s.token_ring }
 
 -- document 01: the answer of an entry that is not refused, with the state, next application and next station after it (document 02: nobody's number when we are alone)
 unfoldable pub step_answer : RingStep → Answer

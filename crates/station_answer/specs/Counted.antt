@@ -1,8 +1,8 @@
 -- The counts of a station (document 02): three of 32 bits, each of which stops at its largest value.
 use Rattle.std.specs.Prelude.{ℕ, ◌+◌, ◌-◌, ◌^◌, min}
-use Rattle.station.specs.declared.Counts.{Counts}
-use Rattle.station.specs.declared.Event.{Event}
-use Rattle.station.specs.declared.Event.TheVariants.{Nothing, Claim, Removal, Meetings}
+use Rattle.station.specs.declared.parts.Counts.{Counts}
+use Rattle.station.specs.declared.done.Event.{Event}
+use Rattle.station.specs.declared.done.Event.TheVariants.{Nothing, Claim, Removal, Meetings}
 
 -- the largest value of a count
 abbrev pub largest_count : ℕ

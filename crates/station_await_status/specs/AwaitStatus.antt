@@ -1,7 +1,7 @@
 -- do_await_status_response. `bytes` is the poll record, n the number of applications, count that of telegrams.
 use Rattle.std.specs.Prelude.{ℕ, false, cond, List, ltb, eqb}
-use Rattle.bit_times.specs.declared.Micros.{Micros}
-use Rattle.settings.specs.declared.Parameters.{Parameters}
+use Rattle.bit_times.specs.declared.micros.Micros.{Micros}
+use Rattle.settings.specs.declared.parameters.Parameters.{Parameters}
 use Rattle.ring.specs.Ring.{Ring, add_of}
 use Rattle.codec_telegrams.specs.declared.ResponseState.{ResponseState}
 use Rattle.codec_telegrams.specs.declared.ResponseState.TheVariants.{Slave, MasterNotReady, MasterWithoutToken, MasterInRing}
@@ -11,10 +11,10 @@ use Rattle.codec_records.specs.Records.{telegram_at}
 use Rattle.codec_answers.specs.declared.Outcome.TheVariants as outcome
 use Rattle.codec_answers.specs.declared.Sent.TheVariants as sent
 use Rattle.codec_answers.specs.declared.Notice.TheVariants as notice
-use Rattle.station.specs.declared.PassTokenAttempt.TheVariants.{First}
-use Rattle.station.specs.declared.State.TheVariants.{PassToken, AwaitStatusResponse}
-use Rattle.station.specs.declared.Core.{Core}
-use Rattle.station.specs.declared.Event.TheVariants as event
+use Rattle.station.specs.declared.state.PassTokenAttempt.TheVariants.{First}
+use Rattle.station.specs.declared.state.State.TheVariants.{PassToken, AwaitStatusResponse}
+use Rattle.station.specs.declared.parts.Core.{Core}
+use Rattle.station.specs.declared.done.Event.TheVariants as event
 use Rattle.station.specs.Whole.{RingStep}
 use Rattle.station.specs.Steps.{to_active_idle, rx_of, slot_expired_of, done_of, ring_step_of}
 use Rattle.station_pass.specs.Pass.{pass_token_of}

@@ -1,157 +1,88 @@
-// AwaitStatusResponse: a gap question is answered, or its slot passes. From profirust's active.rs: do_await_status_response. It
-// leans on station_pass, since the token is passed on where nobody answers, on station and ring, and on codec_records for
-// what was received.
+//! AwaitStatusResponse: a gap question is answered, or its slot passes. From profirust's active.rs: do_await_status_response. It
+//! leans on station_pass, since the token is passed on where nobody answers, on station and ring, and on codec_records for
+//! what was received.
 #![tactic(auto)]
 
-ghost use Rattle.std.specs.Prelude.{◌≡◌, ℕ, ◌<◌, ◌^◌, List};
-ghost use Rattle.ring.specs.Ring.{ring_of};
-ghost use Rattle.station.specs.Whole.{ring_step_at};
-ghost use Rattle.station_await_status.specs.AwaitStatus.{status_ring, status_answered, status_unexpected, status_received, await_status_of};
+ghost use Rattle.std.specs.Prelude.{◌≡◌};
+ghost use Rattle.station.specs.Whole.{after};
+ghost use Rattle.station_await_status.specs.AwaitStatus.{status_ring, status_received, await_status_of};
 
-use bit_times::Micros;
-use codec_answers::{Notice, Outcome, Sent};
+use bit_times::Instant;
+use codec_answers::Outcome;
+use codec_records::Record;
 use codec_telegrams::{ResponseState, Telegram};
-use ring::Head;
-use settings::Parameters;
-use station::{Core, Event, PassTokenAttempt, RingStep, State, Step};
+use ring::TokenRing;
+use station::{Done, PassTokenAttempt, State, Station};
 
 // do_await_status_response: a master that is ready for the token, or has it at times, is the next station from now on.
 #[tactic(auto, unfolding(crate::specs::AwaitStatus::status_ring, crate::specs::AwaitStatus::status_ring_on))]
 fn do_await_status_response_ring(
-    ring: Head,
-    links: &mut [u8; 252],
+    ring: &mut TokenRing,
     address: u8,
     state: ResponseState,
     status: u8,
 )
-    ensures { ring_of ring links.new ≡ status_ring (ring_of ring links.old) address state status }
+    ensures { ring.new ≡ status_ring ring.old address state status }
 {
-    if status != 0 {
-        return;
-    }
-    match state {
-        ResponseState::Slave => {}
-        ResponseState::MasterNotReady => {}
-        ResponseState::MasterWithoutToken => ring::set_next_station(ring, links, address),
-        ResponseState::MasterInRing => ring::set_next_station(ring, links, address),
-    }
-}
-
-// do_await_status_response: the station that was asked has answered: to PassToken, and the pass is the next poll's.
-#[tactic(auto, unfolding(crate::specs::AwaitStatus::status_answered))]
-fn do_await_status_response_answered(core: Core, ring: Head) -> RingStep
-    ensures { (l : List ℕ) → ring_step_at result l ≡ status_answered core (ring_of ring l) }
-{
-    RingStep {
-        step: Step {
-            state: State::PassToken {
-                do_gap: false,
-                attempt: PassTokenAttempt::First,
-            },
-            core,
-            sent: Sent::Nothing,
-            notice: Notice::NoNotice,
-            outcome: Outcome::Delay,
-            consumed: 1,
-            event: Event::Nothing,
-        },
-        ring,
+    if status == 0
+        && matches!(
+            state,
+            ResponseState::MasterWithoutToken | ResponseState::MasterInRing
+        )
+    {
+        ring.set_next_station(address);
     }
 }
 
-// do_await_status_response: anything else is unexpected.
-#[tactic(auto, unfolding(crate::specs::AwaitStatus::status_unexpected))]
-fn do_await_status_response_unexpected(core: Core, ring: Head) -> RingStep
-    ensures { (l : List ℕ) → ring_step_at result l ≡ status_unexpected core (ring_of ring l) }
+// do_await_status_response: a telegram came. Where the station that was asked has answered us, the state is PassToken, and the pass
+// is the next poll's; anything else is unexpected.
+#[tactic(auto, unfolding(crate::specs::AwaitStatus::status_received, crate::specs::AwaitStatus::status_answered, crate::specs::AwaitStatus::status_unexpected))]
+fn do_await_status_response_received(station: &mut Station, address: u8, telegram: Telegram) -> Done
+    ensures { (station.new, result) ≡ after station.old (status_received station.old.p station.old.core station.old.token_ring address telegram) }
 {
-    RingStep {
-        step: Step {
-            state: station::transition_active_idle(),
-            core,
-            sent: Sent::Nothing,
-            notice: Notice::NoNotice,
-            outcome: Outcome::Bus,
-            consumed: 1,
-            event: Event::Nothing,
-        },
-        ring,
-    }
-}
-
-// do_await_status_response: a telegram came.
-#[tactic(auto, unfolding(crate::specs::AwaitStatus::status_received))]
-fn do_await_status_response_received(
-    p: Parameters,
-    core: Core,
-    ring: Head,
-    links: &mut [u8; 252],
-    address: u8,
-    telegram: Telegram,
-) -> RingStep
-    ensures { ring_step_at result links.new ≡ status_received p core (ring_of ring links.old) address telegram }
-{
-    let own = p.address;
-    match telegram {
-        Telegram::Token { .. } => do_await_status_response_unexpected(core, ring),
-        Telegram::ShortConfirmation => do_await_status_response_unexpected(core, ring),
-        Telegram::Request { .. } => do_await_status_response_unexpected(core, ring),
+    let outcome = match telegram {
         Telegram::Response {
             destination,
             source,
             state,
             status,
-        } => {
-            if source == address {
-                if destination == own {
-                    do_await_status_response_ring(ring, links, address, state, status);
-                    do_await_status_response_answered(core, ring)
-                } else {
-                    do_await_status_response_unexpected(core, ring)
-                }
-            } else {
-                do_await_status_response_unexpected(core, ring)
-            }
+        } if source == address && destination == station.p.address => {
+            do_await_status_response_ring(&mut station.token_ring, address, state, status);
+            station.state = State::PassToken {
+                do_gap: false,
+                attempt: PassTokenAttempt::First,
+            };
+            Outcome::Delay
         }
+        _ => {
+            station.state = State::active_idle();
+            Outcome::Bus
+        }
+    };
+    Done {
+        consumed: 1,
+        ..Done::new(outcome)
     }
 }
 
-// do_await_status_response: only the first telegram is looked at. With no answer in time the bus is free, and the token is passed on
-// at once.
-#[tactic(auto, unfolding(crate::specs::AwaitStatus::await_status_of))]
+/// do_await_status_response: only the first telegram is looked at. With no answer in time the bus is free, and the token is passed
+/// on at once.
+#[tactic(auto, unfolding(crate::specs::AwaitStatus::await_status_of, station::specs::Steps::done_of))]
 pub fn do_await_status_response(
-    p: Parameters,
-    core: Core,
-    ring: Head,
-    links: &mut [u8; 252],
-    now: Micros,
+    station: &mut Station,
+    now: Instant,
     address: u8,
-    bytes: &[u8],
-    applications: u8,
-    telegrams: u8,
-) -> RingStep
-    requires { now.0 < 2 ^ 48 }
-    ensures { ring_step_at result links.new ≡ await_status_of p core (ring_of ring links.old) now address bytes.now applications telegrams }
+    poll: Record<'_>,
+) -> Done
+    ensures { (station.new, result) ≡ after station.old (await_status_of station.old.p station.old.core station.old.token_ring now address poll.entry.bytes.now poll.entry.applications poll.entry.telegrams) }
 {
-    if 0 < telegrams {
-        let telegram = codec_records::telegram(bytes, applications, 0);
-        let marked = station::mark_rx(core, now);
-        return do_await_status_response_received(p, marked, ring, links, address, telegram);
+    if poll.telegrams > 0 {
+        station.core.mark_rx(now.micros());
+        return do_await_status_response_received(station, address, poll.telegram(0));
     }
-    let slot = station::check_slot_expired(p, core, now);
-    let waited = slot.core;
-    if slot.over {
-        return station_pass::do_pass_token(
-            p,
-            waited,
-            ring,
-            links,
-            now,
-            false,
-            PassTokenAttempt::First,
-        );
+    if station.check_slot_expired(now.micros()) {
+        return station_pass::do_pass_token(station, now, false, PassTokenAttempt::First);
     }
-    RingStep {
-        step: station::done(State::AwaitStatusResponse { address }, waited, Outcome::Bus),
-        ring,
-    }
+    station.state = State::AwaitStatusResponse { address };
+    Done::new(Outcome::Bus)
 }

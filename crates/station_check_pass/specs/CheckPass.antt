@@ -1,26 +1,24 @@
 -- do_check_token_pass. `bytes` is the poll record, n the number of applications, count that of telegrams.
-use Rattle.std.specs.Prelude.{ℕ, false, cond, List, ltb}
-use Rattle.bit_times.specs.declared.Micros.{Micros}
-use Rattle.settings.specs.declared.Parameters.{Parameters}
-use Rattle.ring.specs.declared.NextStation.{NextStation}
-use Rattle.ring.specs.declared.NextStation.TheVariants.{Nobody, Neighbour}
+use Rattle.std.specs.Prelude.{ℕ, false, cond, List, Option, Some, None, ltb}
+use Rattle.bit_times.specs.declared.micros.Micros.{Micros}
+use Rattle.settings.specs.declared.parameters.Parameters.{Parameters}
 use Rattle.ring.specs.Ring.{Ring, next_of, remove_of}
 use Rattle.codec_answers.specs.declared.Outcome.TheVariants as outcome
-use Rattle.station.specs.declared.PassTokenAttempt.{PassTokenAttempt}
-use Rattle.station.specs.declared.PassTokenAttempt.TheVariants.{First, Second, Third}
-use Rattle.station.specs.declared.State.TheVariants.{CheckTokenPass}
-use Rattle.station.specs.declared.Core.{Core}
-use Rattle.station.specs.declared.Event.{Event}
-use Rattle.station.specs.declared.Event.TheVariants as event
+use Rattle.station.specs.declared.state.PassTokenAttempt.{PassTokenAttempt}
+use Rattle.station.specs.declared.state.PassTokenAttempt.TheVariants.{First, Second, Third}
+use Rattle.station.specs.declared.state.State.TheVariants.{CheckTokenPass}
+use Rattle.station.specs.declared.parts.Core.{Core}
+use Rattle.station.specs.declared.done.Event.{Event}
+use Rattle.station.specs.declared.done.Event.TheVariants as event
 use Rattle.station.specs.Whole.{RingStep}
 use Rattle.station.specs.Steps.{to_active_idle, slot_expired_of, done_of, with_event, ring_step_of}
 use Rattle.station_listen.specs.Listen.{received_all, consumed_all}
 use Rattle.station_pass.specs.Pass.{destination_of, pass_token_of}
 
 -- document 02: what is counted where the next station is taken out after a third attempt
-unfoldable pub removal_of : NextStation → Event
-removal_of Nobody = event.Nothing
-removal_of (Neighbour a) = event.Removal
+unfoldable pub removal_of : Option ℕ → Event
+removal_of None = event.Nothing
+removal_of (Some a) = event.Removal
 
 -- do_check_token_pass: sent again up to the third attempt, then the station that it went to is taken out and the one behind it gets its
 -- first attempt (`removed_alone` of station_pass: alone nobody is taken out); the removal is counted (document 02)

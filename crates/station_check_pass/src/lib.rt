@@ -1,150 +1,71 @@
-// CheckTokenPass: a passed token is heard of, or its slot passes and it is sent again, to the next station three times. From
-// profirust's active.rs: do_check_token_pass. It leans on station_pass, on station_listen for what is heard, and on station
-// and ring.
+//! CheckTokenPass: a passed token is heard of, or its slot passes and it is sent again, to the next station three times. From
+//! profirust's active.rs: do_check_token_pass. It leans on station_pass, on station_listen for what is heard, and on station
+//! and ring.
 #![tactic(auto)]
 
-ghost use Rattle.std.specs.Prelude.{◌≡◌, ◌<◌, ◌^◌};
-ghost use Rattle.ring.specs.Ring.{ring_of};
-ghost use Rattle.station.specs.Whole.{ring_step_at};
-ghost use Rattle.station_check_pass.specs.CheckPass.{removal_of, resend_of, check_received, check_token_pass_of};
+ghost use Rattle.std.specs.Prelude.{◌≡◌};
+ghost use Rattle.station.specs.Whole.{after};
+ghost use Rattle.station_check_pass.specs.CheckPass.{removal_of, resend_of, check_token_pass_of};
 
-use bit_times::Micros;
+use bit_times::Instant;
 use codec_answers::Outcome;
-use ring::{Head, NextStation};
-use settings::Parameters;
-use station::{Core, Event, PassTokenAttempt, RingStep, State};
+use codec_records::Record;
+use station::{Done, Event, PassTokenAttempt, State, Station};
+use station_pass::{do_pass_token, token_destination};
 
 // What is counted where the next station is taken out of the ring: a removal, and nothing where there is nobody.
 #[tactic(auto, unfolding(crate::specs::CheckPass::removal_of))]
-fn removal(next: NextStation) -> Event
+fn removal(next: Option<u8>) -> Event
     ensures { result ≡ removal_of next }
 {
     match next {
-        NextStation::Nobody => Event::Nothing,
-        NextStation::Neighbour(..) => Event::Removal,
+        None => Event::Nothing,
+        Some(_) => Event::Removal,
     }
 }
 
 // do_check_token_pass: the token was not taken up. It is sent again at once; after the third attempt the station that it
 // went to is taken out of the ring, and the one behind it is tried. Own is never taken out.
-#[tactic(auto, unfolding(crate::specs::CheckPass::resend_of))]
+#[tactic(auto, unfolding(crate::specs::CheckPass::resend_of, station::specs::Steps::with_event))]
 fn do_check_token_pass_resend(
-    p: Parameters,
-    core: Core,
-    ring: Head,
-    links: &mut [u8; 252],
-    now: Micros,
+    station: &mut Station,
+    now: Instant,
     attempt: PassTokenAttempt,
-) -> RingStep
-    requires { now.0 < 2 ^ 48 }
-    ensures { ring_step_at result links.new ≡ resend_of p core (ring_of ring links.old) now attempt }
+) -> Done
+    ensures { (station.new, result) ≡ after station.old (resend_of station.old.p station.old.core station.old.token_ring now attempt) }
 {
     match attempt {
-        PassTokenAttempt::First => station_pass::do_pass_token(
-            p,
-            core,
-            ring,
-            links,
-            now,
-            false,
-            PassTokenAttempt::Second,
-        ),
-        PassTokenAttempt::Second => station_pass::do_pass_token(
-            p,
-            core,
-            ring,
-            links,
-            now,
-            false,
-            PassTokenAttempt::Third,
-        ),
+        PassTokenAttempt::First => do_pass_token(station, now, false, PassTokenAttempt::Second),
+        PassTokenAttempt::Second => do_pass_token(station, now, false, PassTokenAttempt::Third),
         PassTokenAttempt::Third => {
-            let next = ring::next_station(ring, links);
-            let gone = station_pass::token_destination(p.address, next);
-            ring::remove_station(ring, links, gone);
-            station::with_event(
-                station_pass::do_pass_token(
-                    p,
-                    core,
-                    ring,
-                    links,
-                    now,
-                    false,
-                    PassTokenAttempt::First,
-                ),
-                removal(next),
-            )
+            let next = station.token_ring.next_station();
+            let gone = token_destination(station.p.address, next);
+            station.token_ring.remove_station(gone);
+            Done {
+                event: removal(next),
+                ..do_pass_token(station, now, false, PassTokenAttempt::First)
+            }
         }
     }
 }
 
-// do_check_token_pass: any telegram ends the check, whoever sent it. They are handled as in ActiveIdle.
-#[tactic(auto, unfolding(crate::specs::CheckPass::check_received))]
-fn do_check_token_pass_received(
-    p: Parameters,
-    core: Core,
-    ring: Head,
-    links: &mut [u8; 252],
-    now: Micros,
-    attempt: PassTokenAttempt,
-    bytes: &[u8],
-    applications: u8,
-    telegrams: u8,
-) -> RingStep
-    ensures { ring_step_at result links.new ≡ check_received p core (ring_of ring links.old) now attempt bytes.now applications telegrams }
-{
-    if 0 < telegrams {
-        let idle = station::transition_active_idle();
-        let all = station_listen::receive_all_telegrams(
-            p,
-            idle,
-            core,
-            ring,
-            links,
-            now,
-            false,
-            bytes,
-            applications,
-            telegrams,
-        );
-        return station_listen::consumed_all(all, telegrams);
-    }
-    RingStep {
-        step: station::done(State::CheckTokenPass { attempt }, core, Outcome::Bus),
-        ring,
-    }
-}
-
-// do_check_token_pass: the slot is asked first.
-#[tactic(auto, unfolding(crate::specs::CheckPass::check_token_pass_of))]
+/// do_check_token_pass: the slot is asked first. Any telegram ends the check, whoever sent it; they are handled as in ActiveIdle.
+#[tactic(auto, unfolding(crate::specs::CheckPass::check_token_pass_of, crate::specs::CheckPass::check_received, station::specs::Steps::done_of))]
 pub fn do_check_token_pass(
-    p: Parameters,
-    core: Core,
-    ring: Head,
-    links: &mut [u8; 252],
-    now: Micros,
+    station: &mut Station,
+    now: Instant,
     attempt: PassTokenAttempt,
-    bytes: &[u8],
-    applications: u8,
-    telegrams: u8,
-) -> RingStep
-    requires { now.0 < 2 ^ 48 }
-    ensures { ring_step_at result links.new ≡ check_token_pass_of p core (ring_of ring links.old) now attempt bytes.now applications telegrams }
+    poll: Record<'_>,
+) -> Done
+    ensures { (station.new, result) ≡ after station.old (check_token_pass_of station.old.p station.old.core station.old.token_ring now attempt poll.entry.bytes.now poll.entry.applications poll.entry.telegrams) }
 {
-    let slot = station::check_slot_expired(p, core, now);
-    let waited = slot.core;
-    if slot.over {
-        return do_check_token_pass_resend(p, waited, ring, links, now, attempt);
+    if station.check_slot_expired(now.micros()) {
+        return do_check_token_pass_resend(station, now, attempt);
     }
-    do_check_token_pass_received(
-        p,
-        waited,
-        ring,
-        links,
-        now,
-        attempt,
-        bytes,
-        applications,
-        telegrams,
-    )
+    if poll.telegrams > 0 {
+        station.state = State::active_idle();
+        return station_listen::received(station, now.micros(), false, poll);
+    }
+    station.state = State::CheckTokenPass { attempt };
+    Done::new(Outcome::Bus)
 }

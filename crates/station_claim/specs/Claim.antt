@@ -1,13 +1,13 @@
 -- do_claim_token, which handle_lost_token needs too.
 use Rattle.std.specs.Prelude.{Bool, false, cond}
-use Rattle.bit_times.specs.declared.Micros.{Micros}
-use Rattle.settings.specs.declared.Parameters.{Parameters}
+use Rattle.bit_times.specs.declared.micros.Micros.{Micros}
+use Rattle.settings.specs.declared.parameters.Parameters.{Parameters}
 use Rattle.ring.specs.Ring.{Ring, claim_of}
 use Rattle.codec_answers.specs.declared.Outcome.TheVariants as outcome
 use Rattle.codec_answers.specs.declared.Sent.TheVariants as sent
-use Rattle.station.specs.declared.State.{State}
-use Rattle.station.specs.declared.State.TheVariants.{ClaimToken}
-use Rattle.station.specs.declared.Core.{Core}
+use Rattle.station.specs.declared.state.State.{State}
+use Rattle.station.specs.declared.state.State.TheVariants.{ClaimToken}
+use Rattle.station.specs.declared.parts.Core.{Core}
 use Rattle.station.specs.Whole.{RingStep}
 use Rattle.station.specs.Steps.{to_use_token, pause_of, done_of, transmit_of, ring_step_of}
 

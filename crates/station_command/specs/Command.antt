@@ -1,10 +1,10 @@
 -- The commands.
 use Rattle.ring.specs.Ring.{fresh_of}
 use Rattle.codec_answers.specs.declared.Outcome.TheVariants as outcome
-use Rattle.station.specs.declared.ConnectivityState.{ConnectivityState}
-use Rattle.station.specs.declared.ConnectivityState.TheVariants as connectivity
-use Rattle.station.specs.declared.State.TheVariants.{Offline}
-use Rattle.station.specs.Whole.{Station}
+use Rattle.station.specs.declared.state.ConnectivityState.{ConnectivityState}
+use Rattle.station.specs.declared.state.ConnectivityState.TheVariants as connectivity
+use Rattle.station.specs.declared.state.State.TheVariants.{Offline}
+use Rattle.station.specs.declared.station.Station.{Station}
 use Rattle.station.specs.Parts.{with_connectivity, fresh_core}
 use Rattle.station.specs.Steps.{done_of, ring_step_of}
 use Rattle.station_answer.specs.Answer.{Polled, polled_of}

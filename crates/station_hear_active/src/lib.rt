@@ -1,253 +1,155 @@
-// One telegram heard in ActiveIdle, and while a passed token is checked: handle_telegram of profirust's active.rs. It leans
-// on station and ring.
+//! One telegram heard in ActiveIdle, and while a passed token is checked: handle_telegram of profirust's active.rs. It leans
+//! on station and ring.
 #![tactic(auto)]
 
-ghost use Rattle.std.specs.Prelude.{◌≡◌, ℕ, List};
-ghost use Rattle.ring.specs.Ring.{ring_of};
-ghost use Rattle.station.specs.Whole.{heard_at};
-ghost use Rattle.station_hear_active.specs.HearActive.{active_collided, remembers, accepted_of, token_to_us, token_witnessed, token_heard, active_requested, active_heard, handle_telegram};
+ghost use Rattle.std.specs.Prelude.{◌≡◌};
+ghost use Rattle.station.specs.Whole.{after_hearing};
+ghost use Rattle.station_hear_active.specs.HearActive.{active_collided, token_to_us, token_witnessed, token_heard, handle_telegram};
 
 use bit_times::Micros;
 use codec_answers::Outcome;
 use codec_telegrams::Telegram;
-use ring::Head;
-use settings::Parameters;
-use station::{Core, Heard, OptionAddress, State};
+use station::{Hearing, State, Station};
 
 // handle_telegram: a token with our own source. The first is counted, the second back to back leads to ListenToken. Each is a
 // meeting of our own address.
-#[tactic(auto, unfolding(crate::specs::HearActive::active_collided))]
+#[tactic(auto, unfolding(crate::specs::HearActive::active_collided, station::specs::Steps::collision_of))]
 fn handle_telegram_collision(
-    core: Core,
-    ring: Head,
-    status_request: OptionAddress,
-    new_previous_station: OptionAddress,
+    station: &mut Station,
+    status_request: Option<u8>,
+    new_previous_station: Option<u8>,
     collision_count: u8,
-) -> Heard
-    ensures { (l : List ℕ) → heard_at result l ≡ active_collided core (ring_of ring l) status_request new_previous_station collision_count }
+) -> Hearing
+    ensures { (station.new, result) ≡ after_hearing station.old (active_collided station.old.core station.old.token_ring status_request new_previous_station collision_count) }
 {
-    if collision_count == 0 {
-        return station::colliding(
-            State::ActiveIdle {
-                status_request,
-                new_previous_station,
-                collision_count: 1,
-            },
-            core,
-            ring,
-        );
-    }
-    station::colliding(station::transition_listen_token(), core, ring)
-}
-
-// Is this the remembered address?
-#[tactic(auto, unfolding(crate::specs::HearActive::remembers))]
-fn is_remembered(remembered: OptionAddress, address: u8) -> bool
-    ensures { result ≡ remembers remembered address }
-{
-    match remembered {
-        OptionAddress::None => false,
-        OptionAddress::Some(a) => a == address,
-    }
-}
-
-// handle_telegram: the token is ours to use.
-#[tactic(auto, unfolding(crate::specs::HearActive::accepted_of))]
-fn handle_telegram_accept(core: Core, ring: Head, now: Micros) -> Heard
-    ensures { (l : List ℕ) → heard_at result l ≡ accepted_of core (ring_of ring l) now }
-{
-    station::hearing(
-        station::transition_use_token(now),
-        core,
-        ring,
-        Outcome::Delay,
-    )
+    station.state = if collision_count == 0 {
+        State::ActiveIdle {
+            status_request,
+            new_previous_station,
+            collision_count: 1,
+        }
+    } else {
+        State::listen_token()
+    };
+    Hearing::collision()
 }
 
 // handle_telegram: a token to us, last of its poll and not by us: from the previous station or from the remembered one
 // it is accepted, from any other its sender is remembered.
-#[tactic(auto, unfolding(crate::specs::HearActive::token_to_us))]
+#[tactic(auto, unfolding(crate::specs::HearActive::token_to_us, crate::specs::HearActive::accepted_of, crate::specs::HearActive::remembers, station::specs::Steps::heard_of))]
 fn handle_telegram_to_us(
-    core: Core,
-    ring: Head,
-    links: &mut [u8; 252],
+    station: &mut Station,
     now: Micros,
-    status_request: OptionAddress,
-    new_previous_station: OptionAddress,
+    status_request: Option<u8>,
+    new_previous_station: Option<u8>,
     destination: u8,
     source: u8,
-) -> Heard
-    ensures { heard_at result links.new ≡ token_to_us core (ring_of ring links.old) now status_request new_previous_station destination source }
+) -> Hearing
+    ensures { (station.new, result) ≡ after_hearing station.old (token_to_us station.old.core station.old.token_ring now status_request new_previous_station destination source) }
 {
-    if source == ring::previous_station(ring, links) {
-        return handle_telegram_accept(core, ring, now);
+    if source != station.token_ring.previous_station() {
+        if new_previous_station != Some(source) {
+            station.state = State::ActiveIdle {
+                status_request,
+                new_previous_station: Some(source),
+                collision_count: 0,
+            };
+            return Hearing::new(Outcome::Bus);
+        }
+        station.token_ring.witness_token_pass(source, destination);
     }
-    if is_remembered(new_previous_station, source) {
-        return handle_telegram_accept(
-            core,
-            ring::witness_token_pass(ring, links, source, destination),
-            now,
-        );
-    }
-    station::hearing(
-        State::ActiveIdle {
-            status_request,
-            new_previous_station: OptionAddress::Some(source),
-            collision_count: 0,
-        },
-        core,
-        ring,
-        Outcome::Bus,
-    )
+    station.state = State::use_token(now);
+    Hearing::new(Outcome::Delay)
 }
 
 // handle_telegram: another station's token is witnessed; collisions are counted only back to back.
-#[tactic(auto, unfolding(crate::specs::HearActive::token_witnessed))]
+#[tactic(auto, unfolding(crate::specs::HearActive::token_witnessed, station::specs::Steps::heard_of))]
 fn handle_telegram_witness(
-    core: Core,
-    ring: Head,
-    links: &mut [u8; 252],
-    status_request: OptionAddress,
-    new_previous_station: OptionAddress,
+    station: &mut Station,
+    status_request: Option<u8>,
+    new_previous_station: Option<u8>,
     destination: u8,
     source: u8,
-) -> Heard
-    ensures { heard_at result links.new ≡ token_witnessed core (ring_of ring links.old) status_request new_previous_station destination source }
+) -> Hearing
+    ensures { (station.new, result) ≡ after_hearing station.old (token_witnessed station.old.core station.old.token_ring status_request new_previous_station destination source) }
 {
-    station::hearing(
-        State::ActiveIdle {
-            status_request,
-            new_previous_station,
-            collision_count: 0,
-        },
-        core,
-        ring::witness_token_pass(ring, links, source, destination),
-        Outcome::Bus,
-    )
+    station.token_ring.witness_token_pass(source, destination);
+    station.state = State::ActiveIdle {
+        status_request,
+        new_previous_station,
+        collision_count: 0,
+    };
+    Hearing::new(Outcome::Bus)
 }
 
 // handle_telegram: a token telegram.
 #[tactic(auto, unfolding(crate::specs::HearActive::token_heard))]
 fn handle_telegram_token(
-    p: Parameters,
-    core: Core,
-    ring: Head,
-    links: &mut [u8; 252],
+    station: &mut Station,
     now: Micros,
-    status_request: OptionAddress,
-    new_previous_station: OptionAddress,
+    status_request: Option<u8>,
+    new_previous_station: Option<u8>,
     collision_count: u8,
     destination: u8,
     source: u8,
     last: bool,
-) -> Heard
-    ensures { heard_at result links.new ≡ token_heard p core (ring_of ring links.old) now status_request new_previous_station collision_count destination source last }
+) -> Hearing
+    ensures { (station.new, result) ≡ after_hearing station.old (token_heard station.old.p station.old.core station.old.token_ring now status_request new_previous_station collision_count destination source last) }
 {
-    if source == p.address {
-        return handle_telegram_collision(
-            core,
-            ring,
+    let own = station.p.address;
+    if source == own {
+        handle_telegram_collision(
+            station,
             status_request,
             new_previous_station,
             collision_count,
-        );
-    }
-    if destination != p.address {
-        return handle_telegram_witness(
-            core,
-            ring,
-            links,
-            status_request,
-            new_previous_station,
-            destination,
-            source,
-        );
-    }
-    if last {
-        return handle_telegram_to_us(
-            core,
-            ring,
-            links,
+        )
+    } else if destination == own && last {
+        handle_telegram_to_us(
+            station,
             now,
             status_request,
             new_previous_station,
             destination,
             source,
-        );
-    }
-    handle_telegram_witness(
-        core,
-        ring,
-        links,
-        status_request,
-        new_previous_station,
-        destination,
-        source,
-    )
-}
-
-// handle_telegram: a status request to us that is last of its poll is noted.
-#[tactic(auto, unfolding(crate::specs::HearActive::active_requested))]
-fn handle_telegram_request(
-    core: Core,
-    ring: Head,
-    status_request: OptionAddress,
-    new_previous_station: OptionAddress,
-    collision_count: u8,
-    source: u8,
-    noted: bool,
-) -> Heard
-    ensures { (l : List ℕ) → heard_at result l ≡ active_requested core (ring_of ring l) status_request new_previous_station collision_count source noted }
-{
-    if noted {
-        return station::hearing(
-            State::ActiveIdle {
-                status_request: OptionAddress::Some(source),
-                new_previous_station,
-                collision_count,
-            },
-            core,
-            ring,
-            Outcome::Delay,
-        );
-    }
-    station::hearing(
-        State::ActiveIdle {
+        )
+    } else {
+        handle_telegram_witness(
+            station,
             status_request,
             new_previous_station,
-            collision_count,
-        },
-        core,
-        ring,
-        Outcome::Bus,
-    )
+            destination,
+            source,
+        )
+    }
 }
 
-// handle_telegram: one telegram, while in ActiveIdle.
-#[tactic(auto, unfolding(crate::specs::HearActive::active_heard))]
-fn handle_telegram_active(
-    p: Parameters,
-    core: Core,
-    ring: Head,
-    links: &mut [u8; 252],
+/// handle_telegram: one telegram, while in ActiveIdle. A status request to us that is last of its poll is noted. Once a collision
+/// has led to ListenToken, the rest of the poll only marks activity.
+#[tactic(auto, unfolding(crate::specs::HearActive::handle_telegram, crate::specs::HearActive::active_heard, crate::specs::HearActive::active_requested, station::specs::Steps::heard_of))]
+pub fn handle_telegram(
+    station: &mut Station,
     now: Micros,
-    status_request: OptionAddress,
-    new_previous_station: OptionAddress,
-    collision_count: u8,
     telegram: Telegram,
     last: bool,
-) -> Heard
-    ensures { heard_at result links.new ≡ active_heard p core (ring_of ring links.old) now status_request new_previous_station collision_count telegram last }
+) -> Hearing
+    ensures { (station.new, result) ≡ after_hearing station.old (handle_telegram station.old.p station.old.state station.old.core station.old.token_ring now telegram last) }
 {
+    let own = station.p.address;
+    let State::ActiveIdle {
+        status_request,
+        new_previous_station,
+        collision_count,
+    } = station.state
+    else {
+        return Hearing::new(Outcome::Bus);
+    };
     match telegram {
         Telegram::Token {
             destination,
             source,
         } => handle_telegram_token(
-            p,
-            core,
-            ring,
-            links,
+            station,
             now,
             status_request,
             new_previous_station,
@@ -255,82 +157,19 @@ fn handle_telegram_active(
             destination,
             source,
             last,
-        ),
-        Telegram::ShortConfirmation => station::hearing(
-            State::ActiveIdle {
-                status_request,
-                new_previous_station,
-                collision_count,
-            },
-            core,
-            ring,
-            Outcome::Bus,
         ),
         Telegram::Request {
             destination,
             source,
             status_request: asks,
-        } => handle_telegram_request(
-            core,
-            ring,
-            status_request,
-            new_previous_station,
-            collision_count,
-            source,
-            station::is_last_request_to_us(destination, p.address, asks, last),
-        ),
-        Telegram::Response { .. } => station::hearing(
-            State::ActiveIdle {
-                status_request,
+        } if station::is_last_request_to_us(destination, own, asks, last) => {
+            station.state = State::ActiveIdle {
+                status_request: Some(source),
                 new_previous_station,
                 collision_count,
-            },
-            core,
-            ring,
-            Outcome::Bus,
-        ),
-    }
-}
-
-// handle_telegram: one telegram. Once a collision has led to ListenToken, the rest of the poll only marks activity.
-#[tactic(auto, unfolding(crate::specs::HearActive::handle_telegram))]
-pub fn handle_telegram(
-    p: Parameters,
-    state: State,
-    core: Core,
-    ring: Head,
-    links: &mut [u8; 252],
-    now: Micros,
-    telegram: Telegram,
-    last: bool,
-) -> Heard
-    ensures { heard_at result links.new ≡ handle_telegram p state core (ring_of ring links.old) now telegram last }
-{
-    match state {
-        State::ActiveIdle {
-            status_request,
-            new_previous_station,
-            collision_count,
-        } => handle_telegram_active(
-            p,
-            core,
-            ring,
-            links,
-            now,
-            status_request,
-            new_previous_station,
-            collision_count,
-            telegram,
-            last,
-        ),
-        State::Offline => station::hearing(state, core, ring, Outcome::Bus),
-        State::ListenToken { .. } => station::hearing(state, core, ring, Outcome::Bus),
-        State::UseToken { .. } => station::hearing(state, core, ring, Outcome::Bus),
-        State::ClaimToken { .. } => station::hearing(state, core, ring, Outcome::Bus),
-        State::AwaitDataResponse { .. } => station::hearing(state, core, ring, Outcome::Bus),
-        State::PassToken { .. } => station::hearing(state, core, ring, Outcome::Bus),
-        State::CheckTokenPass { .. } => station::hearing(state, core, ring, Outcome::Bus),
-        State::AwaitStatusResponse { .. } => station::hearing(state, core, ring, Outcome::Bus),
-        State::PassiveIdle { .. } => station::hearing(state, core, ring, Outcome::Bus),
+            };
+            Hearing::new(Outcome::Delay)
+        }
+        _ => Hearing::new(Outcome::Bus),
     }
 }

@@ -1,24 +1,22 @@
 -- One telegram heard in ListenToken: the closure of do_listen_token; and one heard in PassiveIdle, which is document 02's. request
 -- (status_request) and collisions are the fields of the state, last whether the telegram is the last of its poll.
-use Rattle.std.specs.Prelude.{ℕ, Bool, false, cond, eqb}
-use Rattle.settings.specs.declared.Parameters.{Parameters}
+use Rattle.std.specs.Prelude.{ℕ, Bool, false, cond, eqb, Option, Some}
+use Rattle.settings.specs.declared.parameters.Parameters.{Parameters}
 use Rattle.ring.specs.Ring.{Ring, fresh_of, witness_of}
 use Rattle.codec_telegrams.specs.declared.Telegram.{Telegram}
 use Rattle.codec_telegrams.specs.declared.Telegram.TheVariants as telegram
 use Rattle.codec_answers.specs.declared.Outcome.{Outcome}
 use Rattle.codec_answers.specs.declared.Outcome.TheVariants as outcome
-use Rattle.station.specs.declared.OptionAddress.{OptionAddress}
-use Rattle.station.specs.declared.OptionAddress.TheVariants as optionAddress
-use Rattle.station.specs.declared.State.{State}
-use Rattle.station.specs.declared.State.TheVariants.{Offline, ListenToken, ActiveIdle, UseToken, ClaimToken, AwaitDataResponse, PassToken, CheckTokenPass, AwaitStatusResponse, PassiveIdle}
-use Rattle.station.specs.declared.Core.{Core}
+use Rattle.station.specs.declared.state.State.{State}
+use Rattle.station.specs.declared.state.State.TheVariants.{Offline, ListenToken, ActiveIdle, UseToken, ClaimToken, AwaitDataResponse, PassToken, CheckTokenPass, AwaitStatusResponse, PassiveIdle}
+use Rattle.station.specs.declared.parts.Core.{Core}
 use Rattle.station.specs.Parts.{fresh_core}
 use Rattle.station.specs.Whole.{Heard}
 use Rattle.station.specs.Steps.{heard_of, collision_of, last_request_to_us}
 
 -- do_listen_token: a telegram with our own source: the first is counted, the second makes a fresh station, offline (document 02: fresh
 -- but for the counts). A request is none here: a noted one blocks consuming
-unfoldable pub collided : Parameters → Core → Ring → OptionAddress → ℕ → Heard
+unfoldable pub collided : Parameters → Core → Ring → Option ℕ → ℕ → Heard
 collided p c ring request collisions =
     cond (eqb collisions 0) (collision_of (ListenToken request 1) c ring) (collision_of Offline fresh_core (fresh_of p.address))
 
@@ -31,11 +29,11 @@ sent_by_us own (telegram.Response destination source state status) = eqb source 
 
 -- What a telegram of another station does in ListenToken, and, by document 02's words ("witnesses tokens as ListenToken does"), in
 -- PassiveIdle. do_listen_token: a status request to us that is last of its poll is noted
-unfoldable pub noted_of : ℕ → OptionAddress → Telegram → Bool → OptionAddress
+unfoldable pub noted_of : ℕ → Option ℕ → Telegram → Bool → Option ℕ
 noted_of own request (telegram.Token destination source) last = request
 noted_of own request telegram.ShortConfirmation last = request
 noted_of own request (telegram.Request destination source asks) last =
-    cond (last_request_to_us destination own asks last) (optionAddress.Some source) request
+    cond (last_request_to_us destination own asks last) (Some source) request
 noted_of own request (telegram.Response destination source state status) last = request
 
 -- do_listen_token: a token is witnessed
@@ -53,13 +51,13 @@ overheard_of own (telegram.Request destination source asks) last = cond (last_re
 overheard_of own (telegram.Response destination source state status) last = outcome.Bus
 
 -- do_listen_token: one telegram, in ListenToken: our own address as source is a collision
-unfoldable pub listen_heard : Parameters → Core → Ring → OptionAddress → ℕ → Telegram → Bool → Heard
+unfoldable pub listen_heard : Parameters → Core → Ring → Option ℕ → ℕ → Telegram → Bool → Heard
 listen_heard p c ring request collisions t last =
     cond (sent_by_us p.address t) (collided p c ring request collisions)
     (heard_of (ListenToken (noted_of p.address request t last) collisions) c (witnessed_of ring t) (overheard_of p.address t last))
 
 -- document 02, P10: one telegram, in PassiveIdle: our own address as source changes nothing
-unfoldable pub passive_heard : Parameters → Core → Ring → OptionAddress → Telegram → Bool → Heard
+unfoldable pub passive_heard : Parameters → Core → Ring → Option ℕ → Telegram → Bool → Heard
 passive_heard p c ring request t last =
     cond (sent_by_us p.address t) (heard_of (PassiveIdle request) c ring outcome.Bus)
     (heard_of (PassiveIdle (noted_of p.address request t last)) c (witnessed_of ring t) (overheard_of p.address t last))

@@ -1,9 +1,9 @@
 -- The token in hand, in the order of active.rs. `bytes` is the poll record, n the number of applications, count that of telegrams.
 -- held (data), cycled (first_cycle_done) and address are the fields of the state, taken out by the dispatch.
-use Rattle.std.specs.Prelude.{ℕ, zero, suc, ◌+◌, ◌-◌, Bool, true, false, cond, List, ltb, leb, eqb}
-use Rattle.bit_times.specs.declared.Micros.{Micros}
+use Rattle.std.specs.Prelude.{ℕ, zero, suc, ◌+◌, ◌-◌, Bool, true, false, cond, List, ltb, leb, eqb, Option, Some, None}
+use Rattle.bit_times.specs.declared.micros.Micros.{Micros}
 use Rattle.bit_times.specs.Times.{time_of}
-use Rattle.settings.specs.declared.Parameters.{Parameters}
+use Rattle.settings.specs.declared.parameters.Parameters.{Parameters}
 use Rattle.settings_rules.specs.Rules.{gap_allowance}
 use Rattle.settings.specs.Settings.{rotation_time_of}
 use Rattle.ring.specs.declared.GapState.{GapState}
@@ -17,17 +17,14 @@ use Rattle.codec_answers.specs.declared.Outcome.TheVariants as outcome
 use Rattle.codec_answers.specs.declared.Sent.TheVariants as sent
 use Rattle.codec_answers.specs.declared.Notice.{Notice}
 use Rattle.codec_answers.specs.declared.Notice.TheVariants as notice
-use Rattle.station.specs.declared.OptionApplication.{OptionApplication}
-use Rattle.station.specs.declared.OptionApplication.TheVariants as optionApplication
-use Rattle.station.specs.declared.PassTokenAttempt.TheVariants.{First}
-use Rattle.station.specs.declared.UseTokenData.{UseTokenData}
-use Rattle.station.specs.declared.State.TheVariants.{UseToken, AwaitDataResponse, PassToken}
-use Rattle.station.specs.declared.Core.{Core}
-use Rattle.station.specs.declared.Event.TheVariants as event
-use Rattle.station.specs.declared.Step.{Step}
+use Rattle.station.specs.declared.state.PassTokenAttempt.TheVariants.{First}
+use Rattle.station.specs.declared.state.UseTokenData.{UseTokenData}
+use Rattle.station.specs.declared.state.State.TheVariants.{UseToken, AwaitDataResponse, PassToken}
+use Rattle.station.specs.declared.parts.Core.{Core}
+use Rattle.station.specs.declared.done.Event.TheVariants as event
+use Rattle.station.specs.Whole.{Step}
 use Rattle.station.specs.Parts.{with_token_times, with_next_application, zero_time}
 use Rattle.station.specs.Steps.{to_active_idle, pause_of, rx_of, slot_expired_of, done_of, transmit_of}
-use Rattle.station_hold.specs.declared.Asked.{Asked}
 
 -- does a decision decline
 unfoldable pub declines_on : Decision → Bool
@@ -53,30 +50,41 @@ app_transmit_of p c now held (decision.SendExpectReply address length) high =
     transmit_of p (AwaitDataResponse address held) c now (sent.Application address c.next_application high length)
 
 -- schedule_next_application: first_app.get_or_insert(next_application)
-unfoldable pub first_or : OptionApplication → ℕ → ℕ
-first_or optionApplication.None a = a
-first_or (optionApplication.Some first) a = first
+unfoldable pub first_or : Option ℕ → ℕ → ℕ
+first_or None a = a
+first_or (Some first) a = first
 
 -- schedule_next_application: for a < n this is (a + 1) % n
 unfoldable pub turn_of : ℕ → ℕ → ℕ
 turn_of a n = cond (ltb (a + 1) n) (a + 1) 0
 
+-- what asking the applications came to: the one that is asked next, the first that declined since the token came, and whether the
+-- one that is asked next sends
+pub record Asked : Type 0 where
+  pub application : ℕ
+  pub first_app : Option ℕ
+  pub sends : Bool
+
 -- apps_transmit_telegram: who is asked and who sends (the send itself is use_apps_after). Asking goes on for k turns at most; it
 -- ends where one sends, or where the cycle is completed. The turn moves only where one declines, so the first to decline is the
 -- one that was asked first
-unfoldable pub asked_from : ℕ → List ℕ → ℕ → ℕ → OptionApplication → Bool → Asked
+unfoldable pub asked_from : ℕ → List ℕ → ℕ → ℕ → Option ℕ → Bool → Asked
 asked_from zero bytes n a first high = record { application = a; first_app = first; sends = false }
 asked_from (suc k) bytes n a first high =
     let cycle = first_or first a in
     cond (declines_at bytes n a high)
     (cond (eqb (turn_of a n) cycle)
-    (record { application = turn_of a n; first_app = optionApplication.Some cycle; sends = false })
-    (asked_from k bytes n (turn_of a n) (optionApplication.Some cycle) high))
+    (record { application = turn_of a n; first_app = Some cycle; sends = false })
+    (asked_from k bytes n (turn_of a n) (Some cycle) high))
     (record { application = a; first_app = first; sends = true })
 
 -- apps_transmit_telegram: as many turns as there are applications
-unfoldable pub asked_of : List ℕ → ℕ → ℕ → OptionApplication → Bool → Asked
+unfoldable pub asked_of : List ℕ → ℕ → ℕ → Option ℕ → Bool → Asked
 asked_of bytes n a first high = asked_from n bytes n a first high
+
+-- apps_transmit_telegram: what the one that is asked next decided, where it sends
+unfoldable pub asked_decision : List ℕ → ℕ → Bool → Asked → Option Decision
+asked_decision bytes n high asked = cond asked.sends (Some (decision_at bytes n asked.application high)) None
 
 -- do_use_token: the time of a gap poll, slot bits + 100, is taken off while the gap is polled
 unfoldable pub hold_less : Parameters → GapState → Micros

@@ -1,3 +1,2 @@
--- The definitions, and what the proof of the loop over telegrams uses.
+-- The definitions.
 pub mod Listen
-pub mod Laws

@@ -1,8 +1,8 @@
 -- Listening, in the order of active.rs. `bytes` is the poll record, n the number of applications, count that of telegrams.
 -- request (status_request), newPreviousStation (new_previous_station) and collisions are the fields of the state, taken out by the dispatch.
-use Rattle.std.specs.Prelude.{ℕ, zero, suc, ◌+◌, Bool, true, false, cond, List, eqb}
-use Rattle.bit_times.specs.declared.Micros.{Micros}
-use Rattle.settings.specs.declared.Parameters.{Parameters}
+use Rattle.std.specs.Prelude.{ℕ, zero, suc, ◌+◌, Bool, true, false, cond, List, eqb, Option, Some, None}
+use Rattle.bit_times.specs.declared.micros.Micros.{Micros}
+use Rattle.settings.specs.declared.parameters.Parameters.{Parameters}
 use Rattle.ring.specs.Ring.{Ring, prev_of}
 use Rattle.codec_telegrams.specs.declared.ResponseState.{ResponseState}
 use Rattle.codec_telegrams.specs.declared.ResponseState.TheVariants.{MasterNotReady, MasterWithoutToken, MasterInRing}
@@ -11,13 +11,11 @@ use Rattle.codec_records.specs.Records.{telegram_at}
 use Rattle.codec_answers.specs.declared.Outcome.TheVariants as outcome
 use Rattle.codec_answers.specs.declared.Sent.TheVariants as sent
 use Rattle.codec_answers.specs.declared.Notice.TheVariants as notice
-use Rattle.station.specs.declared.OptionAddress.{OptionAddress}
-use Rattle.station.specs.declared.OptionAddress.TheVariants as optionAddress
-use Rattle.station.specs.declared.State.{State}
-use Rattle.station.specs.declared.State.TheVariants.{ListenToken, ActiveIdle}
-use Rattle.station.specs.declared.Core.{Core}
-use Rattle.station.specs.declared.Event.{Event}
-use Rattle.station.specs.declared.Event.TheVariants as event
+use Rattle.station.specs.declared.state.State.{State}
+use Rattle.station.specs.declared.state.State.TheVariants.{ListenToken, ActiveIdle}
+use Rattle.station.specs.declared.parts.Core.{Core}
+use Rattle.station.specs.declared.done.Event.{Event}
+use Rattle.station.specs.declared.done.Event.TheVariants as event
 use Rattle.station.specs.Whole.{RingStep, Heard}
 use Rattle.station.specs.Steps.{to_active_idle, pause_of, rx_of, token_lost_wait_of, done_of, transmit_of, with_event, ring_step_of, heard_of}
 use Rattle.station_claim.specs.Claim.{claim_token_of}
@@ -37,7 +35,7 @@ response_state ring source = cond ring.ready (cond (eqb source (prev_of ring)) M
 
 -- do_listen_token: once answered, a ready station goes to ActiveIdle, whoever asked
 unfoldable pub listen_answered : Ring → ℕ → State
-listen_answered ring collisions = cond ring.ready to_active_idle (ListenToken optionAddress.None collisions)
+listen_answered ring collisions = cond ring.ready to_active_idle (ListenToken None collisions)
 
 -- do_listen_token, do_active_idle, and PassiveIdle: a status request is answered after the pause, with a station type; waiting is
 -- the state until then, answered the one from then on
@@ -50,7 +48,7 @@ respond_of p waiting answered c ring now source type =
 -- do_listen_token: the answer to a status request
 unfoldable pub listen_response : Parameters → Core → Ring → Micros → ℕ → ℕ → RingStep
 listen_response p c ring now source collisions =
-    respond_of p (ListenToken (optionAddress.Some source) collisions) (listen_answered ring collisions) c ring now source (response_state ring source)
+    respond_of p (ListenToken (Some source) collisions) (listen_answered ring collisions) c ring now source (response_state ring source)
 
 -- receive_all_telegrams: each telegram marks a reception and is handled: if listening (in ListenToken or PassiveIdle) by the
 -- closure of do_listen_token or PassiveIdle's, else by that of do_active_idle and do_check_token_pass
@@ -95,29 +93,29 @@ consumed_all h count =
     ring_step_of (record { state = h.state; core = h.core; sent = sent.Nothing; notice = notice.NoNotice; outcome = h.outcome; consumed = count; event = meetings_of h.met }) h.ring
 
 -- do_listen_token, on the noted request
-unfoldable pub listen_token_on : OptionAddress → Parameters → Core → Ring → Micros → ℕ → List ℕ → ℕ → ℕ → RingStep
-listen_token_on optionAddress.None p c ring now collisions bytes n count =
-    consumed_all (received_all p (ListenToken optionAddress.None collisions) c ring now true bytes n count) count
-listen_token_on (optionAddress.Some source) p c ring now collisions bytes n count = listen_response p c ring now source collisions
+unfoldable pub listen_token_on : Option ℕ → Parameters → Core → Ring → Micros → ℕ → List ℕ → ℕ → ℕ → RingStep
+listen_token_on None p c ring now collisions bytes n count =
+    consumed_all (received_all p (ListenToken None collisions) c ring now true bytes n count) count
+listen_token_on (Some source) p c ring now collisions bytes n count = listen_response p c ring now source collisions
 
 -- do_listen_token
-unfoldable pub listen_token_of : Parameters → Core → Ring → Micros → OptionAddress → ℕ → List ℕ → ℕ → ℕ → RingStep
+unfoldable pub listen_token_of : Parameters → Core → Ring → Micros → Option ℕ → ℕ → List ℕ → ℕ → ℕ → RingStep
 listen_token_of p c ring now request collisions bytes n count =
     handle_lost_token p c ring now (λ waited. listen_token_on request p waited ring now collisions bytes n count)
 
 -- do_active_idle: the answer to a status request
-unfoldable pub active_response : Parameters → Core → Ring → Micros → ℕ → OptionAddress → ℕ → RingStep
+unfoldable pub active_response : Parameters → Core → Ring → Micros → ℕ → Option ℕ → ℕ → RingStep
 active_response p c ring now source newPreviousStation collisions =
-    respond_of p (ActiveIdle (optionAddress.Some source) newPreviousStation collisions) (ActiveIdle optionAddress.None newPreviousStation collisions) c ring now source MasterInRing
+    respond_of p (ActiveIdle (Some source) newPreviousStation collisions) (ActiveIdle None newPreviousStation collisions) c ring now source MasterInRing
 
 -- do_active_idle, on the noted request
-unfoldable pub active_idle_on : OptionAddress → Parameters → Core → Ring → Micros → OptionAddress → ℕ → List ℕ → ℕ → ℕ → RingStep
-active_idle_on optionAddress.None p c ring now newPreviousStation collisions bytes n count =
-    consumed_all (received_all p (ActiveIdle optionAddress.None newPreviousStation collisions) c ring now false bytes n count) count
-active_idle_on (optionAddress.Some source) p c ring now newPreviousStation collisions bytes n count =
+unfoldable pub active_idle_on : Option ℕ → Parameters → Core → Ring → Micros → Option ℕ → ℕ → List ℕ → ℕ → ℕ → RingStep
+active_idle_on None p c ring now newPreviousStation collisions bytes n count =
+    consumed_all (received_all p (ActiveIdle None newPreviousStation collisions) c ring now false bytes n count) count
+active_idle_on (Some source) p c ring now newPreviousStation collisions bytes n count =
     active_response p c ring now source newPreviousStation collisions
 
 -- do_active_idle
-unfoldable pub active_idle_of : Parameters → Core → Ring → Micros → OptionAddress → OptionAddress → ℕ → List ℕ → ℕ → ℕ → RingStep
+unfoldable pub active_idle_of : Parameters → Core → Ring → Micros → Option ℕ → Option ℕ → ℕ → List ℕ → ℕ → ℕ → RingStep
 active_idle_of p c ring now request newPreviousStation collisions bytes n count =
     handle_lost_token p c ring now (λ waited. active_idle_on request p waited ring now newPreviousStation collisions bytes n count)

@@ -1,17 +1,15 @@
 -- do_pass_token, in the order of active.rs.
-use Rattle.std.specs.Prelude.{ℕ, ◌+◌, Bool, cond, ltb}
-use Rattle.bit_times.specs.declared.Micros.{Micros}
-use Rattle.settings.specs.declared.Parameters.{Parameters}
-use Rattle.ring.specs.declared.NextStation.{NextStation}
-use Rattle.ring.specs.declared.NextStation.TheVariants.{Nobody, Neighbour}
+use Rattle.std.specs.Prelude.{ℕ, ◌+◌, Bool, Option, Some, None, cond, ltb}
+use Rattle.bit_times.specs.declared.micros.Micros.{Micros}
+use Rattle.settings.specs.declared.parameters.Parameters.{Parameters}
 use Rattle.ring.specs.declared.GapState.{GapState}
 use Rattle.ring.specs.declared.GapState.TheVariants.{Waiting, DoPoll}
 use Rattle.ring.specs.Ring.{Ring, next_of, witness_of, gap_of}
 use Rattle.codec_answers.specs.declared.Outcome.TheVariants as outcome
 use Rattle.codec_answers.specs.declared.Sent.TheVariants as sent
-use Rattle.station.specs.declared.PassTokenAttempt.{PassTokenAttempt}
-use Rattle.station.specs.declared.State.TheVariants.{PassToken, CheckTokenPass, AwaitStatusResponse}
-use Rattle.station.specs.declared.Core.{Core}
+use Rattle.station.specs.declared.state.PassTokenAttempt.{PassTokenAttempt}
+use Rattle.station.specs.declared.state.State.TheVariants.{PassToken, CheckTokenPass, AwaitStatusResponse}
+use Rattle.station.specs.declared.parts.Core.{Core}
 use Rattle.station.specs.Whole.{RingStep}
 use Rattle.station.specs.Parts.{with_gap}
 use Rattle.station.specs.Steps.{to_use_token, pause_of, done_of, transmit_of, ring_step_of}
@@ -24,14 +22,14 @@ gap_advanced p ring (Waiting count) =
 gap_advanced p ring (DoPoll current) = gap_of ring current p.highest_station_address
 
 -- whom the token is passed to, by who is next: the next station, and ourselves when we are alone (document 02)
-abbrev pub destination_of : ℕ → NextStation → ℕ
-destination_of own Nobody = own
-destination_of own (Neighbour a) = a
+abbrev pub destination_of : ℕ → Option ℕ → ℕ
+destination_of own None = own
+destination_of own (Some a) = a
 
 -- do_pass_token, on who is next once the ring has witnessed the pass: with nobody the token is ours again, else the pass is checked
-unfoldable pub pass_sent_on : NextStation → Parameters → Core → Micros → PassTokenAttempt → ℕ → Ring → RingStep
-pass_sent_on Nobody p c now attempt destination witnessed = ring_step_of (transmit_of p (to_use_token now) c now (sent.Token destination)) witnessed
-pass_sent_on (Neighbour a) p c now attempt destination witnessed = ring_step_of (transmit_of p (CheckTokenPass attempt) c now (sent.Token destination)) witnessed
+unfoldable pub pass_sent_on : Option ℕ → Parameters → Core → Micros → PassTokenAttempt → ℕ → Ring → RingStep
+pass_sent_on None p c now attempt destination witnessed = ring_step_of (transmit_of p (to_use_token now) c now (sent.Token destination)) witnessed
+pass_sent_on (Some a) p c now attempt destination witnessed = ring_step_of (transmit_of p (CheckTokenPass attempt) c now (sent.Token destination)) witnessed
 
 -- do_pass_token: the token is sent, and the ring witnesses the pass. Who is next is asked for before that and again after it, as in
 -- the Rust (`asked_again` of Laws: both answers are the same)

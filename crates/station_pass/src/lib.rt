@@ -1,156 +1,90 @@
-// PassToken: the token is passed on, after a gap question if one is due. From profirust's active.rs: do_pass_token. It leans on
-// station and ring.
+//! PassToken: the token is passed on, after a gap question if one is due. From profirust's active.rs: do_pass_token. It leans on
+//! station and ring.
 #![tactic(auto)]
 
-ghost use Rattle.std.specs.Prelude.{◌≡◌, ◌<◌, ◌^◌};
-ghost use Rattle.ring.specs.Ring.{ring_of};
-ghost use Rattle.station.specs.Whole.{ring_step_at};
-ghost use Rattle.station_pass.specs.Pass.{gap_advanced, destination_of, pass_send, pass_poll, pass_token_of};
+ghost use Rattle.std.specs.Prelude.{◌≡◌};
+ghost use Rattle.station.specs.Whole.{after};
+ghost use Rattle.station_pass.specs.Pass.{gap_advanced, destination_of, pass_send, pass_token_of};
 
-use bit_times::Micros;
+use bit_times::Instant;
 use codec_answers::{Outcome, Sent};
-use ring::{GapState, Head, NextStation};
+use ring::{GapState, TokenRing};
 use settings::Parameters;
-use station::{Core, PassTokenAttempt, RingStep, State};
+use station::{Done, PassTokenAttempt, State, Station};
 
-// do_pass_token: the gap's turn. Waiting goes on until more rotations were counted than the settings ask for.
+// do_pass_token: the gap's turn. Waiting goes on until more rotations were counted than the settings ask for; then a walk starts
+// from our own station, and goes on from where it is.
 #[tactic(auto, unfolding(crate::specs::Pass::gap_advanced))]
-fn do_pass_token_gap(p: Parameters, ring: Head, links: &[u8; 252], gap: GapState) -> GapState
-    ensures { result ≡ gap_advanced p (ring_of ring links.now) gap }
+fn do_pass_token_gap(p: &Parameters, ring: &TokenRing, gap: GapState) -> GapState
+    ensures { result ≡ gap_advanced p.now ring.now gap }
 {
-    match gap {
-        GapState::Waiting { rotation_count } => {
-            if (p.gap_wait_rotations as u16) < rotation_count {
-                ring::next_gap_poll(ring, links, p.address, p.highest_station_address)
-            } else {
-                GapState::Waiting {
+    let from = match gap {
+        GapState::Waiting { rotation_count } if rotation_count <= u16::from(p.gap_wait_rotations) =>
+            {
+                return GapState::Waiting {
                     rotation_count: rotation_count + 1,
-                }
+                };
             }
-        }
-        GapState::DoPoll { current_address } => {
-            ring::next_gap_poll(ring, links, current_address, p.highest_station_address)
-        }
-    }
+        GapState::Waiting { .. } => p.address,
+        GapState::DoPoll { current_address } => current_address,
+    };
+    ring.next_gap_poll(from, p.highest_station_address)
 }
 
-// Whom the token is passed to, by who is next: the next station, and ourselves when we are alone.
-pub fn token_destination(own: u8, next: NextStation) -> u8
+/// Whom the token is passed to, by who is next: the next station, and ourselves when we are alone.
+pub fn token_destination(own: u8, next: Option<u8>) -> u8
     ensures { result ≡ destination_of own next }
 {
-    match next {
-        NextStation::Nobody => own,
-        NextStation::Neighbour(address) => address,
-    }
+    next.unwrap_or(own)
 }
 
 // do_pass_token: the token is sent to the next station. If there is nobody it is ours again and is used, else the pass is
 // checked.
 #[tactic(auto, unfolding(crate::specs::Pass::pass_send, crate::specs::Pass::pass_sent_on))]
-fn do_pass_token_send(
-    p: Parameters,
-    core: Core,
-    ring: Head,
-    links: &mut [u8; 252],
-    now: Micros,
-    attempt: PassTokenAttempt,
-) -> RingStep
-    requires { now.0 < 2 ^ 48 }
-    ensures { ring_step_at result links.new ≡ pass_send p core (ring_of ring links.old) now attempt }
+fn do_pass_token_send(station: &mut Station, now: Instant, attempt: PassTokenAttempt) -> Done
+    ensures { (station.new, result) ≡ after station.old (pass_send station.old.p station.old.core station.old.token_ring now attempt) }
 {
-    let own = p.address;
-    let destination = token_destination(own, ring::next_station(ring, links));
-    let witnessed = ring::witness_token_pass(ring, links, own, destination);
-    match ring::next_station(witnessed, links) {
-        NextStation::Nobody => RingStep {
-            step: station::transmit(
-                p,
-                station::transition_use_token(now),
-                core,
-                now,
-                Sent::Token { destination },
-            ),
-            ring: witnessed,
-        },
-        NextStation::Neighbour(..) => RingStep {
-            step: station::transmit(
-                p,
-                State::CheckTokenPass { attempt },
-                core,
-                now,
-                Sent::Token { destination },
-            ),
-            ring: witnessed,
-        },
-    }
+    let own = station.p.address;
+    let destination = token_destination(own, station.token_ring.next_station());
+    station.token_ring.witness_token_pass(own, destination);
+    station.state = match station.token_ring.next_station() {
+        None => State::use_token(now.micros()),
+        Some(_) => State::CheckTokenPass { attempt },
+    };
+    station.transmit(now, Sent::Token { destination })
 }
 
-// do_pass_token: a gap question, if one is due, else the token.
-#[tactic(auto, unfolding(crate::specs::Pass::pass_poll, crate::specs::Pass::pass_poll_on))]
-fn do_pass_token_poll(
-    p: Parameters,
-    core: Core,
-    ring: Head,
-    links: &mut [u8; 252],
-    now: Micros,
+/// do_pass_token: after the pause, a gap question where one is due, else the token.
+#[tactic(auto, unfolding(crate::specs::Pass::pass_token_of, crate::specs::Pass::pass_poll, crate::specs::Pass::pass_poll_on, station::specs::Steps::pause_of, station::specs::Steps::waited_of, station::specs::Parts::with_activity, station::specs::Parts::with_gap, station::specs::Steps::done_of))]
+pub fn do_pass_token(
+    station: &mut Station,
+    now: Instant,
+    do_gap: bool,
     attempt: PassTokenAttempt,
-) -> RingStep
-    requires { now.0 < 2 ^ 48 }
-    ensures { ring_step_at result links.new ≡ pass_poll p core (ring_of ring links.old) now attempt }
+) -> Done
+    ensures { (station.new, result) ≡ after station.old (pass_token_of station.old.p station.old.core station.old.token_ring now do_gap attempt) }
 {
-    let gap = core.gap_state;
-    match gap {
-        GapState::Waiting { .. } => do_pass_token_send(p, core, ring, links, now, attempt),
-        GapState::DoPoll { current_address } => RingStep {
-            step: station::transmit(
-                p,
-                State::AwaitStatusResponse {
-                    address: current_address,
-                },
-                core,
+    if !station.wait_synchronization_pause(now.micros()) {
+        station.state = State::PassToken { do_gap, attempt };
+        return Done::new(Outcome::Delay);
+    }
+    if do_gap {
+        station.core.gap_state = do_pass_token_gap(
+            &station.p,
+            &station.token_ring,
+            station.core.gap_state,
+        );
+        if let GapState::DoPoll { current_address } = station.core.gap_state {
+            station.state = State::AwaitStatusResponse {
+                address: current_address,
+            };
+            return station.transmit(
                 now,
                 Sent::StatusRequest {
                     destination: current_address,
                 },
-            ),
-            ring,
-        },
-    }
-}
-
-// do_pass_token: after the pause, a gap question or the token.
-#[tactic(auto, unfolding(crate::specs::Pass::pass_token_of))]
-pub fn do_pass_token(
-    p: Parameters,
-    core: Core,
-    ring: Head,
-    links: &mut [u8; 252],
-    now: Micros,
-    do_gap: bool,
-    attempt: PassTokenAttempt,
-) -> RingStep
-    requires { now.0 < 2 ^ 48 }
-    ensures { ring_step_at result links.new ≡ pass_token_of p core (ring_of ring links.old) now do_gap attempt }
-{
-    let pause = station::wait_synchronization_pause(p, core, now);
-    let waited = pause.core;
-    if pause.over {
-        if do_gap {
-            let gap = core.gap_state;
-            let advanced = do_pass_token_gap(p, ring, links, gap);
-            return do_pass_token_poll(
-                p,
-                station::with_gap(waited, advanced),
-                ring,
-                links,
-                now,
-                attempt,
             );
         }
-        return do_pass_token_send(p, waited, ring, links, now, attempt);
     }
-    RingStep {
-        step: station::done(State::PassToken { do_gap, attempt }, waited, Outcome::Delay),
-        ring,
-    }
+    do_pass_token_send(station, now, attempt)
 }

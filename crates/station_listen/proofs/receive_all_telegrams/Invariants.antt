@@ -1,15 +1,9 @@
-use Rattle.std.proofs.Common.{◌≤◌, ◌-◌, ◌≡◌}
-use Rattle.station.specs.Whole.{heard_at}
-use Rattle.station_listen.specs.Listen.{heard_all, met_in}
+use Rattle.std.proofs.Common.{◌≡◌, ◌+◌, ◌≤◌, length}
+use Rattle.station_listen.proofs.Heard.{heard_in_turn}
 use Rattle.station_listen.proofs.receive_all_telegrams.Given as goal
 
--- what was heard, with the tables as they are, is what the telegrams up to this one lead to, and `met` counts the collisions among them
-abbrev pub invariant-loop-index : goal.invariant-loop-index
-invariant-loop-index l =
-    (l.index ≤ l.telegrams)
-    × (heard_at l.all l.links ≡ heard_all l.p (heard_at l.initial.all l.initial.links) l.now l.listening l.bytes l.applications l.telegrams l.index)
-    × (l.met ≡ met_in l.p (heard_at l.initial.all l.initial.links) l.now l.listening l.bytes l.applications l.telegrams l.index)
-    × (l.met ≤ l.index)
-
-abbrev pub decreases-loop-index : goal.decreases-loop-index
-decreases-loop-index l = l.telegrams - l.index
+-- what is left makes of the station what all telegrams make of the first; there is room to count a collision for each that is left
+abbrev pub invariant-loop-telegram : goal.invariant-loop-telegram
+invariant-loop-telegram l =
+    (heard_in_turn l.station l.all l.now l.listening l.telegram-iterator ≡ heard_in_turn l.initial.station l.initial.all l.now l.listening l.initial.telegram-iterator)
+    × (l.all.met + length l.telegram-iterator ≤ 255)

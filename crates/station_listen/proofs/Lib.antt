@@ -1,0 +1,2 @@
+-- What the proof of the loop over a poll's telegrams uses.
+pub mod Heard
