@@ -1,15 +1,14 @@
 -- Who was heard, and when (request P7): an entry for each of the 126 addresses in a lent table. Assumes nothing.
-use Rattle.std.specs.Prelude.{ℕ, zero, suc, ◌+◌, ◌-◌, ◌*◌, ◌^◌, List, [], ◌∷◌, ◌++◌, cond, length, take, drop, eqb, ltb}
+use Rattle.std.specs.Prelude.{ℕ, zero, suc, ◌+◌, ◌-◌, ◌*◌, ◌^◌, List, [], ◌∷◌, ◌++◌, Option, None, Some, Result, Ok, Err, cond, length, take, drop, eqb, ltb}
 use Rattle.codec_fields.specs.Fields.{load_of, low_bytes}
+use Rattle.refusals.specs.declared.refusal.Refusal.{Refusal}
+use Rattle.refusals.specs.Refusals.{number_of, answered}
+use Rattle.codec_telegrams.specs.declared.ResponseState.{ResponseState}
 use Rattle.codec_telegrams.specs.declared.Telegram.{Telegram}
 use Rattle.codec_telegrams.specs.declared.Telegram.TheVariants.{Token, ShortConfirmation, Request, Response}
 use Rattle.codec_telegrams.specs.Words.{response_number, response_state_of}
 use Rattle.codec_records.specs.Records.{head_of, telegram_at}
-use Rattle.heard.specs.declared.LastType.{LastType}
-use Rattle.heard.specs.declared.LastType.TheVariants.{Unseen, Seen}
 use Rattle.heard.specs.declared.AddressEntry.{AddressEntry}
-use Rattle.heard.specs.declared.Found.{Found}
-use Rattle.heard.specs.declared.Found.TheVariants.{Heard, Never, Refused}
 
 -- the last address that is kept, the bytes of an entry, the most that times heard are counted to
 abbrev pub last_address : ℕ
@@ -25,16 +24,24 @@ most_times = 2 ^ 32 - 1
 unfoldable pub heard_refusal : ℕ → ℕ
 heard_refusal address = cond (ltb last_address address) 26 0
 
+-- The station type that an address gave in its last response; none where no response was heard.
+abbrev pub LastType : Type 0
+LastType = Option ResponseState
+
+-- What is said of an address: its entry, none where it was never heard, or the refusal of the question.
+abbrev pub Found : Type 0
+Found = Result (Option AddressEntry) Refusal
+
 -- An entry.
 
 -- the byte of a station type: 0 where no response was seen, else 1 + its number
 unfoldable pub type_byte : LastType → ℕ
-type_byte Unseen = 0
-type_byte (Seen state) = 1 + response_number state
+type_byte None = 0
+type_byte (Some state) = 1 + response_number state
 
 -- the station type that a byte says
 unfoldable pub type_of : ℕ → LastType
-type_of byte = cond (eqb byte 0) Unseen (Seen (response_state_of (byte - 1)))
+type_of byte = cond (eqb byte 0) None (Some (response_state_of (byte - 1)))
 
 -- the entry that bytes begin with: times heard 32 bits, first clock 48, last clock 48, station type 8. What is not there is 0
 unfoldable pub entry_of : List ℕ → AddressEntry
@@ -42,7 +49,7 @@ entry_of s = record { first = load_of s 4 6; last = load_of s 10 6; times = load
 
 -- the entry of an address that was never heard
 unfoldable pub no_entry : AddressEntry
-no_entry = record { first = 0; last = 0; times = 0; last_type = Unseen }
+no_entry = record { first = 0; last = 0; times = 0; last_type = None }
 
 -- the 17 bytes of an entry
 abbrev pub entry_bytes : AddressEntry → List ℕ
@@ -64,8 +71,8 @@ first_clock times first clock = cond (eqb times 0) clock first
 
 -- the last station type: that of a response, and where none was seen the one before
 unfoldable pub newer_type : LastType → LastType → LastType
-newer_type before Unseen = before
-newer_type before (Seen state) = Seen state
+newer_type before None = before
+newer_type before (Some state) = Some state
 
 -- an entry after a telegram of its address
 unfoldable pub entry_after : AddressEntry → ℕ → LastType → AddressEntry
@@ -84,10 +91,10 @@ heard_from table clock source seen =
 
 -- a table after a telegram that was consumed at a clock; short confirmations are skipped
 unfoldable pub hear_of : List ℕ → ℕ → Telegram → List ℕ
-hear_of table clock (Token destination source) = heard_from table clock source Unseen
+hear_of table clock (Token destination source) = heard_from table clock source None
 hear_of table clock ShortConfirmation = table
-hear_of table clock (Request destination source request) = heard_from table clock source Unseen
-hear_of table clock (Response destination source state status) = heard_from table clock source (Seen state)
+hear_of table clock (Request destination source request) = heard_from table clock source None
+hear_of table clock (Response destination source state status) = heard_from table clock source (Some state)
 
 -- Telegrams heard, one after the other.
 
@@ -109,27 +116,25 @@ consumed_in s n (suc k) = consumed_in s n k ++ (record { clock = (head_of s).clo
 -- What is asked.
 
 -- what an entry says: one that was heard no time was never heard
-unfoldable pub lookup_on : AddressEntry → Found
-lookup_on e = cond (eqb e.times 0) Never (Heard e)
+unfoldable pub lookup_on : AddressEntry → Option AddressEntry
+lookup_on e = cond (eqb e.times 0) None (Some e)
 
 -- what a table says of an address: one whose entry has no room there was never heard
 unfoldable pub lookup_of : List ℕ → ℕ → Found
 lookup_of table address =
-    cond (eqb (heard_refusal address) 0)
-    (cond (ltb (length table) (entry_place address + entry_length)) Never (lookup_on (entry_of (drop (entry_place address) table))))
-    (Refused (heard_refusal address))
+    answered (heard_refusal address)
+    (cond (ltb (length table) (entry_place address + entry_length)) None (lookup_on (entry_of (drop (entry_place address) table))))
 
 -- the number of an answer: 0 where nothing was refused
 unfoldable pub lookup_number : Found → ℕ
-lookup_number (Heard e) = 0
-lookup_number Never = 0
-lookup_number (Refused n) = n
+lookup_number (Ok found) = 0
+lookup_number (Err refusal) = number_of refusal
 
 -- the entry that is shown of an answer: zeros for an address that was never heard
 abbrev pub shown_of : Found → AddressEntry
-shown_of (Heard e) = e
-shown_of Never = no_entry
-shown_of (Refused n) = no_entry
+shown_of (Ok (Some e)) = e
+shown_of (Ok None) = no_entry
+shown_of (Err refusal) = no_entry
 
 -- what the summary returns with room bytes to show it in: the answer's number, then 18 where an entry has no room
 unfoldable pub summary_number : Found → ℕ → ℕ

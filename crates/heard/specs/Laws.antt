@@ -1,5 +1,5 @@
 -- A table that was fed with telegrams says what is worked out from them afresh (`lookup_afresh`). Assumes nothing.
-use Rattle.std.specs.Prelude.{ℕ, zero, suc, ◌+◌, ◌^◌, ◌<◌, ◌≤◌, ◌≡◌, Bool, drop, eqb, ltb}
+use Rattle.std.specs.Prelude.{ℕ, zero, suc, ◌+◌, ◌^◌, ◌<◌, ◌≤◌, ◌≡◌, Option, None, Some, Ok, Bool, drop, eqb, ltb}
 use Rattle.std.proofs.Math.Path.{refl, sym, ap}
 use Rattle.std.proofs.Common.{◌∙◌, subst, arith, add-zero, zero-add, le_refl, lit≤, lit<}
 use mathlib.Core.List.{List, [], ◌∷◌, ◌++◌}
@@ -8,16 +8,15 @@ use borrow.Author.Tests.{ltb-true, ltb-false, lt-ltb, le-ltb, eqb-true, eqb-fals
 use borrow.Table.Steps.{cases}
 use Rattle.std.proofs.Math.ListN.{length}
 use Rattle.std.proofs.lemmas.List.{length-replicate}
+use Rattle.refusals.specs.Refusals.{number_of, named, answered}
+use Rattle.refusals.proofs.Numbers.{refused as never_zero}
 use Rattle.codec_fields.specs.Fields.{up_to}
 use Rattle.codec_records.specs.Records.{head_of, telegram_at}
 use Rattle.codec_records.specs.Laws.{clock_below}
 use Rattle.codec_telegrams.specs.declared.Telegram.{Telegram}
 use Rattle.codec_telegrams.specs.declared.Telegram.TheVariants.{Token, ShortConfirmation, Request, Response}
-use Rattle.heard.specs.declared.LastType.{LastType}
-use Rattle.heard.specs.declared.LastType.TheVariants.{Unseen, Seen}
 use Rattle.heard.specs.declared.AddressEntry.{AddressEntry}
-use Rattle.heard.specs.declared.Found.{Found}
-use Rattle.heard.specs.Heard.{last_address, entry_length, most_times, heard_refusal, entry_of, no_entry, one_more, first_clock, newer_type, entry_after, entry_place, heard_from, hear_of, Hearing, hear_all, consumed_in, lookup_on, lookup_of, lookup_number, summary_number, summary_into}
+use Rattle.heard.specs.Heard.{LastType, Found, last_address, entry_length, most_times, heard_refusal, entry_of, no_entry, one_more, first_clock, newer_type, entry_after, entry_place, heard_from, hear_of, Hearing, hear_all, consumed_in, lookup_on, lookup_of, lookup_number, summary_number, summary_into}
 use Rattle.heard.specs.Afresh.{sent_by, of_address, last_clock, type_after, last_response, found_in, afresh_of, Clocked, table_length, fresh_table}
 use Rattle.heard.specs.Places.{EntryFits, written_there, before_stays, behind_stays, changed_long, zeros_unheard}
 
@@ -25,10 +24,10 @@ use Rattle.heard.specs.Places.{EntryFits, written_there, before_stays, behind_st
 
 -- the station type that a telegram says
 abbrev type_in : Telegram → LastType
-type_in (Token destination source) = Unseen
-type_in ShortConfirmation = Unseen
-type_in (Request destination source request) = Unseen
-type_in (Response destination source state status) = Seen state
+type_in (Token destination source) = None
+type_in ShortConfirmation = None
+type_in (Request destination source request) = None
+type_in (Response destination source state status) = Some state
 
 -- an entry after telegrams of its address
 unfoldable entry_all : AddressEntry → List Hearing → AddressEntry
@@ -96,7 +95,7 @@ unfolding lookup_on entry_all entry_after no_entry first_clock found_in last_res
 found_all [] = refl
 found_all (h ∷ hs) =
     ap lookup_on (all_of (entry_after no_entry h.clock (type_in h.telegram)) hs (one_more_some 0) (one_more_of 0 (lit≤ tt)))
-    ∙ rw (one_more_up 0 (length hs) (lit≤ tt), zero-add (suc (length hs)), type_after_lem Unseen h.telegram, ne_eqb (up_to most_times (suc (length hs))) 0 (up_some (length hs)))
+    ∙ rw (one_more_up 0 (length hs) (lit≤ tt), zero-add (suc (length hs)), type_after_lem None h.telegram, ne_eqb (up_to most_times (suc (length hs))) 0 (up_some (length hs)))
 
 -- a table of an entry for each address
 abbrev pub Long : List ℕ → Type 0
@@ -216,7 +215,7 @@ none_fits = (lit< tt, lit< tt, lit< tt)
 
 -- a table of zeros, for each of the 126 addresses, that was fed with telegrams says of every address what is worked out afresh
 pub lookup_afresh : (hs : List Hearing) (address : ℕ) → Clocked hs → lookup_of (hear_all fresh_table hs) address ≡ afresh_of hs address
-unfolding lookup_of afresh_of heard_refusal
+unfolding lookup_of afresh_of heard_refusal answered
 lookup_afresh hs address clocked =
     cases (ltb last_address address)
     (λ t. rw t)
@@ -225,8 +224,8 @@ lookup_afresh hs address clocked =
     let long : Long fresh_table = rw length-replicate (le_refl table_length) in
     let room : entry_place address + entry_length ≤ length (hear_all fresh_table hs) = omega (arith, ltb-false last_address address t, hear_all_long fresh_table hs long) in
     rw (t, le-ltb (length (hear_all fresh_table hs)) (entry_place address + entry_length) room)
-    (ap lookup_on (table_all address (ltb-false last_address address t) hs fresh_table long (subst EntryFits (sym none) none_fits) clocked ∙ ap (λ (x : AddressEntry). entry_all x (of_address address hs)) none)
-    ∙ found_all (of_address address hs)))
+    (ap (λ (x : AddressEntry). Ok (lookup_on x)) (table_all address (ltb-false last_address address t) hs fresh_table long (subst EntryFits (sym none) none_fits) clocked ∙ ap (λ (x : AddressEntry). entry_all x (of_address address hs)) none)
+    ∙ ap (λ (x : Option AddressEntry). Ok x) (found_all (of_address address hs))))
 
 -- What a record consumes has its clock, which is of 48 bits.
 
@@ -248,5 +247,8 @@ summary_no_room found before short =
 
 -- nor of an address that is refused
 pub summary_refused : (hs : List Hearing) (address : ℕ) (before : List ℕ) → (heard_refusal address ≡ 0 → ⊥) → summary_into (afresh_of hs address) before ≡ before
-unfolding summary_into summary_number afresh_of lookup_number
-summary_refused hs address before refused = let n = ne_eqb (heard_refusal address) 0 refused in rw (n, n, n)
+unfolding summary_into summary_number afresh_of lookup_number answered
+summary_refused hs address before refused =
+    let n = ne_eqb (heard_refusal address) 0 refused in
+    let m = ne_eqb (number_of (named (heard_refusal address))) 0 (never_zero (named (heard_refusal address))) in
+    rw (n, m, m)

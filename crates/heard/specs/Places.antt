@@ -1,5 +1,5 @@
 -- Entries in a table: one that is written is read back, the others stay; and a table of zeros has none. Assumes nothing.
-use Rattle.std.specs.Prelude.{ℕ, zero, suc, ◌+◌, ◌-◌, ◌^◌, ◌<◌, ◌≤◌, ◌≡◌, refl, List, ◌++◌, length, take, drop, replicate}
+use Rattle.std.specs.Prelude.{ℕ, zero, suc, ◌+◌, ◌-◌, ◌^◌, ◌<◌, ◌≤◌, ◌≡◌, refl, List, ◌++◌, None, Some, length, take, drop, replicate}
 use Rattle.std.proofs.Common.{sym, ap, ◌∙◌, arith, le-ltb, length-append, length-drop, take-append-drop, length-take-le, drop_at, drop-drop, lit≤, lit<}
 use Rattle.std.proofs.Math.Nat.{sub-zero}
 use borrow.Table.Steps.{cases}
@@ -10,10 +10,8 @@ use Rattle.codec_fields.proofs.Stores.{load_room}
 use Rattle.codec_telegrams.specs.declared.ResponseState.TheVariants.{Slave, MasterNotReady, MasterWithoutToken, MasterInRing}
 use Rattle.codec_telegrams.specs.Words.{response_state_of}
 use Rattle.codec_telegrams.specs.Laws.{state_below}
-use Rattle.heard.specs.declared.LastType.{LastType}
-use Rattle.heard.specs.declared.LastType.TheVariants.{Unseen, Seen}
 use Rattle.heard.specs.declared.AddressEntry.{AddressEntry}
-use Rattle.heard.specs.Heard.{entry_length, type_byte, type_of, entry_of, no_entry, entry_bytes, entry_into}
+use Rattle.heard.specs.Heard.{LastType, entry_length, type_byte, type_of, entry_of, no_entry, entry_bytes, entry_into}
 
 -- an entry whose numbers fit their bytes
 abbrev pub EntryFits : AddressEntry → Type 0
@@ -22,17 +20,17 @@ EntryFits e = (e.times < 2 ^ 32) × (e.first < 2 ^ 48) × (e.last < 2 ^ 48)
 -- a station type is read back from its byte
 type_read : (type : LastType) → type_of (type_byte type) ≡ type
 unfolding type_of type_byte response_state_of
-type_read Unseen = refl
-type_read (Seen Slave) = refl
-type_read (Seen MasterNotReady) = refl
-type_read (Seen MasterWithoutToken) = refl
-type_read (Seen MasterInRing) = refl
+type_read None = refl
+type_read (Some Slave) = refl
+type_read (Some MasterNotReady) = refl
+type_read (Some MasterWithoutToken) = refl
+type_read (Some MasterInRing) = refl
 
 -- which is a byte
 type_below : (type : LastType) → type_byte type < 2 ^ 8
 unfolding type_byte
-type_below Unseen = lit< tt
-type_below (Seen state) = omega (arith, state_below state)
+type_below None = lit< tt
+type_below (Some state) = omega (arith, state_below state)
 
 -- an entry written into bytes is read back from them
 pub entry_back : (s : List ℕ) (e : AddressEntry) → entry_length ≤ length s → EntryFits e → entry_of (entry_into s e) ≡ e

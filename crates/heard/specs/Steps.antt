@@ -1,6 +1,6 @@
 -- What the functions' proofs lean on: an entry's numbers fit, its four stores are its bytes, a tail of the table is back in its place,
 -- and telegrams are heard after telegrams. Assumes nothing.
-use Rattle.std.specs.Prelude.{ℕ, ◌+◌, ◌-◌, ◌*◌, ◌^◌, ◌<◌, ◌≤◌, ◌≡◌, refl, List, [], ◌∷◌, ◌++◌, length, take, drop}
+use Rattle.std.specs.Prelude.{ℕ, ◌+◌, ◌-◌, ◌*◌, ◌^◌, ◌<◌, ◌≤◌, ◌≡◌, refl, List, [], ◌∷◌, ◌++◌, None, Some, Ok, length, take, drop}
 use Rattle.std.proofs.Common.{sym, ap, ◌∙◌, append-nil, arith, le_refl, lt-ltb, le-ltb, length-drop, drop_of_length-le, take_all, pow_pos, lit≤}
 use borrow.Table.Steps.{cases}
 use borrow.Rule.Slice.PartMut.{put_mid}
@@ -9,11 +9,9 @@ use Rattle.codec_telegrams.specs.Words.{response_number}
 use Rattle.codec_telegrams.specs.Laws.{state_below}
 use Rattle.codec_fields.specs.Fields.{has_room, load_of, low_bytes, stored_of, Bytes}
 use Rattle.codec_fields.proofs.Stores.{room_of_lem, load_below, stored_room, store_next}
-use Rattle.heard.specs.declared.LastType.{LastType}
-use Rattle.heard.specs.declared.LastType.TheVariants.{Seen}
 use Rattle.heard.specs.declared.AddressEntry.{AddressEntry}
-use Rattle.heard.specs.declared.Found.TheVariants.{Never}
-use Rattle.heard.specs.Heard.{last_address, entry_length, heard_refusal, entry_of, entry_into, entry_after, entry_place, heard_from, hear_of, Hearing, hear_all, lookup_on, lookup_of}
+use Rattle.refusals.specs.Refusals.{answered}
+use Rattle.heard.specs.Heard.{LastType, last_address, entry_length, heard_refusal, entry_of, entry_into, entry_after, entry_place, heard_from, hear_of, Hearing, hear_all, lookup_on, lookup_of}
 
 -- what is loaded is below 2 to its bits, also where nothing is there to load
 pub load_small : (s : List ℕ) (at count : ℕ) → Bytes s → load_of s at count < 2 ^ (8 * count)
@@ -47,7 +45,7 @@ tail_changed at s f =
     rw (a, b, append-nil)
 
 -- the byte of a station type is a byte
-pub type_small : (last : LastType) (state : ResponseState) (n : ℕ) → last ≡ Seen state → n ≡ response_number state → 1 + n < 2 ^ 8
+pub type_small : (last : LastType) (state : ResponseState) (n : ℕ) → last ≡ Some state → n ≡ response_number state → 1 + n < 2 ^ 8
 type_small last state n told e = omega (arith, state_below state)
 
 -- where the table ends before an entry, nothing is kept of it
@@ -76,8 +74,8 @@ heard_there table clock source seen was is z few e f g =
     (tail_changed (entry_place source) table (λ s. entry_into s (entry_after (entry_of s) clock seen)))
 
 -- and where it ends inside it, too, it was never heard
-pub lookup_past : (table : List ℕ) (address : ℕ) → heard_refusal address ≡ 0 → length table < entry_place address + entry_length → Never ≡ lookup_of table address
-unfolding lookup_of
+pub lookup_past : (table : List ℕ) (address : ℕ) → heard_refusal address ≡ 0 → length table < entry_place address + entry_length → Ok None ≡ lookup_of table address
+unfolding lookup_of answered
 lookup_past table address few past = rw (few, lt-ltb (length table) (entry_place address + entry_length) past)
 
 -- what the tail from its place on says
@@ -86,8 +84,8 @@ pub lookup_there :
     → heard_refusal address ≡ 0
     → entry_place address + entry_length ≤ length table
     → was ≡ entry_of (take (length table - entry_place address) (drop (entry_place address) table))
-    → lookup_of table address ≡ lookup_on was
-unfolding lookup_of
+    → lookup_of table address ≡ Ok (lookup_on was)
+unfolding lookup_of answered
 lookup_there table address was few room e =
     rw (few, le-ltb (length table) (entry_place address + entry_length) room, e, take_all (length table - entry_place address) (drop (entry_place address) table) (rw length-drop (le_refl (length table - entry_place address))))
 

@@ -1,11 +1,13 @@
-// What a table of heard says of an address (request P7), and the summary that a display shows. Every call is total on a table of any
-// length: an address whose entry has no room was never heard. It leans on heard for the entries.
+//! What a table of heard says of an address (request P7), and the summary that a display shows. Every call is total on a table of any
+//! length: an address whose entry has no room was never heard. It leans on heard for the entries.
 #![tactic(auto)]
 
 ghost use Rattle.std.specs.Prelude.{◌≡◌, length};
-ghost use Rattle.heard.specs.Heard.{no_entry, lookup_of, lookup_number, summary_number, summary_into};
+ghost use Rattle.refusals.specs.Refusals.{number_in};
+ghost use Rattle.heard.specs.Heard.{no_entry, lookup_of, summary_number, summary_into};
 
-use heard::{AddressEntry, ENTRY_LENGTH, Found, LastType, heard_refusal, read_entry, write_entry};
+use heard::{AddressEntry, ENTRY_LENGTH, check_address};
+use refusals::Refusal;
 
 // The entry of an address that was never heard.
 #[tactic(auto, unfolding(heard::specs::Heard::no_entry))]
@@ -16,61 +18,42 @@ fn no_entry() -> AddressEntry
         first: 0,
         last: 0,
         times: 0,
-        last_type: LastType::Unseen,
+        last_type: None,
     }
 }
 
-// What the table says of an address.
-#[tactic(auto, unfolding(heard::specs::Heard::lookup_of, heard::specs::Heard::lookup_on))]
-pub fn lookup(table: &[u8], address: u8) -> Found
+/// What the table says of an address: its entry, or none where it was never heard. Refused with 26.
+#[tactic(auto, using(refusals::proofs::Numbers::named_back), unfolding(heard::specs::Heard::lookup_of, heard::specs::Heard::lookup_on, refusals::specs::Refusals::answered))]
+pub fn lookup(table: &[u8], address: u8) -> Result<Option<AddressEntry>, Refusal>
     ensures { result ≡ lookup_of table.now address }
 {
-    let refusal = heard_refusal(address);
-    if refusal != 0 {
-        return Found::Refused(refusal);
-    }
-    let at = ENTRY_LENGTH * (address as usize);
+    check_address(address)?;
+    let at = ENTRY_LENGTH * usize::from(address);
     if table.len() < at + ENTRY_LENGTH {
-        return Found::Never;
+        return Ok(None);
     }
-    let entry = read_entry(&table[at..]);
+    let entry = AddressEntry::read(&table[at..]);
     if entry.times == 0 {
-        return Found::Never;
+        return Ok(None);
     }
-    Found::Heard(entry)
+    Ok(Some(entry))
 }
 
-// The number of what is said of an address: 0 where nothing was refused.
-#[tactic(auto, unfolding(heard::specs::Heard::lookup_number))]
-pub fn lookup_number(found: Found) -> u8
-    ensures { result ≡ lookup_number found }
-{
-    match found {
-        Found::Heard(_) => 0,
-        Found::Never => 0,
-        Found::Refused(refusal) => refusal,
-    }
-}
-
-// The display's summary: writes the entry of an address into the first 17 bytes of `shown`, 17 zero bytes for one that was never
-// heard, and returns 0. Refused with 26, or 18 where `shown` is too short: then nothing is written.
-#[tactic(auto, using(heard::specs::Heard::no_entry, heard::specs::Heard::lookup_number, heard::specs::Heard::shown_of, heard::specs::contracts::Found::the_type), unfolding(heard::specs::Heard::summary_number, heard::specs::Heard::summary_into))]
-pub fn summary(table: &[u8], address: u8, shown: &mut [u8]) -> u8
-    ensures value { result ≡ summary_number (lookup_of table.now address) (length shown.old) }
+/// The display's summary: writes the entry of an address into the first 17 bytes of `shown`, 17 zero bytes for one that was never
+/// heard. Refused with 26, or 18 where `shown` is too short: then nothing is written.
+#[tactic(auto, unfolding(heard::specs::Heard::summary_number, heard::specs::Heard::summary_into, heard::specs::Heard::lookup_number, heard::specs::Heard::shown_of))]
+pub fn summary(table: &[u8], address: u8, shown: &mut [u8]) -> Result<(), Refusal>
+    ensures value { number_in result ≡ summary_number (lookup_of table.now address) (length shown.old) }
     ensures shown_after { shown.new ≡ summary_into (lookup_of table.now address) shown.old }
 {
-    let found = lookup(table, address);
-    let refusal = lookup_number(found);
-    if refusal != 0 {
-        return refusal;
-    }
+    let found = lookup(table, address)?;
     if shown.len() < ENTRY_LENGTH {
-        return 18;
+        return Err(Refusal::NoRoom);
     }
-    let Found::Heard(entry) = found else {
-        write_entry(shown, no_entry());
-        return 0;
+    let Some(entry) = found else {
+        no_entry().write(shown);
+        return Ok(());
     };
-    write_entry(shown, entry);
-    0
+    entry.write(shown);
+    Ok(())
 }

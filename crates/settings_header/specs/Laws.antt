@@ -1,37 +1,34 @@
 -- Settings in bytes are the settings by value. Bytes hold settings (`Holds`) where their first 16 are a header's of these settings; what
 -- a setter takes does, and each call on bytes that hold settings answers what the call by value answers, and leaves what it leaves.
-use Rattle.std.specs.Prelude.{ℕ, suc, ◌+◌, ◌-◌, ◌*◌, ◌/◌, ◌^◌, ◌<◌, ◌≤◌, ◌≡◌, true, false, length, take, eqb, ltb}
+use Rattle.std.specs.Prelude.{ℕ, suc, ◌+◌, ◌-◌, ◌*◌, ◌/◌, ◌^◌, ◌<◌, ◌≤◌, ◌≡◌, Option, Some, None, Result, Ok, Err, true, false, length, take, eqb, ltb}
 use Rattle.std.proofs.Math.Path.{refl, sym, ap}
-use Rattle.std.proofs.Common.{subst, ◌∙◌, arith, le-div_iff_mul-le, length-append, length-drop, lit<}
+use Rattle.std.proofs.Common.{subst, ◌∙◌, arith, le-div_iff_mul-le, length-append, lit<}
 use mathlib.Core.List.{List, [], ◌∷◌, ◌++◌}
 use borrow.Author.Tests.{eqb-true, ne_eqb, le-ltb}
 use borrow.Table.Steps.{cases}
 use Rattle.std.proofs.Math.ListN.{drop, get_or}
 use Rattle.std.proofs.Math.Seq.{take-append_seam, drop-append_seam}
 use Rattle.bit_times.proofs.Laws.{listed}
-use Rattle.codec_fields.specs.Fields.{zeros_or14, zero_or14, be, unpack, pack, Within, low_bytes}
+use Rattle.codec_fields.specs.Fields.{zeros_or14, zero_or14, be, unpack, Within}
 use Rattle.codec_fields.proofs.Laws.{unpack_pack}
 use Rattle.codec_slices.proofs.Round.{read_written}
-use Rattle.settings_watchdog.specs.declared.WatchdogFactors.{WatchdogFactors}
-use Rattle.settings_watchdog.specs.declared.WatchdogFactors.TheVariants as wf
-use Rattle.settings_watchdog.specs.Watchdog.{ceil_of, factors_of}
+use Rattle.settings_watchdog.specs.Watchdog.{ceil_of}
 use Rattle.settings_watchdog.proofs.Laws.{factors_given, factors_least}
-use Rattle.settings.specs.declared.Parameters.{Parameters}
-use Rattle.settings.specs.declared.Created.{Created}
-use Rattle.settings.specs.declared.Created.TheVariants as created
-use Rattle.settings.specs.declared.Changed.{Changed}
-use Rattle.settings.specs.declared.Changed.TheVariants as changed
-use Rattle.settings.specs.Settings.{changed_number, changed_settings, default_of, new_at, new_of, unless, slot_bits_of, hsa_of, rotation_of, gap_wait_of, retry_of, min_tsdr_of, with_watchdog, watchdog_at, watchdog_of}
+use Rattle.refusals.specs.declared.refusal.Refusal.{Refusal}
+use Rattle.refusals.specs.Refusals.{named}
+use Rattle.bit_times.specs.declared.baud.Baud.{Baud}
+use Rattle.settings.specs.declared.parameters.Parameters.{Parameters}
+use Rattle.settings.specs.declared.not_set.NotSet.{NotSet}
+use Rattle.settings.specs.Settings.{not_set, changed_number, changed_settings, default_of, new_at, new_of, unless, slot_bits_of, hsa_of, rotation_of, gap_wait_of, retry_of, min_tsdr_of, with_watchdog, watchdog_at, watchdog_of}
 use Rattle.settings.specs.Made.{SoundSettings, by_new}
 use Rattle.settings.proofs.Made.{made_sound}
 use Rattle.settings.proofs.Numbers.{unless_number}
 use Rattle.settings_rules.specs.Rules.{greatest_rotation, address_refusal, baud_refusal, least_of, slot_bits_refusal, hsa_refusal, rotation_refusal, room_refusal, gap_wait_refusal, retry_refusal, min_tsdr_refusal, watchdog_refusal, factors_refusal, applications_refusal, first_of}
 use Rattle.settings_rules.proofs.Laws.{outside_in, in_below, in_outside}
-use Rattle.bit_times.specs.declared.Coded.{Coded}
-use Rattle.bit_times.specs.declared.Coded.TheVariants.{Rate, Unknown}
 use Rattle.bit_times.specs.Times.{least_slot_bits, baud_of}
 use Rattle.settings_build.specs.Build.{early_refusal, first_refusal, build_of, factors_pair, plain_of, finish_of}
 use Rattle.settings_build.specs.Made.{room_of}
+use Rattle.settings_build.proofs.Passes.{whole_numbered}
 use Rattle.settings_build.proofs.Made.{sound_number, sound_built}
 use Rattle.trace_headers.specs.declared.Header.{Header}
 use Rattle.trace_headers.specs.declared.Edition.TheVariants.{First}
@@ -40,8 +37,7 @@ use Rattle.trace_headers.specs.Laws.{made_in, widths_fill}
 use Rattle.trace_headers.specs.Finished.{header_with}
 use Rattle.trace_headers_written.specs.HeaderBytes.{values_in, header_bytes, header_into}
 use Rattle.trace_headers_written.specs.Laws.{header_bytes_length}
-use Rattle.settings_header.specs.SettingsHeader.{with_header_rotation, loosened, with_settings_rotation, settings_in, edition_refusal, lent_refusal, settings_at, stored_after, number_on, bytes_on, set_number, set_into, new_number, new_into, finish_number}
-use Rattle.settings_header.specs.Calls.{new_done}
+use Rattle.settings_header.specs.SettingsHeader.{with_header_rotation, loosened, with_settings_rotation, settings_in, edition_refusal, lent_refusal, settings_at, stored_after, number_on, bytes_on, set_number, set_into, new_refusal, new_bytes, new_number, new_into, finish_number}
 
 -- What is said.
 
@@ -56,7 +52,7 @@ pub data Setting : Type 0 where
   watchdog : ℕ → Setting
 
 -- the setter by value
-abbrev pub by_value : Setting → Parameters → Changed
+abbrev pub by_value : Setting → Parameters → Result Parameters NotSet
 by_value (slot_bits v) p = slot_bits_of p v
 by_value (hsa v) p = hsa_of p v
 by_value (rotation v) p = rotation_of p v
@@ -76,9 +72,9 @@ Typed (min_tsdr v) = v < 2 ^ 8
 Typed (watchdog ms) = Unit {0}
 
 -- no factors, or two of a byte each
-abbrev pub FactorsFit : WatchdogFactors → Type 0
-FactorsFit wf.None = Unit {0}
-FactorsFit (wf.Some f1 f2) = (f1 < 2 ^ 8) × (f2 < 2 ^ 8)
+abbrev pub FactorsFit : Option (ℕ × ℕ) → Type 0
+FactorsFit None = Unit {0}
+FactorsFit (Some (f1, f2)) = (f1 < 2 ^ 8) × (f2 < 2 ^ 8)
 
 -- settings that a header's fields have room for, besides what their rules say
 pub record Fits (p : Parameters) : Type 0 where
@@ -156,9 +152,9 @@ module _ (h : Header) where
 -- Settings and the header that has them.
 
 -- the factors as numbers fit
-factors_fit : (w : WatchdogFactors) → FactorsFit w → ((factors_pair w).0 < 2 ^ 8) × ((factors_pair w).1 < 2 ^ 8)
-factors_fit wf.None f = (lit< tt, lit< tt)
-factors_fit (wf.Some f1 f2) f = f
+factors_fit : (w : Option (ℕ × ℕ)) → FactorsFit w → ((factors_pair w).0 < 2 ^ 8) × ((factors_pair w).1 < 2 ^ 8)
+factors_fit None f = (lit< tt, lit< tt)
+factors_fit (Some (f1, f2)) f = f
 
 -- the same but for the rotation, which is the greatest
 abbrev turned : Parameters → Parameters
@@ -188,11 +184,11 @@ loosened_is : (p : Parameters) (n : ℕ) → SoundSettings p → loosened (heade
 unfolding loosened with_header_rotation plain_of
 loosened_is p n s = rw s.rotation refl
 
-settings_loosened : (h loose : Header) (q : Parameters) → loosened h ≡ loose → header_refusal loose ≡ 0 → build_of loose.settings ≡ created.Accepted q → settings_in h ≡ with_settings_rotation (created.Accepted q) h.settings.token_rotation_bits
+settings_loosened : (h loose : Header) (q : Parameters) → loosened h ≡ loose → header_refusal loose ≡ 0 → build_of loose.settings ≡ Ok q → settings_in h ≡ with_settings_rotation (Ok q) h.settings.token_rotation_bits
 unfolding settings_in
 settings_loosened h loose q is none built = rw (is, none, built) refl
 
-turned_back : (p : Parameters) (n : ℕ) → with_settings_rotation (created.Accepted (turned p)) (header_with p n).settings.token_rotation_bits ≡ created.Accepted p
+turned_back : (p : Parameters) (n : ℕ) → with_settings_rotation (Ok (turned p)) (header_with p n).settings.token_rotation_bits ≡ Ok p
 unfolding with_settings_rotation plain_of
 turned_back p n = refl
 
@@ -248,7 +244,7 @@ module _ (p : Parameters) (n : ℕ) (sound : SoundSettings p) (fits : Fits p) (s
   low = (outside_in 0 p.address 125 1 (lit< tt) sound.address).1
 
   -- its settings are found in it, with or without room for a gap poll
-  settings_found : settings_in (header_with p n) ≡ created.Accepted p
+  settings_found : settings_in (header_with p n) ≡ Ok p
   settings_found =
       let q = turned p in
       let good = turned_sound p sound in
@@ -275,14 +271,14 @@ module _ {s : List ℕ} {p : Parameters} {n : ℕ} (h : Holds s p n) where
   taken = rw (le-ltb (length s) (length_of First) h.whole, edition_held) refl
 
   -- a setter finds the settings in them
-  pub settings_held : settings_at s ≡ created.Accepted p
+  pub settings_held : settings_at s ≡ Ok p
   unfolding settings_at
   settings_held = rw (taken, header_held) (settings_found p n h.sound h.fits h.served)
 
   -- finished, they have the number that the settings have by value: 25 or 0
   pub finishes_alike : finish_number s ≡ changed_number (finish_of p)
   unfolding finish_number finish_of
-  finishes_alike = rw (taken, header_held) (header_number p n h.served ∙ sym (unless_number (first_refusal (plain_of p)) p p))
+  finishes_alike = rw (taken, header_held) (header_number p n h.served ∙ sym (unless_number (first_refusal (plain_of p)) p p (whole_numbered (plain_of p))))
 
 -- A header written.
 
@@ -314,9 +310,9 @@ module _ (s : List ℕ) (with : Header) where
 -- Every setter.
 
 -- what a setter answers settings that a header has: such settings, or a refusal that hands them back
-pub data Answered (p : Parameters) (answer : Changed) : Type 0 where
-  accepted : (q : Parameters) → answer ≡ changed.Accepted q → SoundSettings q → Fits q → Answered p answer
-  refused : (number : ℕ) → answer ≡ changed.Refused number p → Answered p answer
+pub data Answered (p : Parameters) (answer : Result Parameters NotSet) : Type 0 where
+  accepted : (q : Parameters) → answer ≡ Ok q → SoundSettings q → Fits q → Answered p answer
+  refused : (refusal : Refusal) → answer ≡ not_set refusal p → Answered p answer
 
 -- the rotation that an accepted HSA sets is accepted
 hsa_turns : (address v : ℕ) → hsa_refusal address v ≡ 0 → rotation_refusal (v * 5000) ≡ 0
@@ -336,10 +332,10 @@ watchdog_answers p ms s f =
     let r = factors_least ms given.0 given.1 given.2 in
     let whole : 1 * given.0 ≤ ms / 10 + given.0 - 1 = omega (arith, r.from, range.0) in
     let some : 1 ≤ ceil_of (ms / 10) given.0 = (le-div_iff_mul-le r.from).1 whole in
-    accepted (with_watchdog p (wf.Some given.0 given.1)) (rw (t, given.2) refl)
+    accepted (with_watchdog p (Some (given.0, given.1))) (rw (t, given.2) refl)
     (record { address = s.address; slot_bits = s.slot_bits; hsa = s.hsa; rotation = s.rotation; gap_wait = s.gap_wait; retry = s.retry; min_tsdr = s.min_tsdr; watchdog = (r.from, rw r.quotient some) })
     (record { slot = f.slot; tsdr = f.tsdr; factors = (omega (arith, r.before), r.small) }))
-    (λ e. refused (watchdog_refusal ms) (rw e refl))
+    (λ e. refused (named (watchdog_refusal ms)) (rw e refl))
 
 -- settings with other numbers
 abbrev numbered : Parameters → ℕ → ℕ → ℕ → ℕ → ℕ → ℕ → Parameters
@@ -367,7 +363,7 @@ Ruled p turn slot gap top tries tsdr =
     × (min_tsdr_refusal tsdr ≡ 0)
 
 -- a setter that sets numbers
-number_answers : (rule turn slot gap top tries tsdr : ℕ) (p : Parameters) → SoundSettings p → Fits p → (rule ≡ 0 → Ruled p turn slot gap top tries tsdr) → slot < 2 ^ 16 → tsdr < 2 ^ 8 → Answered p (unless rule p (changed.Accepted (numbered p turn slot gap top tries tsdr)))
+number_answers : (rule turn slot gap top tries tsdr : ℕ) (p : Parameters) → SoundSettings p → Fits p → (rule ≡ 0 → Ruled p turn slot gap top tries tsdr) → slot < 2 ^ 16 → tsdr < 2 ^ 8 → Answered p (unless rule p (Ok (numbered p turn slot gap top tries tsdr)))
 unfolding unless
 number_answers rule turn slot gap top tries tsdr p s f ruled l m =
     let q = numbered p turn slot gap top tries tsdr in
@@ -377,7 +373,7 @@ number_answers rule turn slot gap top tries tsdr p s f ruled l m =
     accepted q (rw t refl)
     (record { address = s.address; slot_bits = k.1; hsa = k.3; rotation = k.0; gap_wait = k.2; retry = k.4; min_tsdr = k.5; watchdog = s.watchdog })
     (record { slot = l; tsdr = m; factors = f.factors }))
-    (λ e. refused rule (rw e refl))
+    (λ e. refused (named rule) (rw e refl))
 
 -- every setter answers so
 answers : (c : Setting) (p : Parameters) → Typed c → SoundSettings p → Fits p → Answered p (by_value c p)
@@ -404,7 +400,7 @@ answers (watchdog ms) p t s f = watchdog_answers p ms s f
 
 module _ {s : List ℕ} {p : Parameters} {n : ℕ} (h : Holds s p n) where
   -- what is stored of an answer holds the settings that it has
-  stored_holds : (answer : Changed) → Answered p answer → Holds (stored_after s answer) (changed_settings answer) n
+  stored_holds : (answer : Result Parameters NotSet) → Answered p answer → Holds (stored_after s answer) (changed_settings answer) n
   unfolding stored_after
   stored_holds answer (accepted q is sound fits) =
       rw is
@@ -417,33 +413,33 @@ module _ {s : List ℕ} {p : Parameters} {n : ℕ} (h : Holds s p n) where
         fits = fits;
         served = h.served;
       })
-  stored_holds answer (refused number is) = rw is h
+  stored_holds answer (refused refusal is) = rw is h
 
 -- bytes behind the header stay, whatever they are and whatever the setter answers
-pub set_behind : (set : Parameters → Changed) (s : List ℕ) → drop (length_of First) (set_into set s) ≡ drop (length_of First) s
+pub set_behind : (set : Parameters → Result Parameters NotSet) (s : List ℕ) → drop (length_of First) (set_into set s) ≡ drop (length_of First) s
 unfolding set_into bytes_on stored_after
 set_behind set s = by (settings_at s)
   where
-    after : (answer : Changed) → drop (length_of First) (stored_after s answer) ≡ drop (length_of First) s
-    after (changed.Accepted p) = written_behind s (header_with p (header_of s).applications)
-    after (changed.Refused number p) = refl
+    after : (answer : Result Parameters NotSet) → drop (length_of First) (stored_after s answer) ≡ drop (length_of First) s
+    after (Ok p) = written_behind s (header_with p (header_of s).applications)
+    after (Err not_set) = refl
 
-    by : (found : Created) → drop (length_of First) (bytes_on set s found) ≡ drop (length_of First) s
-    by (created.Accepted p) = after (set p)
-    by (created.Refused number) = refl
+    by : (found : Result Parameters Refusal) → drop (length_of First) (bytes_on set s found) ≡ drop (length_of First) s
+    by (Ok p) = after (set p)
+    by (Err refusal) = refl
 
 -- a refused call writes nothing, whatever the bytes are
-pub refused_untouched : (set : Parameters → Changed) (s : List ℕ) → (set_number set s ≡ 0 → ⊥) → set_into set s ≡ s
+pub refused_untouched : (set : Parameters → Result Parameters NotSet) (s : List ℕ) → (set_number set s ≡ 0 → ⊥) → set_into set s ≡ s
 unfolding set_number set_into number_on bytes_on stored_after
 refused_untouched set s = by (settings_at s)
   where
-    after : (answer : Changed) → (changed_number answer ≡ 0 → ⊥) → stored_after s answer ≡ s
-    after (changed.Accepted p) h = absurd (h refl)
-    after (changed.Refused number p) h = refl
+    after : (answer : Result Parameters NotSet) → (changed_number answer ≡ 0 → ⊥) → stored_after s answer ≡ s
+    after (Ok p) h = absurd (h refl)
+    after (Err not_set) h = refl
 
-    by : (found : Created) → (number_on set found ≡ 0 → ⊥) → bytes_on set s found ≡ s
-    by (created.Accepted p) h = after (set p) h
-    by (created.Refused number) h = refl
+    by : (found : Result Parameters Refusal) → (number_on set found ≡ 0 → ⊥) → bytes_on set s found ≡ s
+    by (Ok p) h = after (set p) h
+    by (Err refusal) h = refl
 
 -- the one law of the seven setters
 pub sets_alike : (c : Setting) (s : List ℕ) (p : Parameters) (n : ℕ) → Typed c → Holds s p n → SetsAlike c s p n
@@ -457,31 +453,41 @@ sets_alike c s p n t h =
 
 -- New settings.
 
-new_at_fits : (address : ℕ) (coded : Coded) (p : Parameters) → new_at address coded ≡ created.Accepted p → Fits p
+new_at_fits : (address : ℕ) (coded : Result Baud Refusal) (p : Parameters) → new_at address coded ≡ Ok p → Fits p
 unfolding new_at
-new_at_fits address (Rate baud) p e =
+new_at_fits address (Ok baud) p e =
     let same : default_of address baud ≡ p = cc in
     subst (λ (q : Parameters). Fits q) same (record { slot = omega (arith, (listed baud).slot_top); tsdr = lit< tt; factors = tt })
-new_at_fits address Unknown p e = let z : ◌≡◌ {A = ℕ} 0 1 = cc in absurd (omega arith)
+new_at_fits address (Err refusal) p e = let z : ◌≡◌ {A = ℕ} 0 1 = cc in absurd (omega arith)
 
-new_fits : (address code : ℕ) (p : Parameters) → new_of address code ≡ created.Accepted p → Fits p
+new_fits : (address code : ℕ) (p : Parameters) → new_of address code ≡ Ok p → Fits p
 unfolding new_of
 new_fits address code p e =
-    cases (eqb (address_refusal address) 0) (λ t. new_at_fits address (baud_of code) p (rw t at e)) (λ f. none (address_refusal address) (rw f at e))
+    cases (eqb (address_refusal address) 0) (λ t. new_at_fits address (baud_of code) p (rw t at e)) (λ f. none (named (address_refusal address)) (rw f at e))
   where
-    none : (number : ℕ) → created.Refused number ≡ created.Accepted p → Fits p
-    none number z = let y : ◌≡◌ {A = ℕ} 0 1 = cc in absurd (omega arith)
+    none : (refusal : Refusal) → ◌≡◌ {A = Result Parameters Refusal} (Err refusal) (Ok p) → Fits p
+    none refusal z = let y : ◌≡◌ {A = ℕ} 0 1 = cc in absurd (omega arith)
+
+-- what new settings return and leave where nothing refuses them
+new_done :
+    (address code n : ℕ) (s : List ℕ) (p : Parameters)
+    → new_of address code ≡ Ok p
+    → applications_refusal n ≡ 0
+    → length_of First ≤ length s
+    → (0 ≡ new_number address code n (length s)) × (header_into s First (header_with p n) ≡ new_into address code n s)
+unfolding new_number new_into new_refusal new_bytes
+new_done address code n s p is h l = rw (is, h, le-ltb (length s) (length_of First) l) (refl, refl)
 
 -- new settings in bytes hold the new settings by value
 pub new_alike :
     (address code n : ℕ) (s : List ℕ) (p : Parameters)
-    → new_of address code ≡ created.Accepted p
+    → new_of address code ≡ Ok p
     → applications_refusal n ≡ 0
     → length_of First ≤ length s
     → (new_number address code n (length s) ≡ 0) × Holds (new_into address code n s) p n × (drop (length_of First) (new_into address code n s) ≡ drop (length_of First) s)
 new_alike address code n s p e a l =
     let with = header_with p n in
-    let done = new_done address code n s p with (header_into s First with) e a l refl refl in (
+    let done = new_done address code n s p e a l in (
       sym done.0,
       subst (λ (x : List ℕ). Holds x p n) done.1
           (record { whole = written_long s with l; begins = written_begins s with l; sound = made_sound (by_new address code e); fits = new_fits address code p e; served = a }),
@@ -491,10 +497,10 @@ new_alike address code n s p e a l =
 -- Factors.
 
 -- a setter keeps the factors
-abbrev KeepsFactors : (Parameters → Changed) → Parameters → Type 0
+abbrev KeepsFactors : (Parameters → Result Parameters NotSet) → Parameters → Type 0
 KeepsFactors set p = (changed_settings (set p)).watchdog_factors ≡ p.watchdog_factors
 
-unless_keeps : (rule : ℕ) (p q : Parameters) → q.watchdog_factors ≡ p.watchdog_factors → (changed_settings (unless rule p (changed.Accepted q))).watchdog_factors ≡ p.watchdog_factors
+unless_keeps : (rule : ℕ) (p q : Parameters) → q.watchdog_factors ≡ p.watchdog_factors → (changed_settings (unless rule p (Ok q))).watchdog_factors ≡ p.watchdog_factors
 unfolding unless
 unless_keeps rule p q e = cases (eqb rule 0) (λ t. rw t e) (λ f. rw f refl)
 

@@ -1,11 +1,10 @@
 -- A header of edition 1 as a settings record in the caller's memory: made new, set by the setters of `settings`, and finished. Assumes
 -- nothing.
-use Rattle.std.specs.Prelude.{ℕ, List, [], ◌∷◌, cond, length, eqb, ltb}
-use Rattle.settings.specs.declared.Parameters.{Parameters}
-use Rattle.settings.specs.declared.Created.{Created}
-use Rattle.settings.specs.declared.Created.TheVariants as created
-use Rattle.settings.specs.declared.Changed.{Changed}
-use Rattle.settings.specs.declared.Changed.TheVariants as changed
+use Rattle.std.specs.Prelude.{ℕ, ◌≡◌, List, Result, Ok, Err, cond, length, eqb, ltb}
+use Rattle.refusals.specs.declared.refusal.Refusal.{Refusal}
+use Rattle.refusals.specs.Refusals.{number_of, number_in, named}
+use Rattle.settings.specs.declared.parameters.Parameters.{Parameters}
+use Rattle.settings.specs.declared.not_set.NotSet.{NotSet}
 use Rattle.settings.specs.Settings.{changed_number, new_of}
 use Rattle.settings_rules.specs.Rules.{greatest_rotation, rotation_refusal, applications_refusal}
 use Rattle.settings_build.specs.Build.{build_of}
@@ -44,9 +43,9 @@ unfoldable pub loosened : Header → Header
 loosened h = cond (eqb (rotation_refusal h.settings.token_rotation_bits) 0) (with_header_rotation h greatest_rotation) h
 
 -- settings with another rotation, where there are settings
-unfoldable pub with_settings_rotation : Created → ℕ → Created
-with_settings_rotation (created.Accepted p) rotation =
-    created.Accepted
+unfoldable pub with_settings_rotation : Result Parameters Refusal → ℕ → Result Parameters Refusal
+with_settings_rotation (Ok p) rotation =
+    Ok
     (record {
       token_rotation_bits = rotation;
       slot_bits = p.slot_bits;
@@ -58,13 +57,13 @@ with_settings_rotation (created.Accepted p) rotation =
       min_tsdr_bits = p.min_tsdr_bits;
       watchdog_factors = p.watchdog_factors;
     })
-with_settings_rotation (created.Refused n) rotation = created.Refused n
+with_settings_rotation (Err refusal) rotation = Err refusal
 
 -- the settings of a header, each field as given, with or without room for a gap poll; or its first refusal for another reason than 25
-unfoldable pub settings_in : Header → Created
+unfoldable pub settings_in : Header → Result Parameters Refusal
 settings_in h =
     cond (eqb (header_refusal (loosened h)) 0) (with_settings_rotation (build_of (loosened h).settings) h.settings.token_rotation_bits)
-    (created.Refused (header_refusal (loosened h)))
+    (Err (named (header_refusal (loosened h))))
 
 -- The record in the caller's bytes.
 
@@ -78,43 +77,53 @@ unfoldable pub lent_refusal : List ℕ → ℕ
 lent_refusal s = cond (ltb (length s) (length_of First)) 17 (edition_refusal (edition_of s))
 
 -- the settings that a setter finds in the bytes, or the number that it is refused with
-unfoldable pub settings_at : List ℕ → Created
-settings_at s = cond (eqb (lent_refusal s) 0) (settings_in (header_of s)) (created.Refused (lent_refusal s))
+unfoldable pub settings_at : List ℕ → Result Parameters Refusal
+settings_at s = cond (eqb (lent_refusal s) 0) (settings_in (header_of s)) (Err (named (lent_refusal s)))
 
 -- A setter on the bytes, over the setter by value: it reads, sets and writes.
 
 -- the bytes after a setter's answer: accepted, the settings are written, the applications and the bytes behind the 16 stay
-unfoldable pub stored_after : List ℕ → Changed → List ℕ
-stored_after s (changed.Accepted p) = header_into s First (header_with p (header_of s).applications)
-stored_after s (changed.Refused n p) = s
+unfoldable pub stored_after : List ℕ → Result Parameters NotSet → List ℕ
+stored_after s (Ok p) = header_into s First (header_with p (header_of s).applications)
+stored_after s (Err not_set) = s
 
 -- by what the bytes hold
-unfoldable pub number_on : (Parameters → Changed) → Created → ℕ
-number_on set (created.Accepted p) = changed_number (set p)
-number_on set (created.Refused n) = n
+unfoldable pub number_on : (Parameters → Result Parameters NotSet) → Result Parameters Refusal → ℕ
+number_on set (Ok p) = changed_number (set p)
+number_on set (Err refusal) = number_of refusal
 
-unfoldable pub bytes_on : (Parameters → Changed) → List ℕ → Created → List ℕ
-bytes_on set s (created.Accepted p) = stored_after s (set p)
-bytes_on set s (created.Refused n) = s
+unfoldable pub bytes_on : (Parameters → Result Parameters NotSet) → List ℕ → Result Parameters Refusal → List ℕ
+bytes_on set s (Ok p) = stored_after s (set p)
+bytes_on set s (Err refusal) = s
 
 -- what a setter's call returns, and the bytes that it leaves
-unfoldable pub set_number : (Parameters → Changed) → List ℕ → ℕ
+unfoldable pub set_number : (Parameters → Result Parameters NotSet) → List ℕ → ℕ
 set_number set s = number_on set (settings_at s)
 
-unfoldable pub set_into : (Parameters → Changed) → List ℕ → List ℕ
+unfoldable pub set_into : (Parameters → Result Parameters NotSet) → List ℕ → List ℕ
 set_into set s = bytes_on set s (settings_at s)
+
+-- A setter that may answer so, where the bytes hold these settings or this refusal: what it returns, and the bytes that it leaves.
+abbrev pub ChangesOn : (Parameters → Result Parameters NotSet → Type 0) → Result Parameters Refusal → List ℕ → Result (Unit {0}) Refusal → List ℕ → Type 0
+ChangesOn may (Ok p) before returned after =
+    (answer : Result Parameters NotSet) × may p answer × (number_in returned ≡ changed_number answer) × (after ≡ stored_after before answer)
+ChangesOn may (Err refusal) before returned after = (number_in returned ≡ number_of refusal) × (after ≡ before)
+
+-- the same for the settings that a setter finds in the bytes
+abbrev pub Changes : (Parameters → Result Parameters NotSet → Type 0) → List ℕ → Result (Unit {0}) Refusal → List ℕ → Type 0
+Changes may before returned after = ChangesOn may (settings_at before) before returned after
 
 -- New and finished.
 
 -- why there are no new settings in so many bytes: 1, 10, then 11, then 18
-unfoldable pub new_refusal : Created → ℕ → ℕ → ℕ
-new_refusal (created.Accepted p) n room = cond (eqb (applications_refusal n) 0) (cond (ltb room (length_of First)) 18 0) (applications_refusal n)
-new_refusal (created.Refused number) n room = number
+unfoldable pub new_refusal : Result Parameters Refusal → ℕ → ℕ → ℕ
+new_refusal (Ok p) n room = cond (eqb (applications_refusal n) 0) (cond (ltb room (length_of First)) 18 0) (applications_refusal n)
+new_refusal (Err refusal) n room = number_of refusal
 
 -- the bytes with new settings
-unfoldable pub new_bytes : Created → ℕ → List ℕ → List ℕ
-new_bytes (created.Accepted p) n s = cond (eqb (applications_refusal n) 0) (header_into s First (header_with p n)) s
-new_bytes (created.Refused number) n s = s
+unfoldable pub new_bytes : Result Parameters Refusal → ℕ → List ℕ → List ℕ
+new_bytes (Ok p) n s = cond (eqb (applications_refusal n) 0) (header_into s First (header_with p n)) s
+new_bytes (Err refusal) n s = s
 
 -- what the call returns, and the bytes that it leaves
 unfoldable pub new_number : ℕ → ℕ → ℕ → ℕ → ℕ

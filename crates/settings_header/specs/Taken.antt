@@ -1,27 +1,23 @@
 -- What a setter takes: whatever bytes it finds settings in hold them, each field as given. So the law of the setters speaks of every
 -- record that a setter takes, one with a pair of factors that no time gives included.
-use Rattle.std.specs.Prelude.{ℕ, zero, suc, ◌^◌, ◌<◌, ◌≤◌, ◌≡◌, refl, List, [], ◌∷◌, true, false, length, take, get_or, eqb, ltb}
+use Rattle.std.specs.Prelude.{ℕ, zero, suc, ◌^◌, ◌<◌, ◌≤◌, ◌≡◌, refl, List, [], ◌∷◌, Option, Some, None, Result, Ok, Err, false, length, take, get_or, eqb, ltb}
 use Rattle.std.proofs.Common.{sym, ap, subst, ◌∙◌, arith, eqb-true, ltb-false, le-ltb, length-take-le}
 use Rattle.std.proofs.lemmas.Bool.{eqb-false}
 use borrow.Table.Steps.{cases}
-use Rattle.bit_times.specs.declared.Coded.{Coded}
-use Rattle.bit_times.specs.declared.Coded.TheVariants.{Rate, Unknown}
 use Rattle.bit_times.proofs.Laws.{listed}
 use Rattle.bit_times.specs.Times.{baud_of}
-use Rattle.codec_fields.specs.Fields.{zeros_or14, zero_or14, be, Bytes}
+use Rattle.codec_fields.specs.Fields.{zero_or14, be, Bytes}
 use Rattle.codec_fields.proofs.Laws.{unpacked_within, zero_fields, never}
 use Rattle.codec_slices.proofs.Round.{written_read}
-use Rattle.settings_watchdog.specs.declared.WatchdogFactors.{WatchdogFactors}
-use Rattle.settings_watchdog.specs.declared.WatchdogFactors.TheVariants as wf
-use Rattle.settings.specs.declared.Parameters.{Parameters}
-use Rattle.settings.specs.declared.Created.{Created}
-use Rattle.settings.specs.declared.Created.TheVariants as created
+use Rattle.refusals.specs.declared.refusal.Refusal.{Refusal}
+use Rattle.refusals.specs.Refusals.{named}
+use Rattle.bit_times.specs.declared.baud.Baud.{Baud}
+use Rattle.settings.specs.declared.parameters.Parameters.{Parameters}
 use Rattle.settings.specs.Made.{Watched, SoundSettings}
 use Rattle.settings_rules.specs.Rules.{address_refusal, baud_refusal, least_of, slot_bits_refusal, hsa_refusal, rotation_refusal, gap_wait_refusal, retry_refusal, min_tsdr_refusal, factors_refusal, applications_refusal, first_of}
 use Rattle.settings_rules.proofs.Laws.{none_refuses}
-use Rattle.settings_build.specs.declared.PlainSettings.{PlainSettings}
+use Rattle.settings_build.specs.declared.plain.PlainSettings.{PlainSettings}
 use Rattle.settings_build.specs.Build.{first_refusal, pair_of, built_at, build_of, factors_pair, plain_of}
-use Rattle.settings_build.specs.Built.{Built}
 use Rattle.settings_build.proofs.Built.{build_accepts}
 use Rattle.trace_headers.specs.declared.Header.{Header}
 use Rattle.trace_headers.specs.declared.Edition.{Edition}
@@ -33,15 +29,15 @@ use Rattle.settings_header.specs.SettingsHeader.{with_header_rotation, loosened,
 use Rattle.settings_header.specs.Laws.{FactorsFit, Fits, Holds, other_refusal, turns, stays, but_25}
 
 -- a refusal is not settings
-not_settings : (n : ℕ) (p : Parameters) → created.Refused n ≡ created.Accepted p → ⊥
-not_settings n p e = let z : ◌≡◌ {A = ℕ} 0 1 = cc in omega arith
+not_settings : (refusal : Refusal) (p : Parameters) → ◌≡◌ {A = Result Parameters Refusal} (Err refusal) (Ok p) → ⊥
+not_settings refusal p e = let z : ◌≡◌ {A = ℕ} 0 1 = cc in omega arith
 
 -- The bytes.
 
-lent_taken : (s : List ℕ) (p : Parameters) → settings_at s ≡ created.Accepted p → (lent_refusal s ≡ 0) × (settings_in (header_of s) ≡ created.Accepted p)
+lent_taken : (s : List ℕ) (p : Parameters) → settings_at s ≡ Ok p → (lent_refusal s ≡ 0) × (settings_in (header_of s) ≡ Ok p)
 unfolding settings_at
 lent_taken s p e =
-    cases (eqb (lent_refusal s) 0) (λ t. (eqb-true (lent_refusal s) 0 t, rw t at e)) (λ f. absurd (not_settings (lent_refusal s) p (rw f at e)))
+    cases (eqb (lent_refusal s) 0) (λ t. (eqb-true (lent_refusal s) 0 t, rw t at e)) (λ f. absurd (not_settings (named (lent_refusal s)) p (rw f at e)))
 
 first_taken : (x : Edition) → edition_refusal x ≡ 0 → x ≡ First
 unfolding edition_refusal
@@ -78,21 +74,21 @@ rotated p turn =
 record Turned (h : Header) (p : Parameters) : Type 0 where
   no_refusal : header_refusal (loosened h) ≡ 0
   roomy : Parameters
-  built : build_of (loosened h).settings ≡ created.Accepted roomy
+  built : build_of (loosened h).settings ≡ Ok roomy
   back : rotated roomy h.settings.token_rotation_bits ≡ p
 
-turned_of : (h : Header) (p : Parameters) → settings_in h ≡ created.Accepted p → Turned h p
+turned_of : (h : Header) (p : Parameters) → settings_in h ≡ Ok p → Turned h p
 unfolding settings_in with_settings_rotation
 turned_of h p e =
     cases (eqb (header_refusal (loosened h)) 0) (λ t. by (eqb-true (header_refusal (loosened h)) 0 t) (build_of (loosened h).settings) refl (rw t at e))
-    (λ f. absurd (not_settings (header_refusal (loosened h)) p (rw f at e)))
+    (λ f. absurd (not_settings (named (header_refusal (loosened h))) p (rw f at e)))
   where
-    same : (q : Parameters) → created.Accepted q ≡ created.Accepted p → q ≡ p
+    same : (q : Parameters) → ◌≡◌ {A = Result Parameters Refusal} (Ok q) (Ok p) → q ≡ p
     same q z = cc
 
-    by : header_refusal (loosened h) ≡ 0 → (x : Created) → build_of (loosened h).settings ≡ x → with_settings_rotation x h.settings.token_rotation_bits ≡ created.Accepted p → Turned h p
-    by none (created.Accepted q) is z = record { no_refusal = none; roomy = q; built = is; back = same _ z }
-    by none (created.Refused n) is z = absurd (not_settings n p z)
+    by : header_refusal (loosened h) ≡ 0 → (x : Result Parameters Refusal) → build_of (loosened h).settings ≡ x → with_settings_rotation x h.settings.token_rotation_bits ≡ Ok p → Turned h p
+    by none (Ok q) is z = record { no_refusal = none; roomy = q; built = is; back = same _ z }
+    by none (Err refusal) is z = absurd (not_settings refusal p z)
 
 -- plain numbers with another rotation
 abbrev plain_turned : PlainSettings → ℕ → PlainSettings
@@ -141,18 +137,18 @@ pair_watched f1 f2 e = cases (eqb f1 0) (λ a. rw a tt) (λ a. rw a (some f1 (eq
     second : eqb f1 0 ≡ false → 1 ≤ f2
     second a = cases (eqb f2 0) (λ b. never 7 (rw (a, b) at e)) (λ b. some f2 (eqb-false f2 0 b))
 
-built_watched : (f : PlainSettings) (p : Parameters) (x : Coded) → factors_refusal f.factor_1 f.factor_2 ≡ 0 → built_at f x ≡ created.Accepted p → Watched p.watchdog_factors
+built_watched : (f : PlainSettings) (p : Parameters) (x : Result Baud Refusal) → factors_refusal f.factor_1 f.factor_2 ≡ 0 → built_at f x ≡ Ok p → Watched p.watchdog_factors
 unfolding built_at
-built_watched f p (Rate baud) e is =
-    let made : created.Accepted (record { token_rotation_bits = f.token_rotation_bits; slot_bits = f.slot_bits; address = f.address; baudrate = baud; gap_wait_rotations = f.gap_wait_rotations; highest_station_address = f.highest_station_address; max_retry_limit = f.max_retry_limit; min_tsdr_bits = f.min_tsdr_bits; watchdog_factors = pair_of f.factor_1 f.factor_2 }) ≡ created.Accepted p = is in
+built_watched f p (Ok baud) e is =
+    let made : ◌≡◌ {A = Result Parameters Refusal} (Ok (record { token_rotation_bits = f.token_rotation_bits; slot_bits = f.slot_bits; address = f.address; baudrate = baud; gap_wait_rotations = f.gap_wait_rotations; highest_station_address = f.highest_station_address; max_retry_limit = f.max_retry_limit; min_tsdr_bits = f.min_tsdr_bits; watchdog_factors = pair_of f.factor_1 f.factor_2 })) (Ok p) = is in
     let same : p ≡ record { token_rotation_bits = f.token_rotation_bits; slot_bits = f.slot_bits; address = f.address; baudrate = baud; gap_wait_rotations = f.gap_wait_rotations; highest_station_address = f.highest_station_address; max_retry_limit = f.max_retry_limit; min_tsdr_bits = f.min_tsdr_bits; watchdog_factors = pair_of f.factor_1 f.factor_2 } = cc in
-    subst (λ (w : WatchdogFactors). Watched w) (sym (ap (λ (q : Parameters). q.watchdog_factors) same)) (pair_watched f.factor_1 f.factor_2 e)
-built_watched f p Unknown e is = absurd (not_settings (baud_refusal Unknown) p is)
+    subst (λ (w : Option (ℕ × ℕ)). Watched w) (sym (ap (λ (q : Parameters). q.watchdog_factors) same)) (pair_watched f.factor_1 f.factor_2 e)
+built_watched f p (Err refusal) e is = absurd (not_settings refusal p is)
 
-watched_taken : (f : PlainSettings) (p : Parameters) → factors_refusal f.factor_1 f.factor_2 ≡ 0 → build_of f ≡ created.Accepted p → Watched p.watchdog_factors
+watched_taken : (f : PlainSettings) (p : Parameters) → factors_refusal f.factor_1 f.factor_2 ≡ 0 → build_of f ≡ Ok p → Watched p.watchdog_factors
 unfolding build_of
 watched_taken f p z e =
-    cases (eqb (first_refusal f) 0) (λ t. built_watched f p (baud_of f.baud_code) z (rw t at e)) (λ t. absurd (not_settings (first_refusal f) p (rw t at e)))
+    cases (eqb (first_refusal f) 0) (λ t. built_watched f p (baud_of f.baud_code) z (rw t at e)) (λ t. absurd (not_settings (named (first_refusal f)) p (rw t at e)))
 
 -- no rule but 25 refuses a header's fields
 record Ruled (h : Header) : Type 0 where
@@ -209,7 +205,7 @@ unfolding plain_of
 sound_numbers p n r w =
     record {
       address = r.address;
-      slot_bits = subst (λ (x : Coded). slot_bits_refusal (least_of x) p.slot_bits ≡ 0) (listed p.baudrate).back r.slot_bits;
+      slot_bits = subst (λ (x : Result Baud Refusal). slot_bits_refusal (least_of x) p.slot_bits ≡ 0) (listed p.baudrate).back r.slot_bits;
       hsa = r.hsa;
       rotation = r.rotation;
       gap_wait = r.gap_wait;
@@ -221,9 +217,9 @@ sound_numbers p n r w =
 -- The header.
 
 -- factors whose numbers are bytes
-pair_fits : (w : WatchdogFactors) → (factors_pair w).0 < 2 ^ 8 → (factors_pair w).1 < 2 ^ 8 → FactorsFit w
-pair_fits wf.None a b = tt
-pair_fits (wf.Some f1 f2) a b = (a, b)
+pair_fits : (w : Option (ℕ × ℕ)) → (factors_pair w).0 < 2 ^ 8 → (factors_pair w).1 < 2 ^ 8 → FactorsFit w
+pair_fits None a b = tt
+pair_fits (Some (f1, f2)) a b = (a, b)
 
 plain_fits : (p : Parameters) (f : PlainSettings) → plain_of p ≡ f → f.slot_bits < 2 ^ 16 → f.min_tsdr_bits < 2 ^ 8 → f.factor_1 < 2 ^ 8 → f.factor_2 < 2 ^ 8 → Fits p
 unfolding plain_of
@@ -263,10 +259,10 @@ header_is h p e z =
     ∙ ap (λ (k : ℕ). record { settings = plain_of p; applications = h.applications; zero_bits = k }) z
 
 -- the theorem: bytes in which a setter finds settings hold them
-pub taken_holds : (s : List ℕ) (p : Parameters) → Bytes s → settings_at s ≡ created.Accepted p → Holds s p (header_of s).applications
+pub taken_holds : (s : List ℕ) (p : Parameters) → Bytes s → settings_at s ≡ Ok p → Holds s p (header_of s).applications
 taken_holds s p are e = record { whole = long; begins = begin; sound = sound; fits = fit; served = good.served }
   where
-    lent : (lent_refusal s ≡ 0) × (settings_in (header_of s) ≡ created.Accepted p)
+    lent : (lent_refusal s ≡ 0) × (settings_in (header_of s) ≡ Ok p)
     lent = lent_taken s p e
 
     long : length_of First ≤ length s

@@ -1,6 +1,6 @@
 -- Each accepted header moves to the other edition and back to the same bytes, and the two say the same. The fields are carried by the
 -- law over lists of widths (codec_slices); here stand the ranges of the rules, which leave each field room in its width.
-use Rattle.std.specs.Prelude.{ℕ, ◌+◌, ◌-◌, ◌*◌, ◌^◌, ◌<◌, ◌≤◌, ◌≡◌, refl, length, eqb, leb}
+use Rattle.std.specs.Prelude.{ℕ, ◌+◌, ◌-◌, ◌^◌, ◌<◌, ◌≤◌, ◌≡◌, refl, length, eqb, leb}
 use Rattle.std.proofs.Common.{sym, ◌∙◌, subst, le_refl, arith, eqb-true, ne_eqb, le-ltb, leb-true, leb-false, take_all, lit<}
 use Rattle.std.proofs.Math.Path.{ap}
 use mathlib.Core.List.{List, [], ◌∷◌}

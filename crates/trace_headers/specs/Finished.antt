@@ -1,9 +1,8 @@
 -- Finished settings and headers: a header with finished settings is accepted; and the header of document 02's site is refused with 25.
-use Rattle.std.specs.Prelude.{ℕ, ◌≡◌, refl, List, [], ◌∷◌}
+use Rattle.std.specs.Prelude.{ℕ, ◌≡◌, refl, List, [], ◌∷◌, Ok}
 use Rattle.bit_times.specs.Times.{baud_of}
 use Rattle.codec_fields.specs.Fields.{zeros_or14, field_of, be_from}
-use Rattle.settings.specs.declared.Parameters.{Parameters}
-use Rattle.settings.specs.declared.Changed.TheVariants as changed
+use Rattle.settings.specs.declared.parameters.Parameters.{Parameters}
 use Rattle.settings_rules.specs.Rules.{refuse_below, refuse_outside, address_refusal, baud_refusal, slot_bits_refusal, hsa_refusal, rotation_refusal, room_refusal, factors_refusal, applications_refusal}
 use Rattle.settings_rules.proofs.Laws.{none_refuses}
 use Rattle.settings_build.specs.Build.{early_refusal, first_refusal, plain_of, finish_of}
@@ -17,7 +16,7 @@ abbrev pub header_with : Parameters → ℕ → Header
 header_with p n = record { settings = plain_of p; applications = n; zero_bits = 0 }
 
 -- finished settings pass the header's check, with any number of applications that is accepted
-pub finished_header : (p q : Parameters) (n : ℕ) → finish_of p ≡ changed.Accepted q → applications_refusal n ≡ 0 → header_refusal (header_with p n) ≡ 0
+pub finished_header : (p q : Parameters) (n : ℕ) → finish_of p ≡ Ok q → applications_refusal n ≡ 0 → header_refusal (header_with p n) ≡ 0
 unfolding header_refusal first_refusal plain_of zeros_or14
 finished_header p q n e a =
     let late = factors_refusal (plain_of p).factor_1 (plain_of p).factor_2 in

@@ -1,10 +1,9 @@
-use Rattle.std.proofs.Common.{◌≤◌, ◌-◌, ◌≡◌, length}
-use Rattle.heard.specs.Heard.{hear_all, consumed_in}
+use Rattle.std.specs.Prelude.{◌≡◌, length}
+use Rattle.heard_telegrams.proofs.Listed.{hear_listed}
 use Rattle.heard_telegrams.proofs.hear_record.Given as goal
 
-abbrev pub invariant-loop-index : goal.invariant-loop-index
-invariant-loop-index l =
-    (l.index ≤ l.consumed) × (length l.table ≡ length l.initial.table) × (l.table ≡ hear_all l.initial.table (consumed_in l.bytes l.applications l.index))
-
-abbrev pub decreases-loop-index : goal.decreases-loop-index
-decreases-loop-index l = l.consumed - l.index
+-- the telegrams that are left make of the table what all of them make of the first
+abbrev pub invariant-loop-telegram : goal.invariant-loop-telegram
+invariant-loop-telegram l =
+    (length l.table ≡ length l.initial.table)
+    × (hear_listed l.table l.clock l.telegram-iterator ≡ hear_listed l.initial.table l.clock l.initial.telegram-iterator)

@@ -10,4 +10,4 @@ pub returns : goal.returns
 unfolding made_in length_of
 returns c =
     let bytes = bytes_known c.args.bytes.now (λ i. omega (arith, c.type_inv.bytes i)) in
-    rw (← read_in First c.args.bytes.now bytes c.requires) (simp (← c.long.ensures, ← c.short.ensures, ← c.byte.ensures, ← c.byte-2.ensures, ← c.byte-3.ensures, ← c.byte-4.ensures, ← c.byte-5.ensures, ← c.byte-6.ensures, ← c.byte-7.ensures, ← c.byte-8.ensures, ← c.byte-9.ensures, ← c.byte-10.ensures))
+    rw (← read_in First c.args.bytes.now bytes c.requires) (simp (← c.field_at.ensures, ← c.field_at-2.ensures, ← c.field_at-3.ensures, ← c.field_at-4.ensures, ← c.field_at-5.ensures, ← c.field_at-6.ensures, ← c.field_at-7.ensures, ← c.field_at-8.ensures, ← c.field_at-9.ensures, ← c.field_at-10.ensures, ← c.field_at-11.ensures, ← c.field_at-12.ensures))

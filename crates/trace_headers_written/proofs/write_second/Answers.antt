@@ -1,5 +1,5 @@
 -- The fields are written one after the other: each call by what it ensures, the last first.
-use Rattle.std.proofs.Common.{arith, rules}
+use Rattle.std.proofs.Common.{rules}
 use Rattle.codec_slices.proofs.Parts.{bytes_known}
 use Rattle.trace_headers.specs.declared.Edition.TheVariants.{Second}
 use Rattle.trace_headers.specs.Headers.{length_of}
@@ -10,5 +10,5 @@ pub returns : goal.returns
 unfolding length_of
 returns c =
     let bytes = bytes_known c.args.out.now (λ i. search rules) in
-    rw (c.put_byte-11.ensures, c.put_byte-10.ensures, c.put_byte-9.ensures, c.put_byte-8.ensures, c.less_one.ensures, c.put_byte-7.ensures, c.put_byte-6.ensures, c.put_byte-5.ensures, c.put_byte-4.ensures, c.put_long.ensures, c.put_short.ensures, c.put_byte-3.ensures, c.put_byte-2.ensures, c.put_byte.ensures)
+    rw (c.put_at-13.ensures, c.put_at-12.ensures, c.put_at-11.ensures, c.put_at-10.ensures, c.saturating_sub.ensures, c.put_at-9.ensures, c.put_at-8.ensures, c.put_at-7.ensures, c.put_at-6.ensures, c.put_at-5.ensures, c.put_at-4.ensures, c.put_at-3.ensures, c.put_at-2.ensures, c.put_at.ensures)
     (written_in Second c.args.header c.args.out.now bytes c.requires)
