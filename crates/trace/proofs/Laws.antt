@@ -1,7 +1,7 @@
 -- The run's loop, turn by turn: where it stands (`Reached`, `Going`), and what each of its ends leaves. Assumes nothing.
-use Rattle.std.specs.Prelude.{ℕ, zero, suc, ◌+◌, ◌-◌, ◌*◌, ◌^◌, ◌<◌, ◌≤◌, ◌≡◌, refl, List, [], ◌∷◌, ◌++◌, Bool, true, false, cond, length, get_or, take, drop, T}
+use Rattle.std.specs.Prelude.{ℕ, zero, suc, ◌+◌, ◌-◌, ◌*◌, ◌^◌, ◌<◌, ◌≤◌, ◌≡◌, refl, List, [], ◌∷◌, ◌++◌, Bool, true, false, cond, length, get_or, take, drop, eqb, T, Some, None, Result, Ok, Err}
 use Rattle.std.proofs.Math.Path.{sym, ap}
-use Rattle.std.proofs.Common.{◌∙◌, subst, append-nil, append_assoc, arith, add-one, add-zero, le_refl, zero-add, take-append-drop, length-drop, length-append, length-take, drop_of_length-le, take_all, drop-drop, drop-cons, lit≤}
+use Rattle.std.proofs.Common.{◌∙◌, subst, append-nil, append_assoc, arith, eqb-true, add-one, add-zero, le_refl, zero-add, take-append-drop, length-drop, length-append, length-take, drop_of_length-le, take_all, drop-drop, drop-cons, lit≤}
 use Rattle.std.proofs.Math.Nat.{sub-zero}
 use borrow.Author.Tests.{lt-ltb, le-ltb, leb-true}
 use borrow.Rule.Slice.PartMut.{put_mid}
@@ -12,17 +12,29 @@ use Rattle.codec_fields.specs.Fields.{bytes_of, stored_of}
 use Rattle.codec_fields.proofs.Stores.{stored_room}
 use Rattle.codec_answers.specs.declared.Answer.{Answer}
 use Rattle.codec_answers.specs.Answers.{answer_word}
-use Rattle.settings.specs.declared.Parameters.{Parameters}
-use Rattle.settings.specs.declared.Created.{Created}
-use Rattle.settings.specs.declared.Created.TheVariants as created
-use Rattle.station.specs.Whole.{Station, Started}
+use Rattle.settings.specs.declared.parameters.Parameters.{Parameters}
+use Rattle.refusals.specs.declared.refusal.Refusal.TheVariants.{TraceLength}
+use Rattle.refusals.specs.Refusals.{named}
+use Rattle.refusals.specs.Refusals.{answered as given}
+use Rattle.settings_rules.specs.Rules.{applications_refusal, factors_refusal}
+use Rattle.settings_rules.proofs.Laws.{none_refuses}
+use Rattle.settings_build.specs.Build.{build_of, early_refusal}
+use Rattle.codec_fields.specs.Fields.{zero_or14}
+use Rattle.trace_headers.specs.Headers.{header_refusal}
+use Rattle.station.specs.declared.station.Station.{Station}
+use Rattle.station.specs.Whole.{Started}
 use Rattle.station.specs.Parts.{fresh_station, new_station}
 use Rattle.station_answer.specs.Answer.{Polled}
-use Rattle.trace.specs.Trace.{settings_of, settings_at, TraceStart, Accepted, Refused, started_with, start_of, Run, ended, answered, run_from, run_of, ran_of, replay_on, replay_of, number_of, written, buffer_of}
+use Rattle.trace.specs.Trace.{settings_of, settings_at, TraceStart, Accepted, Refused, started_with, start_of, start_in, Run, ended, answered, run_from, run_of, ran_of, replay_on, replay_of, number_of, written, buffer_of}
 use Rattle.trace.specs.Entries.{record_length, entry_of}
 use Rattle.trace_headers.specs.declared.Header.{Header}
 use Rattle.trace_headers.specs.Headers.{header_length, header_of}
-use Rattle.trace.specs.Laws.{Going, Reached, preceded_by}
+use Rattle.trace.specs.Laws.{Answering, Going, Reached, preceded_by}
+use Rattle.trace.specs.Taken.{TakesEntry, told}
+use Rattle.trace.proofs.Taken.{whole, cut_short, none_left}
+use Rattle.trace.specs.declared.entries.Entry.{Entry}
+use Rattle.refusals.specs.declared.refusal.Refusal.{Refusal}
+use Rattle.refusals.specs.Refusals.{number_of as refusal_number}
 
 -- nothing is left to answer where no byte is left
 pub run_none : (most : ℕ) (s : Station) (room : ℕ) → run_from most s [] room ≡ ended s 0
@@ -52,44 +64,81 @@ module _ (most : ℕ) (s : Station) (kind : ℕ) (rest : List ℕ) (room : ℕ) 
   run_more h f = rw (le-ltb _ _ h, le-ltb _ _ f)
 
 -- whether settings were accepted
-abbrev is_accepted : Created → Bool
-is_accepted (created.Accepted p) = true
-is_accepted (created.Refused n) = false
+abbrev is_accepted : Result Parameters Refusal → Bool
+is_accepted (Ok p) = true
+is_accepted (Err refusal) = false
+
+-- a test that refuses with any refusal did hold where settings were accepted
+passed : (test : Bool) (x : Result Parameters Refusal) (refusal : Refusal) (p : Parameters) → cond test x (Err refusal) ≡ Ok p → (test ≡ true) × (x ≡ Ok p)
+passed true x refusal p e = (refl, e)
+passed false x refusal p e = absurd (subst T (ap is_accepted (sym e)) tt)
 
 -- a test that refuses did hold where settings were accepted
-test_passed : (test : Bool) (x : Created) (p : Parameters) → cond test x (created.Refused 17) ≡ created.Accepted p → test ≡ true
+test_passed : (test : Bool) (x : Result Parameters Refusal) (p : Parameters) → cond test x (Err TraceLength) ≡ Ok p → test ≡ true
 test_passed true x p e = refl
 test_passed false x p e = absurd (subst T (ap is_accepted (sym e)) tt)
 
 -- settings come only of a trace that has its header and no more than 2^32 bytes
-pub settings_long : (trace : List ℕ) (p : Parameters) → settings_at trace ≡ created.Accepted p → (header_length trace ≤ length trace) × (length trace ≤ 2 ^ 32)
+pub settings_long : (trace : List ℕ) (p : Parameters) → settings_at trace ≡ Ok p → (header_length trace ≤ length trace) × (length trace ≤ 2 ^ 32)
 unfolding settings_at
 settings_long trace p e =
     let h = and_true _ _ (test_passed _ (settings_of (header_of trace)) p e) in
     (leb-true _ _ h.0, leb-true _ _ h.1)
 
+-- the applications of a header that gives settings are taken
+pub settings_applications : (trace : List ℕ) (p : Parameters) → settings_at trace ≡ Ok p → applications_refusal (header_of trace).applications ≡ 0
+unfolding settings_at settings_of header_refusal
+settings_applications trace p e =
+    let h = header_of trace in
+    let given : settings_of h ≡ Ok p = (passed _ (settings_of h) TraceLength p e).1 in
+    let none : header_refusal h ≡ 0 = eqb-true _ _ (passed (eqb (header_refusal h) 0) (build_of h.settings) (named (header_refusal h)) p given).0 in
+    let rest = factors_refusal h.settings.factor_1 h.settings.factor_2 ∷ zero_or14 h.zero_bits ∷ [] in
+    (none_refuses (applications_refusal h.applications) rest (none_refuses (early_refusal h.settings) (applications_refusal h.applications ∷ rest) none).1).0
+
 -- the station that the settings of a trace start
-pub start_settings : (trace : List ℕ) (p : Parameters) → settings_at trace ≡ created.Accepted p → start_of trace ≡ Accepted (fresh_station p (header_of trace).applications)
+pub start_settings : (trace : List ℕ) (p : Parameters) → settings_at trace ≡ Ok p → start_of trace ≡ Accepted (fresh_station p (header_of trace).applications)
 unfolding start_of started_with
 start_settings trace p e = rw e refl
 
 -- and the refusal, where there are none
-pub start_refused : (trace : List ℕ) (n : ℕ) → settings_at trace ≡ created.Refused n → start_of trace ≡ Refused n
+pub start_refused : (trace : List ℕ) (refusal : Refusal) → settings_at trace ≡ Err refusal → start_of trace ≡ Refused (refusal_number refusal)
 unfolding start_of started_with
-start_refused trace n e = rw e refl
+start_refused trace refusal e = rw e refl
 
 -- whether a station was started
 abbrev is_started : TraceStart → Bool
 is_started (Accepted s) = true
 is_started (Refused n) = false
 
+-- what the code gives of a start, where it has the settings and makes the station
+pub start_made : (trace : List ℕ) (p : Parameters) (made : Result Station Refusal) (n : ℕ)
+    → settings_at trace ≡ Ok p
+    → n ≡ (header_of trace).applications
+    → made ≡ given (applications_refusal n) (fresh_station p n)
+    → start_in made ≡ start_of trace
+unfolding given
+start_made trace p made n e en em = rw (em, en, settings_applications trace p e, start_settings trace p e) refl
+
+-- the station that a trace starts has the header's applications
+pub start_applications : (trace : List ℕ) (s : Station) → start_of trace ≡ Accepted s → s.applications ≡ (header_of trace).applications
+unfolding fresh_station
+start_applications trace s e = go (settings_at trace) refl
+  where
+    applications_in : TraceStart → ℕ
+    applications_in (Accepted x) = x.applications
+    applications_in (Refused n) = 0
+
+    go : (x : Result Parameters Refusal) → settings_at trace ≡ x → s.applications ≡ (header_of trace).applications
+    go (Ok p) f = ap applications_in (sym e ∙ start_settings trace p f)
+    go (Err n) f = absurd (subst T (ap is_started (sym e ∙ start_refused trace n f)) tt)
+
 -- a station starts only from a trace that has its header and no more than 2^32 bytes
 pub start_long : (trace : List ℕ) (s : Station) → start_of trace ≡ Accepted s → (header_length trace ≤ length trace) × (length trace ≤ 2 ^ 32)
 start_long trace s e = go (settings_at trace) refl
   where
-    go : (x : Created) → settings_at trace ≡ x → (header_length trace ≤ length trace) × (length trace ≤ 2 ^ 32)
-    go (created.Accepted p) f = settings_long trace p f
-    go (created.Refused n) f = absurd (subst T (ap is_started (sym e ∙ start_refused trace n f)) tt)
+    go : (x : Result Parameters Refusal) → settings_at trace ≡ x → (header_length trace ≤ length trace) × (length trace ≤ 2 ^ 32)
+    go (Ok p) f = settings_long trace p f
+    go (Err n) f = absurd (subst T (ap is_started (sym e ∙ start_refused trace n f)) tt)
 
 -- answers after answers are written after them
 pub written_append : (given more : List Answer) → written (given ++ more) ≡ written given ++ written more
@@ -275,10 +324,56 @@ module _ {fresh : Station} {trace before answers : List ℕ} {station : Station}
       let last = over station 0 (left_none g.reached h) in
       (sym (add-zero (entries * 256)) ∙ last.0, last.1)
 
+-- The loop over the entries that are left.
+
+-- before the first entry
+pub answering_first :
+    (fresh : Station) (trace before : List ℕ)
+    → header_length trace ≤ length trace
+    → length trace ≤ 2 ^ 32
+    → Answering fresh trace before before fresh (drop (header_length trace) trace) 0 0
+answering_first fresh trace before h small =
+    record { few = omega arith; room = omega arith; at = header_length trace; left = refl; going = begins fresh trace before h small }
+
+module _ {fresh : Station} {trace before answers : List ℕ} {station : Station} {rest : List ℕ} {out entries : ℕ} (g : Answering fresh trace before answers station rest out entries) where
+  -- what the loop returns and leaves where the run ends
+  abbrev Ends : ℕ → Type 0
+  Ends number = (number ≡ number_of (ran_of fresh trace (length before))) × (answers ≡ buffer_of (ran_of fresh trace (length before)) before)
+
+  -- the trace ends inside the entry
+  pub answering_cut : (refusal : Refusal) (left : List ℕ) → TakesEntry rest (Some (Err refusal)) left → Ends (entries * 256 + refusal_number refusal)
+  answering_cut refusal left t =
+      let c = cut_short trace rest g.at refusal left g.left t in
+      rw c.number (cut g.going c.some c.short)
+
+  -- there is no room for its answer
+  pub answering_full : (entry : Entry) (left : List ℕ) → TakesEntry rest (Some (Ok entry)) left → length answers - out < 8 → Ends (entries * 256 + 18)
+  answering_full entry left t f =
+      let w = whole trace rest g.at entry left g.left t in
+      full g.going w.some w.fits f
+
+  -- the entry is answered: the loop stands at the next one
+  pub answering_next :
+      (entry : Entry) (left : List ℕ) (polled : Polled) (word : ℕ) (z : List ℕ)
+      → TakesEntry rest (Some (Ok entry)) left
+      → 8 ≤ length answers - out
+      → polled ≡ told station entry
+      → word ≡ answer_word polled.answer
+      → z ≡ stored_of (take (length answers - out) (drop out answers)) 0 8 word
+      → Answering fresh trace before (put_mid out (length answers - out) answers z) polled.station left (out + 8) (entries + 1)
+  answering_next entry left polled word z t f e ew ez =
+      let w = whole trace rest g.at entry left g.left t in
+      let on = next g.going w.some (record_length (get_or trace g.at 0)) polled word z refl w.fits f (e ∙ w.says station) ew ez in
+      record { few = omega (arith, on.begun, on.within, on.small); room = on.room; at = g.at + 1 + record_length (get_or trace g.at 0); left = w.behind; going = on }
+
+  -- no entry is left
+  pub answering_done : (left : List ℕ) → TakesEntry rest None left → Ends (entries * 256)
+  answering_done left t = done g.going (none_left trace rest g.at left g.left t)
+
 -- the replay of a trace with settings is the run of a fresh station with these and the header's applications
 pub replay_settings :
     (trace : List ℕ) (room : ℕ) (p : Parameters) (h : Header) (t : Started)
-    → settings_at trace ≡ created.Accepted p
+    → settings_at trace ≡ Ok p
     → h ≡ header_of trace
     → t ≡ new_station p h.applications
     → replay_of trace room ≡ ran_of t.station trace room

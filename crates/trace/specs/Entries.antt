@@ -1,6 +1,6 @@
 -- An entry of a trace (document 01, "Trace"). Assumes nothing.
 use Rattle.std.specs.Prelude.{ℕ, List, cond, eqb, ltb}
-use Rattle.station.specs.Whole.{Station}
+use Rattle.station.specs.declared.station.Station.{Station}
 use Rattle.station_answer.specs.Answer.{Polled}
 use Rattle.station_poll.specs.Poll.{poll_of}
 use Rattle.station_command.specs.Command.{online_of, offline_of, passive_of}

@@ -1,7 +1,7 @@
 -- Where the run's loop stands, turn by turn: by the run alone, and with the buffer. The laws are in proofs/Laws. Assumes nothing.
 use Rattle.std.specs.Prelude.{ℕ, ◌+◌, ◌-◌, ◌*◌, ◌^◌, ◌≤◌, ◌≡◌, List, ◌++◌, length, take, drop}
 use Rattle.codec_answers.specs.declared.Answer.{Answer}
-use Rattle.station.specs.Whole.{Station}
+use Rattle.station.specs.declared.station.Station.{Station}
 use Rattle.trace.specs.Trace.{Run, run_from, run_of, written}
 use Rattle.trace_headers.specs.Headers.{header_length}
 
@@ -34,3 +34,11 @@ pub record Going (fresh : Station) (trace before answers : List ℕ) (station : 
   pub given : List Answer
   pub stand : written given ≡ take out answers
   pub reached : Reached fresh trace (length before) given station at entries
+
+-- where the loop over the entries that are left stands, with the answers given in the buffer
+pub record Answering (fresh : Station) (trace before answers : List ℕ) (station : Station) (rest : List ℕ) (out entries : ℕ) : Type 0 where
+  pub few : entries ≤ 2 ^ 32
+  pub room : out ≤ length answers
+  pub at : ℕ
+  pub left : rest ≡ drop at trace
+  pub going : Going fresh trace before answers station at out entries

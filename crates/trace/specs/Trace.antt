@@ -1,21 +1,23 @@
 -- A trace (document 01, "Trace"): the station that its header starts, the run over its entries, and what the call leaves.
 -- Assumes nothing.
-use Rattle.std.specs.Prelude.{ℕ, zero, suc, ◌+◌, ◌-◌, ◌*◌, ◌^◌, List, [], ◌∷◌, ◌++◌, Bool, cond, ◌&&◌, length, take, drop, eqb, leb, ltb}
+use Rattle.std.specs.Prelude.{ℕ, zero, suc, ◌+◌, ◌-◌, ◌*◌, ◌^◌, List, [], ◌∷◌, ◌++◌, Bool, cond, ◌&&◌, length, take, drop, eqb, leb, ltb, Result, Ok, Err}
 use Rattle.codec_fields.specs.Fields.{bytes_of}
-use Rattle.settings.specs.declared.Created.{Created}
-use Rattle.settings.specs.declared.Created.TheVariants as created
+use Rattle.refusals.specs.declared.refusal.Refusal.{Refusal}
+use Rattle.refusals.specs.declared.refusal.Refusal.TheVariants.{TraceLength}
+use Rattle.refusals.specs.Refusals.{number_of as refusal_number, named}
+use Rattle.settings.specs.declared.parameters.Parameters.{Parameters}
 use Rattle.settings_build.specs.Build.{build_of}
 use Rattle.codec_answers.specs.declared.Answer.{Answer}
 use Rattle.codec_answers.specs.Answers.{answer_word}
-use Rattle.station.specs.Whole.{Station}
+use Rattle.station.specs.declared.station.Station.{Station}
 use Rattle.station.specs.Parts.{fresh_station}
 use Rattle.trace_headers.specs.declared.Header.{Header}
 use Rattle.trace_headers.specs.Headers.{header_length, header_of, header_refusal}
 use Rattle.trace.specs.Entries.{record_length, entry_of}
 
 -- the settings that a header gives, each field as given; or its first refusal
-unfoldable pub settings_of : Header → Created
-settings_of h = cond (eqb (header_refusal h) 0) (build_of h.settings) (created.Refused (header_refusal h))
+unfoldable pub settings_of : Header → Result Parameters Refusal
+settings_of h = cond (eqb (header_refusal h) 0) (build_of h.settings) (Err (named (header_refusal h)))
 
 -- document 01, "Trace": the bytes of an answer, and the most bytes of a trace
 abbrev pub answer_length : ℕ
@@ -29,8 +31,8 @@ abbrev pub has_header : List ℕ → Bool
 has_header trace = leb (header_length trace) (length trace) && leb (length trace) longest_trace
 
 -- the settings of a trace: 17 where it ends inside its header or has more than 2^32 bytes, before all else
-unfoldable pub settings_at : List ℕ → Created
-settings_at trace = cond (has_header trace) (settings_of (header_of trace)) (created.Refused 17)
+unfoldable pub settings_at : List ℕ → Result Parameters Refusal
+settings_at trace = cond (has_header trace) (settings_of (header_of trace)) (Err TraceLength)
 
 -- the station that is started, or the refusal's number and no station
 pub data TraceStart : Type 0 where
@@ -38,13 +40,18 @@ pub data TraceStart : Type 0 where
   Refused : ℕ → TraceStart
 
 -- a fresh station with these settings and applications, where there are settings
-unfoldable pub started_with : Created → ℕ → TraceStart
-started_with (created.Accepted p) n = Accepted (fresh_station p n)
-started_with (created.Refused refusal) n = Refused refusal
+unfoldable pub started_with : Result Parameters Refusal → ℕ → TraceStart
+started_with (Ok p) n = Accepted (fresh_station p n)
+started_with (Err refusal) n = Refused (refusal_number refusal)
 
 -- the station that a trace starts
 unfoldable pub start_of : List ℕ → TraceStart
 start_of trace = started_with (settings_at trace) (header_of trace).applications
+
+-- the same of what the code gives: a station, or a refusal
+abbrev pub start_in : Result Station Refusal → TraceStart
+start_in (Ok s) = Accepted s
+start_in (Err refusal) = Refused (refusal_number refusal)
 
 -- a run over entries: the answers given, the station after them, and the number that it ended with
 pub record Run : Type 0 where

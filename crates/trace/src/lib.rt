@@ -4,43 +4,41 @@
 #![tactic(auto)]
 
 ghost use Rattle.std.specs.Prelude.{◌≡◌, ◌+◌, ◌*◌, ◌≤◌, ◌^◌, length};
-ghost use Rattle.station.specs.Whole.{station_at};
 ghost use Rattle.station_answer.specs.Answer.{polled_at};
 ghost use Rattle.trace_headers.specs.Headers.{header_length};
-ghost use Rattle.trace.specs.Entries.{record_length, entry_of};
-ghost use Rattle.trace.specs.Trace.{settings_of, settings_at, ran_of, replay_of, number_of, buffer_of};
+ghost use Rattle.trace.specs.Entries.{record_length};
+ghost use Rattle.trace.specs.Taken.{told};
+ghost use Rattle.trace.specs.Trace.{settings_of, settings_at, start_of, start_in, ran_of, replay_of, number_of, buffer_of};
 
+// Public, since the claims of theorem_determined name each contract by its module.
+pub mod entries;
+
+use codec_answers::Answer;
 use codec_fields::store;
-use settings::Created;
+pub use entries::{Entries, Entry};
+use refusals::Refusal;
+use settings::Parameters;
 use station::Station;
-use station_answer::Polled;
 use trace_headers::Header;
 
 // The settings that a header gives, or its first refusal.
-#[tactic(auto, unfolding(crate::specs::Trace::settings_of))]
-pub fn header_settings(header: Header) -> Created
+#[tactic(auto, using(refusals::proofs::Numbers::refused, refusals::proofs::Numbers::named_back), unfolding(crate::specs::Trace::settings_of))]
+pub fn header_settings(header: Header) -> Result<Parameters, Refusal>
     ensures { result ≡ settings_of header }
 {
-    let refusal = trace_headers::header_refusal(header);
-    if refusal == 0 {
-        let fields = header.settings;
-        return fields.build();
-    }
-    Created::Refused(refusal)
+    header.check()?;
+    Parameters::try_from(header.settings)
 }
 
 // The settings of a trace. Refusal 17 where it has fewer bytes than its edition's header or more than 2 to the 32.
 #[tactic(auto, unfolding(crate::specs::Trace::settings_at))]
-pub fn trace_settings(trace: &[u8]) -> Created
+pub fn trace_settings(trace: &[u8]) -> Result<Parameters, Refusal>
     ensures { result ≡ settings_at trace.now }
 {
-    if trace.len() < trace_headers::header_length(trace) {
-        return Created::Refused(17);
+    if trace.len() < trace_headers::header_length(trace) || trace.len() > 4_294_967_296 {
+        return Err(Refusal::TraceLength);
     }
-    if 4294967296 < trace.len() {
-        return Created::Refused(17);
-    }
-    header_settings(trace_headers::read_header(trace))
+    header_settings(trace_headers::Header::read(trace))
 }
 
 // How many bytes of record follow an entry's first byte.
@@ -54,76 +52,63 @@ pub fn record_length(kind: u8) -> usize
     kind as usize
 }
 
-// An entry: online, offline, passive, or a poll of the record.
-#[tactic(auto, unfolding(crate::specs::Entries::entry_of))]
-pub fn answer_entry(station: Station, links: &mut [u8; 252], kind: u8, bytes: &[u8]) -> Polled
-    ensures { polled_at result links.new ≡ entry_of (station_at station links.old) kind bytes.now }
+/// An entry: online, offline, passive, or a poll of the record.
+#[tactic(auto, unfolding(crate::specs::Taken::told))]
+pub fn answer_entry(station: &mut Station, entry: Entry<'_>) -> Answer
+    ensures { polled_at station.new result ≡ told station.old entry.entry }
 {
-    if kind == 0 {
-        return station_command::set_online(station, links);
+    match entry {
+        Entry::Online => station_command::set_online(station),
+        Entry::Offline => station_command::set_offline(station),
+        Entry::Passive => station_command::set_passive(station),
+        Entry::Poll(record) => station_poll::poll(station, record),
     }
-    if kind == 1 {
-        return station_command::set_offline(station, links);
-    }
-    if kind == 2 {
-        return station_command::set_passive(station, links);
-    }
-    station_poll::poll(station, links, bytes)
 }
 
-// Answers the entries after the header one by one, from a fresh station: the tail of the buffer past the answers given is
-// handed on, and the next answer is written at its head.
-#[tactic(auto, using(station::specs::Whole::station_at, crate::proofs::Laws::begins, crate::proofs::Laws::cut, crate::proofs::Laws::full, crate::proofs::Laws::next, crate::proofs::Laws::done))]
-fn run(fresh: Station, links: &mut [u8; 252], trace: &[u8], answers: &mut [u8]) -> u64
+// Answers the entries after the header one by one: the tail of the buffer past the answers given is handed on, and the next
+// answer is written at its head.
+#[tactic(auto, using(crate::proofs::Laws::answering_first, crate::proofs::Laws::answering_cut, crate::proofs::Laws::answering_full, crate::proofs::Laws::answering_next, crate::proofs::Laws::answering_done))]
+fn run(station: &mut Station, trace: &[u8], answers: &mut [u8]) -> u64
     requires { (header_length trace.now ≤ length trace.now) × (length trace.now ≤ 2 ^ 32) }
-    ensures value { result ≡ number_of (ran_of (station_at fresh links.old) trace.now (length answers.old)) }
-    ensures answers_after { answers.new ≡ buffer_of (ran_of (station_at fresh links.old) trace.now (length answers.old)) answers.old }
+    ensures value { result ≡ number_of (ran_of station.old trace.now (length answers.old)) }
+    ensures answers_after { answers.new ≡ buffer_of (ran_of station.old trace.now (length answers.old)) answers.old }
 {
-    let mut station = fresh;
-    let mut at = trace_headers::header_length(trace);
     let mut out: usize = 0;
     let mut entries: u64 = 0;
-    while at < trace.len() {
-        let kind = trace[at];
-        let length = record_length(kind);
-        let begin = at + 1;
-        if trace.len() - begin < length {
-            return entries * 256 + 17;
-        }
+    for entry in Entries::new(&trace[trace_headers::header_length(trace)..]) {
+        let entry = match entry {
+            Ok(entry) => entry,
+            Err(refusal) => return entries * 256 + u64::from(refusal.number()),
+        };
         if answers.len() - out < 8 {
-            return entries * 256 + 18;
+            return entries * 256 + u64::from(Refusal::NoRoom.number());
         }
-        let end = begin + length;
-        let polled = answer_entry(station, links, kind, &trace[begin..end]);
-        store(
-            &mut answers[out..],
-            0,
-            8,
-            codec_answers::pack(polled.answer),
-        );
-        station = polled.station;
-        at = end;
+        let answer = answer_entry(station, entry);
+        store(&mut answers[out..], 0, 8, answer.pack());
         out += 8;
         entries += 1;
     }
     entries * 256
 }
 
-// Replays a trace and returns the entries answered × 256 + the ending number. Each entry's answer stands in the next eight
-// bytes of `answers`; the bytes past them stay as they were.
-#[tactic(auto, using(crate::proofs::Laws::settings_long, crate::proofs::Laws::start_refused, crate::proofs::Laws::replay_settings, crate::proofs::Laws::replay_refused))]
+/// The station that a trace starts, with its header's settings and applications: fresh and offline. Refused with the header's numbers.
+#[tactic(auto, using(crate::proofs::Laws::start_refused, crate::proofs::Laws::start_made), unfolding(station::specs::Parts::new_station))]
+pub fn start(trace: &[u8]) -> Result<Station, Refusal>
+    ensures { start_in result ≡ start_of trace.now }
+{
+    let settings = trace_settings(trace)?;
+    Station::new(settings, Header::read(trace).applications)
+}
+
+/// Replays a trace and returns the entries answered × 256 + the ending number. Each entry's answer stands in the next eight
+/// bytes of `answers`; the bytes past them stay as they were.
+#[tactic(auto, using(crate::proofs::Laws::start_long, crate::proofs::Laws::replay_started, crate::proofs::Laws::replay_refused))]
 pub fn replay_trace(trace: &[u8], answers: &mut [u8]) -> u64
     ensures value { result ≡ number_of (replay_of trace.now (length answers.old)) }
     ensures answers_after { answers.new ≡ buffer_of (replay_of trace.now (length answers.old)) answers.old }
 {
-    let created = trace_settings(trace);
-    match created {
-        Created::Accepted(p) => {
-            let header = trace_headers::read_header(trace);
-            let mut links = [127u8; 252];
-            let started = Station::new(p, header.applications, &mut links);
-            run(started.station, &mut links, trace, answers)
-        }
-        Created::Refused(refusal) => refusal as u64,
+    match start(trace) {
+        Ok(mut station) => run(&mut station, trace, answers),
+        Err(refusal) => u64::from(refusal.number()),
     }
 }

@@ -1,8 +1,8 @@
 -- The counts of a station after a trace (request P6), and what the call leaves of them. Assumes nothing.
 use Rattle.std.specs.Prelude.{ℕ, List, ◌++◌, cond, length, drop, ltb}
 use Rattle.codec_fields.specs.Fields.{low_bytes}
-use Rattle.station.specs.declared.Counts.{Counts}
-use Rattle.station.specs.Whole.{Station}
+use Rattle.station.specs.declared.parts.Counts.{Counts}
+use Rattle.station.specs.declared.station.Station.{Station}
 use Rattle.trace_headers.specs.Headers.{header_length}
 use Rattle.trace.specs.Trace.{TraceStart, Accepted, Refused, start_of, run_of, room_for, whole_number}
 

@@ -4,7 +4,7 @@ use Rattle.std.specs.Prelude.{◌≡◌, length}
 use mathlib.Core.List.{List}
 use Rattle.std.proofs.Math.ListN.{drop}
 use Rattle.codec_answers.specs.declared.Answer.{Answer}
-use Rattle.station.specs.Whole.{Station}
+use Rattle.station.specs.declared.station.Station.{Station}
 use Rattle.heard.specs.Heard.{hear_all}
 use Rattle.trace_headers.specs.Headers.{header_length}
 use Rattle.trace.specs.Trace.{run_of, room_for}

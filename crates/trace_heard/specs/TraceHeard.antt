@@ -2,8 +2,7 @@
 -- telegrams from a record, how many of them are consumed from its answer. Assumes nothing.
 use Rattle.std.specs.Prelude.{ℕ, List, [], ◌∷◌, ◌++◌, cond, take, drop, eqb}
 use Rattle.codec_answers.specs.declared.Answer.{Answer}
-use Rattle.heard.specs.declared.Found.{Found}
-use Rattle.heard.specs.Heard.{entry_length, heard_refusal, Hearing, consumed_in, summary_into}
+use Rattle.heard.specs.Heard.{Found, entry_length, heard_refusal, Hearing, consumed_in, summary_into}
 use Rattle.heard.specs.Afresh.{afresh_of}
 use Rattle.trace_headers.specs.Headers.{header_length, header_of}
 use Rattle.trace.specs.Entries.{record_length}

@@ -1,10 +1,5 @@
-use Rattle.std.proofs.Common.{◌-◌, length}
-use Rattle.station.specs.Whole.{station_at}
-use Rattle.trace_counts.specs.Laws.{Counting}
+use Rattle.trace_counts.specs.Laws.{CountingEntries}
 use Rattle.trace_counts.proofs.count.Given as goal
 
-abbrev pub invariant-loop-at : goal.invariant-loop-at
-invariant-loop-at l = Counting (station_at l.initial.station l.initial.links) l.trace (station_at l.station l.links) l.at l.entries
-
-abbrev pub decreases-loop-at : goal.decreases-loop-at
-decreases-loop-at l = length l.trace - l.at
+abbrev pub invariant-loop-entry : goal.invariant-loop-entry
+invariant-loop-entry l = CountingEntries l.initial.station l.trace l.station l.entry-iterator l.entries

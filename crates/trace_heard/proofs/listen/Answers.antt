@@ -1,21 +1,28 @@
--- At each turn what is left of the run is left to hear (`Listening`).
-use Rattle.trace_heard.proofs.Laws.{heard_cut, heard_next, heard_done}
+-- At each turn what is left of the run is left to hear (`ListeningEntries`).
+use Rattle.std.specs.Prelude.{Result, Some}
+use Rattle.std.proofs.Common.{subst}
+use Rattle.refusals.specs.declared.refusal.Refusal.{Refusal}
+use Rattle.trace.specs.declared.entries.Entry.{Entry}
+use Rattle.trace.specs.Taken.{TakesEntry}
+use Rattle.trace_heard.proofs.Laws.{entries_cut, entries_next, entries_done}
 use Rattle.trace_heard.proofs.listen.Goals as goal
 
-pub returns-then-trace-begin-clause-value : goal.returns-then-trace-begin-clause-value
-returns-then-trace-begin-clause-value c =
-    (heard_cut c.loop-at.invariant c.loop-at-test.true (rw (← c.record_length-length.ensures.0) c.if-trace-begin.true)).0
+pub returns-in-Err-clause-value : goal.returns-in-Err-clause-value
+returns-in-Err-clause-value c =
+    rw (c.from.ensures, c.number.ensures)
+    (entries_cut c.loop-entry.invariant c.in-Err.refusal c.next.new.self (subst (λ (x : Result Entry Refusal). TakesEntry c.loop-entry.entry-iterator (Some x) c.next.new.self) c.in-Err.is c.in-Some.ensures.steps)).0
 
-pub returns-then-trace-begin-clause-table_after : goal.returns-then-trace-begin-clause-table_after
-returns-then-trace-begin-clause-table_after c =
-    (heard_cut c.loop-at.invariant c.loop-at-test.true (rw (← c.record_length-length.ensures.0) c.if-trace-begin.true)).1
+pub returns-in-Err-clause-table_after : goal.returns-in-Err-clause-table_after
+returns-in-Err-clause-table_after c =
+    (entries_cut c.loop-entry.invariant c.in-Err.refusal c.next.new.self (subst (λ (x : Result Entry Refusal). TakesEntry c.loop-entry.entry-iterator (Some x) c.next.new.self) c.in-Err.is c.in-Some.ensures.steps)).1
 
-pub loop-at-preserved : goal.loop-at-preserved
-loop-at-preserved c =
-    heard_next c.loop-at.invariant c.loop-at-test.true _ _ _ c.record_length-length.ensures.0 c.if-trace-begin.false c.answer_entry-polled.ensures c.hear_record.ensures c.hear_record.auto.table
+pub loop-entry-preserved : goal.loop-entry-preserved
+loop-entry-preserved c =
+    entries_next c.loop-entry.invariant c.in-Ok.entry c.next.new.self _ _ _ (subst (λ (x : Result Entry Refusal). TakesEntry c.loop-entry.entry-iterator (Some x) c.next.new.self) c.in-Ok.is c.in-Some.ensures.steps)
+    c.answer_entry-answer.ensures c.record.ensures c.hear_record.ensures c.hear_record.auto.table
 
 pub returns-clause-value : goal.returns-clause-value
-returns-clause-value c = (heard_done c.loop-at.invariant c.loop-at-test.false).0
+returns-clause-value c = (entries_done c.loop-entry.invariant c.next.new.self c.in-None.ensures.steps).0
 
 pub returns-clause-table_after : goal.returns-clause-table_after
-returns-clause-table_after c = (heard_done c.loop-at.invariant c.loop-at-test.false).1
+returns-clause-table_after c = (entries_done c.loop-entry.invariant c.next.new.self c.in-None.ensures.steps).1
