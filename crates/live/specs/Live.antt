@@ -1,15 +1,16 @@
 -- The live door: a station opened by a header, and stepped by one entry at a time (DOORS: open_station, step_station). Assumes nothing.
-use Rattle.std.specs.Prelude.{ℕ, ◌+◌, ◌-◌, ◌*◌, cond, List, length, get_or, take, drop, eqb, ltb}
+use Rattle.std.specs.Prelude.{ℕ, ◌+◌, ◌-◌, ◌*◌, cond, List, length, get_or, take, drop, eqb, ltb, Option, Some, None, Result, Ok, Err}
 use Rattle.codec_fields.specs.Fields.{stored_of}
 use Rattle.codec_answers.specs.Answers.{answer_word}
-use Rattle.station.specs.Whole.{Station}
+use Rattle.refusals.specs.declared.refusal.Refusal.{Refusal as RefusalOf}
+use Rattle.refusals.specs.Refusals.{number_of as refusal_number}
+use Rattle.station.specs.declared.station.Station.{Station}
 use Rattle.station_answer.specs.Answer.{Polled}
 use Rattle.trace_headers.specs.Headers.{header_length, header_of}
 use Rattle.trace.specs.Trace.{settings_of, TraceStart, Accepted, Refused, started_with}
 use Rattle.trace.specs.Entries.{record_length, entry_of}
 use Rattle.live.specs.declared.Consumed.{Consumed}
-use Rattle.live.specs.declared.Done.{Done}
-use Rattle.station_bytes.specs.Bytes.{station_length, Read, Taken, NoStation, read_of, station_into}
+use Rattle.station_bytes.specs.Bytes.{station_length, read_of, station_into}
 
 -- Opened.
 
@@ -50,9 +51,9 @@ step_found s entry room =
     (Answers (entry_of s (get_or entry 0 0) (take (record_length (get_or entry 0 0)) (drop 1 entry))) (1 + record_length (get_or entry 0 0)))))
 
 -- 36 where the bytes are no station, before all else
-unfoldable pub step_on : Read → List ℕ → ℕ → Stepped
-step_on (Taken s) entry room = step_found s entry room
-step_on NoStation entry room = Refusal 36
+unfoldable pub step_on : Option Station → List ℕ → ℕ → Stepped
+step_on (Some s) entry room = step_found s entry room
+step_on None entry room = Refusal 36
 
 unfoldable pub step_of : List ℕ → List ℕ → ℕ → Stepped
 step_of bytes entry room = step_on (read_of bytes) entry room
@@ -71,11 +72,21 @@ unfoldable pub step_answer : Stepped → List ℕ → List ℕ
 step_answer (Refusal n) out = out
 step_answer (Answers polled size) out = stored_of out 0 8 (answer_word polled.answer)
 
--- what an entry consumed: so many telegrams of its record, which speaks for so many applications
-unfoldable pub consumed_for : Polled → Consumed
-consumed_for polled = record { telegrams = polled.answer.consumed; applications = polled.station.applications }
+-- what an entry of so many bytes consumed: so many telegrams of its record, which speaks for so many applications
+unfoldable pub consumed_for : Polled → ℕ → Consumed
+consumed_for polled size = record { size = size; telegrams = polled.answer.consumed; applications = polled.station.applications }
 
--- what a step came to beside its bytes: its number, the entry's bytes and what it consumed; nothing where it refuses
+-- what a step came to beside its bytes: its number, and what it consumed
+pub record Done : Type 0 where
+  pub number : ℕ
+  pub consumed : Option Consumed
+
+-- nothing is consumed where it refuses
 unfoldable pub done_of : Stepped → Done
-done_of (Refusal n) = record { number = n; size = 0; consumed = record { telegrams = 0; applications = 0 } }
-done_of (Answers polled size) = record { number = size * 256; size = size; consumed = consumed_for polled }
+done_of (Refusal n) = record { number = n; consumed = None }
+done_of (Answers polled size) = record { number = size * 256; consumed = Some (consumed_for polled size) }
+
+-- the same of what the code gives: what was consumed, or a refusal
+abbrev pub done_in : Result Consumed RefusalOf → Done
+done_in (Ok consumed) = record { number = consumed.size * 256; consumed = Some consumed }
+done_in (Err refusal) = record { number = refusal_number refusal; consumed = None }

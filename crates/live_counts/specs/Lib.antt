@@ -1,3 +1,1 @@
--- Definitions first, then what the proof uses.
 pub mod LiveCounts
-pub mod Laws

@@ -1,31 +1,28 @@
-// What a station in bytes has counted (request P6), read from its bytes. It leans on station_bytes for the station, on trace_counts for
-// the counts' bytes.
+//! What a station in bytes has counted (request P6), read from its bytes. It leans on station_bytes for the station, on trace_counts for
+//! the counts' bytes.
 #![tactic(auto)]
 
 ghost use Rattle.std.specs.Prelude.{◌≡◌, length};
 ghost use Rattle.station_bytes.specs.Bytes.{read_of};
 ghost use Rattle.live_counts.specs.LiveCounts.{read_counts_number, read_counts_into};
 
-use station_bytes::Reading;
 use trace_counts::COUNTS_LENGTH;
 
-// Writes what the station that bytes are has counted into the first 12 bytes of `counts`, as `trace_counts` writes it, and returns 0.
-// Refused with 36 where the bytes are no station, then 18 where `counts` is too short: then nothing is written.
-#[tactic(auto, unfolding(crate::specs::LiveCounts::read_counts_number, crate::specs::LiveCounts::read_counts_into, station_bytes::specs::Bytes::read_of, station_bytes::specs::Bytes::read_on, trace_counts::specs::TraceCounts::counts_over))]
+/// Writes what the station that bytes are has counted into the first 12 bytes of `counts`, as `trace_counts` writes it, and returns 0.
+/// Refused with 36 where the bytes are no station, then 18 where `counts` is too short: then nothing is written.
+#[tactic(auto, unfolding(crate::specs::LiveCounts::read_counts_number, crate::specs::LiveCounts::read_counts_into, trace_counts::specs::TraceCounts::counts_over))]
 pub fn station_counts(station: &[u8], counts: &mut [u8]) -> u64
     ensures value { result ≡ read_counts_number (read_of station.now) (length counts.old) }
     ensures counts_after { counts.new ≡ read_counts_into (read_of station.now) counts.old }
 {
-    let read = station_bytes::read_station(station);
-    match read {
-        Reading::Is(found) => {
+    match station_bytes::read_station(station) {
+        Some(found) => {
             if counts.len() < COUNTS_LENGTH {
                 return 18;
             }
-            let told = found.counts;
-            trace_counts::write_counts(counts, told);
+            trace_counts::write_counts(counts, found.counts);
             0
         }
-        Reading::Nothing => 36,
+        None => 36,
     }
 }

@@ -1,11 +1,11 @@
 -- What the proof uses: each way in which the call ends. Assumes nothing.
-use Rattle.std.specs.Prelude.{ℕ, ◌-◌, ◌<◌, ◌≤◌, ◌≡◌, List, length, take, drop}
+use Rattle.std.specs.Prelude.{ℕ, ◌-◌, ◌*◌, ◌<◌, ◌≤◌, ◌≡◌, List, length, take, drop, Option, Some, None}
 use Rattle.std.proofs.Math.Path.{refl, ap}
 use Rattle.std.proofs.Common.{◌∙◌, arith, lt-ltb, le-ltb}
 use Rattle.heard.specs.Heard.{hear_all, consumed_in}
 use Rattle.heard.specs.Afresh.{table_length}
-use Rattle.live.specs.declared.Done.{Done}
-use Rattle.live.specs.Live.{Stepped, Refusal, Answers, step_of, step_number, step_into, step_answer, consumed_for, done_of}
+use Rattle.live.specs.declared.Consumed.{Consumed}
+use Rattle.live.specs.Live.{Stepped, Refusal, Answers, step_of, step_number, step_into, step_answer, consumed_for, Done, done_of}
 use Rattle.live.specs.Laws.{Refuses, Begins, no_room_refuses, step_begins, done_number}
 use Rattle.live_heard.specs.LiveHeard.{step_beside, step_table}
 
@@ -24,28 +24,32 @@ unfolding step_answer step_table
 refuses_leaves (Refusal n) entry answer table r = (refl, refl)
 refuses_leaves (Answers polled size) entry answer table r = absurd r
 
--- What is done ends within the entry's bytes; where it has none the step refuses, else its record stands behind the first of them.
+-- What is consumed ends within the entry's bytes, and its record stands behind the first of them; a refusal leaves the table.
 module _ (entry table : List ℕ) where
-  pub done_within : (x : Stepped) (d : Done) → d ≡ done_of x → Begins entry x → d.size ≤ length entry
-  unfolding done_of
-  done_within (Refusal n) d e b = rw e (omega arith)
-  done_within (Answers polled size) d e b = rw e b.1
+  abbrev size_in : Option Consumed → ℕ
+  size_in None = 0
+  size_in (Some c) = c.size
 
-  pub done_refused : (x : Stepped) (d : Done) → d ≡ done_of x → Begins entry x → d.size ≡ 0 → table ≡ step_table x entry table
+  abbrev fed_by : Option Consumed → List ℕ
+  fed_by None = table
+  fed_by (Some c) = hear_all table (consumed_in (take (c.size - 1) (drop 1 entry)) c.applications c.telegrams)
+
+  pub done_within : (x : Stepped) (c : Consumed) → record { number = c.size * 256; consumed = Some c } ≡ done_of x → Begins entry x → (1 ≤ c.size) × (c.size ≤ length entry)
+  unfolding done_of consumed_for
+  done_within (Refusal n) c e b = absurd (cc (ap (λ (z : Done). z.consumed) e))
+  done_within (Answers polled size) c e b =
+      let s : c.size ≡ size = ap (λ (z : Done). size_in z.consumed) e in
+      (omega (arith, s, b.0), omega (arith, s, b.1))
+
+  pub done_refused : (x : Stepped) (n : ℕ) → record { number = n; consumed = None } ≡ done_of x → table ≡ step_table x entry table
   unfolding done_of step_table
-  done_refused (Refusal n) d e b none = refl
-  done_refused (Answers polled size) d e b none = absurd (omega (arith, b.0, none, ap (λ (z : Done). z.size) e))
+  done_refused (Refusal m) n e = refl
+  done_refused (Answers polled size) n e = absurd (cc (ap (λ (z : Done). z.consumed) e))
 
-  pub done_heard :
-      (x : Stepped) (d : Done) (z : List ℕ)
-      → d ≡ done_of x
-      → (d.size ≡ 0 → ⊥)
-      → z ≡ hear_all table (consumed_in (take (d.size - 1) (drop 1 entry)) d.consumed.applications d.consumed.telegrams)
-      → z ≡ step_table x entry table
+  pub done_heard : (x : Stepped) (c : Consumed) (z : List ℕ) → record { number = c.size * 256; consumed = Some c } ≡ done_of x → z ≡ fed_by (Some c) → z ≡ step_table x entry table
   unfolding done_of step_table consumed_for
-  done_heard (Refusal n) d z e some is = absurd (some (ap (λ (y : Done). y.size) e))
-  done_heard (Answers polled size) d z e some is =
-      is ∙ ap (λ (y : Done). hear_all table (consumed_in (take (y.size - 1) (drop 1 entry)) y.consumed.applications y.consumed.telegrams)) e
+  done_heard (Refusal n) c z e is = absurd (cc (ap (λ (y : Done). y.consumed) e))
+  done_heard (Answers polled size) c z e is = is ∙ ap (λ (y : Done). fed_by y.consumed) e
 
 -- The call's ends: what it returns, and what it leaves of the station, the answer and the table.
 module _ (station entry answer table : List ℕ) where
@@ -65,23 +69,20 @@ module _ (station entry answer table : List ℕ) where
   ends_short n after l a b =
       rw (beside_short station entry (length answer) (length table) l) (a, (b, refuses_leaves (step_of station entry 0) entry answer table (no_room_refuses station entry)))
 
-  module _ (d : Done) (after said : List ℕ) (l : table_length ≤ length table) (e : d ≡ done_of (step_of station entry (length answer))) (a : after ≡ step_into (step_of station entry (length answer)) station) (b : said ≡ step_answer (step_of station entry (length answer)) answer) where
-    -- the entry is within its bytes
-    pub ends_within : d.size ≤ length entry
-    ends_within = done_within entry table (step_of station entry (length answer)) d e (step_begins station entry (length answer))
-
+  module _ (after said : List ℕ) (l : table_length ≤ length table) (a : after ≡ step_into (step_of station entry (length answer)) station) (b : said ≡ step_answer (step_of station entry (length answer)) answer) where
     -- the step refuses
-    pub ends_refused : d.size ≡ 0 → Ends d.number after said table
-    ends_refused none =
+    pub ends_refused : (n : ℕ) → record { number = n; consumed = None } ≡ done_of (step_of station entry (length answer)) → Ends n after said table
+    ends_refused n e =
         rw (beside_long station entry (length answer) (length table) l)
-        (done_number (step_of station entry (length answer)) d e, (a, (b, done_refused entry table (step_of station entry (length answer)) d e (step_begins station entry (length answer)) none)))
+        (done_number (step_of station entry (length answer)) _ e, (a, (b, done_refused entry table (step_of station entry (length answer)) n e)))
 
-    -- the table is fed
-    pub ends_heard :
-        (z : List ℕ)
-        → (d.size ≡ 0 → ⊥)
-        → z ≡ hear_all table (consumed_in (take (d.size - 1) (drop 1 entry)) d.consumed.applications d.consumed.telegrams)
-        → Ends d.number after said z
-    ends_heard z some is =
-        rw (beside_long station entry (length answer) (length table) l)
-        (done_number (step_of station entry (length answer)) d e, (a, (b, done_heard entry table (step_of station entry (length answer)) d z e some is)))
+    module _ (c : Consumed) (e : record { number = c.size * 256; consumed = Some c } ≡ done_of (step_of station entry (length answer))) where
+      -- the entry is within its bytes
+      pub ends_within : (1 ≤ c.size) × (c.size ≤ length entry)
+      ends_within = done_within entry table (step_of station entry (length answer)) c e (step_begins station entry (length answer))
+
+      -- the table is fed
+      pub ends_heard : (z : List ℕ) → z ≡ hear_all table (consumed_in (take (c.size - 1) (drop 1 entry)) c.applications c.telegrams) → Ends (c.size * 256) after said z
+      ends_heard z is =
+          rw (beside_long station entry (length answer) (length table) l)
+          (done_number (step_of station entry (length answer)) _ e, (a, (b, done_heard entry table (step_of station entry (length answer)) c z e is)))

@@ -1,22 +1,17 @@
 -- A station as bytes (the live door): ten words, then the set of its ring's members, 96 bytes. Assumes nothing.
-use Rattle.std.specs.Prelude.{ℕ, ◌+◌, Bool, true, false, cond, List, [], ◌∷◌, ◌++◌, length, take, drop, ltb}
+use Rattle.std.specs.Prelude.{ℕ, ◌+◌, Bool, true, false, cond, List, [], ◌∷◌, ◌++◌, length, take, drop, ltb, Option, Some, None, Result, Ok, Err}
 use Rattle.codec_fields.specs.Fields.{bytes_of, load_of, stored_of}
-use Rattle.settings.specs.declared.Parameters.{Parameters}
-use Rattle.settings.specs.declared.Created.{Created}
-use Rattle.settings.specs.declared.Created.TheVariants as created
+use Rattle.settings.specs.declared.parameters.Parameters.{Parameters}
+use Rattle.refusals.specs.declared.refusal.Refusal.{Refusal}
 use Rattle.ring_addresses.specs.Set.{only}
-use Rattle.ring.specs.declared.Head.{Head}
 use Rattle.ring.specs.Ring.{Ring, has, make}
 use Rattle.ring_members.specs.Members.{in_set, set_added, set_bytes}
-use Rattle.station.specs.declared.Station.{Station as StationHead}
-use Rattle.station.specs.Whole.{Station}
+use Rattle.station.specs.declared.station.Station.{Station}
 use Rattle.trace.specs.Trace.{settings_of}
 use Rattle.station_words.specs.declared.Words.{Words}
-use Rattle.station_words.specs.Words.{words_of, state_in, core_in, counts_in, head_in, header_in, same_words}
+use Rattle.station_words.specs.Words.{words_of, state_in, core_in, counts_in, laps_in, ready_in, header_in, same_words}
 use Rattle.station_lines.specs.Lines.{sound_line}
 use Rattle.station_bytes.specs.declared.Five.{Five}
-use Rattle.station_bytes.specs.declared.Reading.{Reading}
-use Rattle.station_bytes.specs.declared.Reading.TheVariants.{Is, Nothing}
 
 -- the bytes of a station
 abbrev pub station_length : ℕ
@@ -55,13 +50,17 @@ words_in bytes =
 abbrev pub set_in : List ℕ → List ℕ
 set_in bytes = take 16 (drop 80 bytes)
 
--- the station that words say, but for its ring's tables, with these settings and n applications
-unfoldable pub head_station : Parameters → ℕ → Words → StationHead
-head_station p n w =
-    record { state = state_in w; core = core_in w; token_ring = head_in w p.address; p = p; counts = counts_in w; applications = n }
+-- the ring of own alone and the set of its members, with these laps
+unfoldable pub ring_in : ℕ → ℕ → Bool → List ℕ → Ring
+ring_in own laps ready set = set_added (make own (only own) laps ready) set 16
+
+-- the station that words and a set of members say, with these settings and n applications
+unfoldable pub station_from : Parameters → ℕ → Words → List ℕ → Station
+station_from p n w set =
+    record { state = state_in w; core = core_in w; token_ring = ring_in p.address (laps_in w) (ready_in w) set; p = p; counts = counts_in w; applications = n }
 
 -- whether a station can be this one, and writes these words
-unfoldable pub words_fit : StationHead → Words → Bool
+unfoldable pub words_fit : Station → Words → Bool
 words_fit s w =
     cond (sound_line s.p s.applications s.state s.core s.token_ring.laps)
     (same_words (words_of s.state s.core s.token_ring.laps s.token_ring.ready s.p s.applications s.counts) w)
@@ -72,44 +71,24 @@ unfoldable pub set_fits : List ℕ → ℕ → Bool
 set_fits set own = cond (in_set set own) (cond (in_set set 126) false (cond (in_set set 127) false true)) false
 
 -- the station that words say, where a station writes them
-unfoldable pub checked_in : StationHead → Words → Reading
-checked_in s w = cond (words_fit s w) (Is s) Nothing
+unfoldable pub checked_in : Station → Words → Option Station
+checked_in s w = cond (words_fit s w) (Some s) None
 
 -- the same, and the set of its members
-unfoldable pub found_with : Parameters → ℕ → Words → List ℕ → Reading
-found_with p n w set = cond (set_fits set p.address) (checked_in (head_station p n w) w) Nothing
+unfoldable pub found_with : Parameters → ℕ → Words → List ℕ → Option Station
+found_with p n w set = cond (set_fits set p.address) (checked_in (station_from p n w set) w) None
 
 -- what words and a set are: none where the settings are refused
-unfoldable pub found_on : Created → ℕ → Words → List ℕ → Reading
-found_on (created.Accepted p) n w set = found_with p n w set
-found_on (created.Refused refusal) n w set = Nothing
+unfoldable pub found_on : Result Parameters Refusal → ℕ → Words → List ℕ → Option Station
+found_on (Ok p) n w set = found_with p n w set
+found_on (Err refusal) n w set = None
 
-unfoldable pub found_in : Words → List ℕ → Reading
+unfoldable pub found_in : Words → List ℕ → Option Station
 found_in w set = found_on (settings_of (header_in w)) (header_in w).applications w set
 
--- what bytes are: none where they are too few
-unfoldable pub found_at : List ℕ → Reading
-found_at bytes = cond (ltb (length bytes) station_length) Nothing (found_in (words_in bytes) (set_in bytes))
-
--- the ring of a head, made of own alone and the set of its members
-unfoldable pub ring_in : Head → List ℕ → Ring
-ring_in h set = set_added (make h.own (only h.own) h.laps h.ready) set 16
-
--- a station of the code with this ring
-abbrev pub ringed : StationHead → Ring → Station
-ringed s r = record { state = s.state; core = s.core; token_ring = r; p = s.p; counts = s.counts; applications = s.applications }
-
--- what bytes are, the ring among it: a station, or none
-pub data Read : Type 0 where
-  Taken : Station → Read
-  NoStation : Read
-
-unfoldable pub read_on : Reading → List ℕ → Read
-read_on (Is s) set = Taken (ringed s (ring_in s.token_ring set))
-read_on Nothing set = NoStation
-
-unfoldable pub read_of : List ℕ → Read
-read_of bytes = read_on (found_at bytes) (set_in bytes)
+-- what bytes are, a station or none: none where they are too few
+unfoldable pub read_of : List ℕ → Option Station
+read_of bytes = cond (ltb (length bytes) station_length) None (found_in (words_in bytes) (set_in bytes))
 
 -- Written.
 

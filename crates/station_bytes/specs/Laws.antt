@@ -11,13 +11,11 @@ use Rattle.ring_links.specs.Links.{listed}
 use Rattle.ring_links.specs.Tables.{length_tab}
 use Rattle.ring_addresses.specs.Set.{only}
 use Rattle.ring_addresses.specs.SetLaws.{true≢false}
-use Rattle.ring.specs.declared.Head.{Head}
-use Rattle.ring.specs.Ring.{Ring, links_of, ring_of, has, make, fresh_of}
+use Rattle.ring.specs.Ring.{Ring, links_of, has, make}
 use Rattle.ring_members.specs.Members.{in_set, set_written, set_over, set_bytes}
 use Rattle.ring_members.proofs.Laws.{members_links}
 use Rattle.ring_members.proofs.Back.{set_is}
-use Rattle.station.specs.declared.Station.{Station as StationHead}
-use Rattle.station.specs.Whole.{Station, station_at}
+use Rattle.station.specs.declared.station.Station.{Station}
 use Rattle.station_words.specs.declared.Words.{Words}
 use Rattle.station_words.specs.Words.{words_of}
 use Rattle.station_bytes.specs.Bytes.{ring_in, stores_from, words_stored, word_list, all_bytes, station_bytes, station_into}
@@ -144,16 +142,17 @@ station_written out s z w f h es ez =
 
 -- so a station is written; and where there are too few bytes nothing is
 pub station_stands :
-    (station : StationHead) (links out s z : List ℕ) (w : Words)
+    (station : Station) (links out s z : List ℕ) (w : Words)
     → 96 ≤ length out
     → w ≡ words_of station.state station.core station.token_ring.laps station.token_ring.ready station.p station.applications station.counts
     → s ≡ words_stored out w
+    → links ≡ station.token_ring.links
     → z ≡ set_over (take 16 (drop 80 s)) (listed links)
-    → put_mid 80 16 s z ≡ station_into out (station_at station links)
+    → put_mid 80 16 s z ≡ station_into out station
 unfolding station_into station_bytes has
-station_stands station links out s z w h ew es ez =
+station_stands station links out s z w h ew es el ez =
     rw (le-ltb (length out) 96 h)
-    (station_written out s z w (listed links) h es ez ∙ ap (λ (v : Words). (all_bytes (word_list v) ++ set_bytes (listed links)) ++ drop 96 out) ew)
+    (station_written out s z w (listed station.token_ring.links) h es (rw (← el) ez) ∙ ap (λ (v : Words). (all_bytes (word_list v) ++ set_bytes (listed station.token_ring.links)) ++ drop 96 out) ew)
 
 pub station_too_long : (s : Station) (out : List ℕ) → length out < 96 → out ≡ station_into out s
 unfolding station_into
@@ -161,21 +160,14 @@ station_too_long s out h = rw (lt-ltb (length out) 96 h) refl
 
 -- The ring.
 
--- the tables of own alone, with another head
-pub fresh_tables : (h r : Head) (links : List ℕ) → ring_of r links ≡ fresh_of h.own → ring_of h links ≡ make h.own (only h.own) h.laps h.ready
-unfolding fresh_of make
-fresh_tables h r links e = ap (λ (x : Ring). record { links = x.links; own = h.own; laps = h.laps; ready = h.ready }) e
-
--- the tables of a set that own is in
+-- the links of a set that own is in
 pub ring_linked :
-    (h : Head) (links set : List ℕ)
-    → cond (ltb h.own 126) (in_set set h.own) false ≡ true
+    (own laps : ℕ) (ready : Bool) (links set : List ℕ)
+    → own < 126
+    → in_set set own ≡ true
     → links ≡ links_of (in_set set)
-    → ring_of h links ≡ ring_in h set
+    → record { links = links; own = own; laps = laps; ready = ready } ≡ ring_in own laps ready set
 unfolding ring_in make
-ring_linked h links set mine is =
-    cases (ltb h.own 126)
-    (λ t.
-    ap (λ (l : List ℕ). record { links = l; own = h.own; laps = h.laps; ready = h.ready }) is
-    ∙ sym (members_links h.own h.laps h.ready set (ltb-true h.own 126 t) (rw t at mine)))
-    (λ f. absurd (true≢false (sym (rw f at mine))))
+ring_linked own laps ready links set low mine is =
+    ap (λ (l : List ℕ). record { links = l; own = own; laps = laps; ready = ready }) is
+    ∙ sym (members_links own laps ready set low mine)

@@ -1,35 +1,19 @@
-// A station as 96 bytes in the caller's memory: ten words, and the set of its ring's members. Written, and read again where a station
-// wrote them. It leans on station_words and ring_members for what the bytes hold, on station_lines for what no station has, on trace for
-// the settings.
+//! A station as 96 bytes in the caller's memory: ten words, and the set of its ring's members. Written, and read again where a station
+//! wrote them. It leans on station_words and ring_members for what the bytes hold, on station_lines for what no station has, on trace for
+//! the settings.
 #![tactic(auto)]
 
 ghost use Rattle.std.specs.Prelude.{◌≡◌, false, cond, [], ◌∷◌, ◌+◌, ◌<◌, ◌≤◌, length, take, drop, ltb};
 ghost use Rattle.codec_fields.specs.Fields.{be, load_of};
-ghost use Rattle.station.specs.Whole.{station_at};
-ghost use Rattle.ring.specs.Ring.{ring_of};
 ghost use Rattle.ring_members.specs.Members.{in_set};
-ghost use Rattle.station_bytes.specs.Bytes.{stores_from, five_in, words_in, head_station, words_fit, set_fits, ring_in, checked_in, found_with, found_in, found_at, words_stored, station_into};
+ghost use Rattle.station_bytes.specs.Bytes.{stores_from, five_in, words_in, station_from, words_fit, set_fits, ring_in, checked_in, found_with, found_in, read_of, words_stored, station_into};
 
 use codec_fields::store;
-use ring::Head;
+use ring::TokenRing;
 use ring_members::in_set;
-use settings::{Created, Parameters};
+use settings::Parameters;
 use station::Station;
 use station_words::Words;
-
-// What bytes are: a station, but for its ring's tables, or none.
-#[derive(Clone, Copy)]
-pub enum Reading {
-    Is(Station),
-    Nothing,
-}
-
-// A byte as a wide number.
-fn wide(b: u8) -> u64
-    ensures { (result ≡ b) × (result < 256) }
-{
-    b as u64
-}
 
 // The number that four bytes from `at` on are, the first the highest.
 #[tactic(auto, using(crate::specs::Laws::four_is))]
@@ -37,10 +21,10 @@ fn four(bytes: &[u8], at: usize) -> u64
     requires { at + 4 ≤ length bytes.now }
     ensures { (result ≡ be (take 4 (drop at bytes.now))) × (result < 4294967296) }
 {
-    wide(bytes[at]) * 16777216
-        + wide(bytes[at + 1]) * 65536
-        + wide(bytes[at + 2]) * 256
-        + wide(bytes[at + 3])
+    u64::from(bytes[at]) * 16777216
+        + u64::from(bytes[at + 1]) * 65536
+        + u64::from(bytes[at + 2]) * 256
+        + u64::from(bytes[at + 3])
 }
 
 // The word of the eight bytes from `at` on. In halves, each a sum: so the compiler makes one load of it.
@@ -99,15 +83,34 @@ fn read_words(bytes: &[u8]) -> Words
     }
 }
 
-// The station that words say, with these settings and so many applications, unchecked.
-#[tactic(auto, unfolding(crate::specs::Bytes::head_station))]
-fn head_station(p: Parameters, applications: u8, words: Words) -> Station
-    ensures { result ≡ head_station p applications words }
+/// The ring with these members: own alone, and then the set added. A set that own is in, as it is in what a station writes, is linked
+/// in one pass.
+#[tactic(auto, using(crate::specs::Laws::ring_linked), unfolding(crate::specs::Bytes::ring_in))]
+pub fn make_ring(own: u8, laps: u16, ready: bool, set: &[u8]) -> TokenRing
+    ensures { result ≡ ring_in own laps ready set.now }
+{
+    if own < 126 && in_set(set, own) {
+        return TokenRing::from_links(ring_members::link_members(set), own, laps, ready);
+    }
+    let mut ring = TokenRing::alone(own, laps, ready);
+    ring_members::add_members(&mut ring, set);
+    ring
+}
+
+// The station that words say, with these settings, so many applications and these members, unchecked.
+#[tactic(auto, unfolding(crate::specs::Bytes::station_from))]
+fn station_from(p: Parameters, applications: u8, words: Words, set: &[u8]) -> Station
+    ensures { result ≡ station_from p applications words set.now }
 {
     Station {
         state: station_words::state_in(words),
         core: station_words::core_in(words),
-        token_ring: station_words::head_in(words, p.address),
+        token_ring: make_ring(
+            p.address,
+            station_words::laps_in(words),
+            station_words::ready_in(words),
+            set,
+        ),
         p,
         counts: station_words::counts_in(words),
         applications,
@@ -116,17 +119,16 @@ fn head_station(p: Parameters, applications: u8, words: Words) -> Station
 
 // Whether a station can be this one, and writes these words.
 #[tactic(auto, unfolding(crate::specs::Bytes::words_fit))]
-fn words_fit(station: Station, words: Words) -> bool
-    ensures { result ≡ words_fit station words }
+fn words_fit(station: &Station, words: Words) -> bool
+    ensures { result ≡ words_fit station.now words }
 {
-    let p = station.p;
-    let state = station.state;
-    let core = station.core;
-    let head = station.token_ring;
-    if station_lines::sound_line(p, station.applications, state, core, head.laps) {
-        return station_words::same_words(station_words::words_of(station), words);
-    }
-    false
+    station_lines::sound_line(
+        station.p,
+        station.applications,
+        station.state,
+        station.core,
+        station.token_ring.laps(),
+    ) && station_words::same_words(station_words::words_of(station), words)
 }
 
 // Whether a station with this address writes this set: its own address is in it, and the two that are none are not.
@@ -134,94 +136,44 @@ fn words_fit(station: Station, words: Words) -> bool
 fn set_fits(set: &[u8], own: u8) -> bool
     ensures { result ≡ set_fits set.now own }
 {
-    if in_set(set, own) {
-        if in_set(set, 126) {
-            return false;
-        }
-        if in_set(set, 127) {
-            return false;
-        }
-        return true;
-    }
-    false
+    in_set(set, own) && !in_set(set, 126) && !in_set(set, 127)
 }
 
-// The station that words say, where a station writes them.
-#[tactic(auto, unfolding(crate::specs::Bytes::checked_in))]
-fn checked_in(station: Station, words: Words) -> Reading
-    ensures { result ≡ checked_in station words }
-{
-    if words_fit(station, words) {
-        return Reading::Is(station);
-    }
-    Reading::Nothing
-}
-
-// The same, and the set of its members.
-#[tactic(auto, unfolding(crate::specs::Bytes::found_with))]
-fn found_with(p: Parameters, applications: u8, words: Words, set: &[u8]) -> Reading
+// The station that words and a set of members say, where a station writes them.
+#[tactic(auto, unfolding(crate::specs::Bytes::found_with, crate::specs::Bytes::checked_in))]
+fn found_with(p: Parameters, applications: u8, words: Words, set: &[u8]) -> Option<Station>
     ensures { result ≡ found_with p applications words set.now }
 {
-    if set_fits(set, p.address) {
-        return checked_in(head_station(p, applications, words), words);
+    if !set_fits(set, p.address) {
+        return None;
     }
-    Reading::Nothing
+    let station = station_from(p, applications, words, set);
+    if words_fit(&station, words) {
+        Some(station)
+    } else {
+        None
+    }
 }
 
 // What words and a set of members are.
 #[tactic(auto, unfolding(crate::specs::Bytes::found_in, crate::specs::Bytes::found_on))]
-fn found_in(words: Words, set: &[u8]) -> Reading
+fn found_in(words: Words, set: &[u8]) -> Option<Station>
     ensures { result ≡ found_in words set.now }
 {
     let header = station_words::header_in(words);
-    let created = trace::header_settings(header);
-    match created {
-        Created::Accepted(p) => found_with(p, header.applications, words, set),
-        Created::Refused(_) => Reading::Nothing,
-    }
+    let p = trace::header_settings(header).ok()?;
+    found_with(p, header.applications, words, set)
 }
 
-// The station that bytes are, but for its ring's tables; or none.
-#[tactic(auto, unfolding(crate::specs::Bytes::found_at))]
-pub fn read_station(bytes: &[u8]) -> Reading
-    ensures { result ≡ found_at bytes.now }
+/// The station that bytes are, or none.
+#[tactic(auto, unfolding(crate::specs::Bytes::read_of))]
+pub fn read_station(bytes: &[u8]) -> Option<Station>
+    ensures { result ≡ read_of bytes.now }
 {
     if bytes.len() < 96 {
-        return Reading::Nothing;
+        return None;
     }
     found_in(read_words(bytes), &bytes[80..96])
-}
-
-// Makes the tables of a ring one by one: own alone, and then the set of its members.
-#[tactic(auto, using(ring_members::specs::Members::set_added, crate::specs::Laws::fresh_tables), unfolding(crate::specs::Bytes::ring_in))]
-fn add_all(head: Head, links: &mut [u8; 252], set: &[u8])
-    ensures { ring_of head links.new ≡ ring_in head set.now }
-{
-    ring::fresh(links, head.own);
-    ring_members::add_members(head, links, set);
-}
-
-// Whether own is an address, and in a set.
-fn own_in(set: &[u8], own: u8) -> bool
-    ensures { result ≡ cond (ltb own 126) (in_set set.now own) false }
-{
-    if own < 126 {
-        return in_set(set, own);
-    }
-    false
-}
-
-// Makes the tables of a ring: own alone, and then the set of its members. A set that own is in, as it is in what a station writes, is
-// linked in one pass.
-#[tactic(auto, using(crate::specs::Laws::ring_linked))]
-pub fn make_ring(head: Head, links: &mut [u8; 252], set: &[u8])
-    ensures { ring_of head links.new ≡ ring_in head set.now }
-{
-    if own_in(set, head.own) {
-        ring_members::link_members(links, set);
-        return;
-    }
-    add_all(head, links, set);
 }
 
 // Writes five words one after the other from `at` on.
@@ -231,14 +183,10 @@ fn write_five(out: &mut [u8], at: usize, a: u64, b: u64, c: u64, d: u64, e: u64)
     ensures { out.new ≡ stores_from at (a ∷ b ∷ c ∷ d ∷ e ∷ []) out.old }
 {
     store(out, at, 8, a);
-    let second = at + 8;
-    store(out, second, 8, b);
-    let third = second + 8;
-    store(out, third, 8, c);
-    let fourth = third + 8;
-    store(out, fourth, 8, d);
-    let fifth = fourth + 8;
-    store(out, fifth, 8, e);
+    store(out, at + 8, 8, b);
+    store(out, at + 16, 8, c);
+    store(out, at + 24, 8, d);
+    store(out, at + 32, 8, e);
 }
 
 // Writes the ten words.
@@ -266,14 +214,14 @@ fn write_words(out: &mut [u8], words: Words)
     );
 }
 
-// Writes a station into the first 96 bytes; every other byte stays, and all do where there are fewer.
-#[tactic(auto, using(station::specs::Whole::station_at, crate::specs::Laws::station_stands, crate::specs::Laws::station_too_long))]
-pub fn write_station(station: Station, links: &[u8; 252], out: &mut [u8])
-    ensures { out.new ≡ station_into out.old (station_at station links.now) }
+/// Writes a station into the first 96 bytes; every other byte stays, and all do where there are fewer.
+#[tactic(auto, using(crate::specs::Laws::station_stands, crate::specs::Laws::station_too_long))]
+pub fn write_station(station: &Station, out: &mut [u8])
+    ensures { out.new ≡ station_into out.old station.now }
 {
     if out.len() < 96 {
         return;
     }
     write_words(out, station_words::words_of(station));
-    ring_members::write_members(links, &mut out[80..96]);
+    ring_members::write_members(station.token_ring.links(), &mut out[80..96]);
 }

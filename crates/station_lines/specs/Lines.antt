@@ -1,48 +1,42 @@
 -- What is asked of a station that is read from bytes, as tests: each is a line of what theorem_sound calls a sound station, and
 -- theorem_live shows that they are the same. Assumes nothing.
-use Rattle.std.specs.Prelude.{ℕ, ◌+◌, ◌-◌, ◌*◌, Bool, true, false, cond, eqb, ltb, leb}
-use Rattle.bit_times.specs.declared.Micros.{Micros}
+use Rattle.std.specs.Prelude.{ℕ, ◌+◌, ◌-◌, ◌*◌, Bool, true, false, cond, eqb, ltb, leb, Option, Some, None}
+use Rattle.bit_times.specs.declared.micros.Micros.{Micros}
 use Rattle.bit_times.specs.Times.{byte_bits, clock_end, time_of}
-use Rattle.settings.specs.declared.Parameters.{Parameters}
+use Rattle.settings.specs.declared.parameters.Parameters.{Parameters}
 use Rattle.settings.specs.Settings.{rotation_time_of}
 use Rattle.settings_rules.specs.Rules.{gap_allowance}
 use Rattle.ring.specs.declared.GapState.{GapState}
 use Rattle.ring.specs.declared.GapState.TheVariants.{Waiting, DoPoll}
-use Rattle.station.specs.declared.Activity.{Activity}
-use Rattle.station.specs.declared.Activity.TheVariants as activity
-use Rattle.station.specs.declared.OptionAddress.{OptionAddress}
-use Rattle.station.specs.declared.OptionAddress.TheVariants as optionAddress
-use Rattle.station.specs.declared.OptionApplication.{OptionApplication}
-use Rattle.station.specs.declared.OptionApplication.TheVariants as optionApplication
-use Rattle.station.specs.declared.PassTokenAttempt.{PassTokenAttempt}
-use Rattle.station.specs.declared.PassTokenAttempt.TheVariants.{First, Second, Third}
-use Rattle.station.specs.declared.UseTokenData.{UseTokenData}
-use Rattle.station.specs.declared.ConnectivityState.{ConnectivityState}
-use Rattle.station.specs.declared.ConnectivityState.TheVariants as connectivity
-use Rattle.station.specs.declared.State.{State}
-use Rattle.station.specs.declared.State.TheVariants.{Offline, ListenToken, ActiveIdle, UseToken, ClaimToken, AwaitDataResponse, PassToken, CheckTokenPass, AwaitStatusResponse, PassiveIdle}
-use Rattle.station.specs.declared.Core.{Core}
+use Rattle.station.specs.declared.state.PassTokenAttempt.{PassTokenAttempt}
+use Rattle.station.specs.declared.state.PassTokenAttempt.TheVariants.{First, Second, Third}
+use Rattle.station.specs.declared.state.UseTokenData.{UseTokenData}
+use Rattle.station.specs.declared.state.ConnectivityState.{ConnectivityState}
+use Rattle.station.specs.declared.state.ConnectivityState.TheVariants as connectivity
+use Rattle.station.specs.declared.state.State.{State}
+use Rattle.station.specs.declared.state.State.TheVariants.{Offline, ListenToken, ActiveIdle, UseToken, ClaimToken, AwaitDataResponse, PassToken, CheckTokenPass, AwaitStatusResponse, PassiveIdle}
+use Rattle.station.specs.declared.parts.Core.{Core}
 use Rattle.station.specs.Parts.{state_number}
 use Rattle.station_words.specs.Words.{activity_known}
 
 -- no address, or one below 128
-unfoldable pub low_line : OptionAddress → Bool
-low_line optionAddress.None = true
-low_line (optionAddress.Some a) = ltb a 128
+unfoldable pub low_line : Option ℕ → Bool
+low_line None = true
+low_line (Some a) = ltb a 128
 
 -- an address below 128 that is not our own
 unfoldable pub apart_line : ℕ → ℕ → Bool
 apart_line a own = cond (eqb a own) false (ltb a 128)
 
 -- no address, or such a one
-unfoldable pub other_line : OptionAddress → ℕ → Bool
-other_line optionAddress.None own = true
-other_line (optionAddress.Some a) own = apart_line a own
+unfoldable pub other_line : Option ℕ → ℕ → Bool
+other_line None own = true
+other_line (Some a) own = apart_line a own
 
 -- no application, or one of n
-unfoldable pub one_line : OptionApplication → ℕ → Bool
-one_line optionApplication.None n = true
-one_line (optionApplication.Some a) n = ltb a n
+unfoldable pub one_line : Option ℕ → ℕ → Bool
+one_line None n = true
+one_line (Some a) n = ltb a n
 
 -- a token in hand: its time is a clock's, its first application one of n
 unfoldable pub held_line : UseTokenData → ℕ → Bool
@@ -50,16 +44,16 @@ held_line held n = cond (ltb held.token_time.0 clock_end) (one_line held.first_a
 
 -- What each state holds; `own` is our own address, `gap` the gap state, `known` says whether the last bus activity is known, `last` is the last token time.
 
-unfoldable pub listens_line : OptionAddress → ℕ → ℕ → Bool
+unfoldable pub listens_line : Option ℕ → ℕ → ℕ → Bool
 listens_line request collisions own = cond (other_line request own) (leb collisions 1) false
 
-unfoldable pub idles_line : OptionAddress → OptionAddress → ℕ → ℕ → Bool → Bool
+unfoldable pub idles_line : Option ℕ → Option ℕ → ℕ → ℕ → Bool → Bool
 idles_line request previous collisions own known = cond known (cond (low_line request) (listens_line previous collisions own) false) false
 
 -- a token with which no application was asked yet
-unfoldable pub unasked_line : OptionApplication → Bool
-unasked_line optionApplication.None = true
-unasked_line (optionApplication.Some a) = false
+unfoldable pub unasked_line : Option ℕ → Bool
+unasked_line None = true
+unasked_line (Some a) = false
 
 unfoldable pub uses_line : Bool → UseTokenData → ℕ → Bool → Micros → Bool
 uses_line cycled held n known last =
@@ -87,9 +81,9 @@ asks_line address gap known = cond known (polled_line gap address) false
 unfoldable pub noted_line : ℕ → ℕ → Bool → Bool
 noted_line source own known = cond known (apart_line source own) false
 
-unfoldable pub rests_line : OptionAddress → ℕ → Bool → Bool
-rests_line optionAddress.None own known = true
-rests_line (optionAddress.Some source) own known = noted_line source own known
+unfoldable pub rests_line : Option ℕ → ℕ → Bool → Bool
+rests_line None own known = true
+rests_line (Some source) own known = noted_line source own known
 
 unfoldable pub state_line : State → ℕ → ℕ → GapState → Bool → Micros → Bool
 state_line Offline own n gap known last = true
@@ -123,9 +117,9 @@ unfoldable pub within_line : ℕ → ℕ → Bool
 within_line last time = ltb last (clock_end + time)
 
 -- the last bus activity is at most the time of 255 bytes after a time of a clock
-unfoldable pub activity_line : Parameters → Activity → Bool
-activity_line p activity.Unknown = true
-activity_line p (activity.At last) = within_line last.0 (time_of (record { 0 = byte_bits * 255 }) p.baudrate).0
+unfoldable pub activity_line : Parameters → Option Micros → Bool
+activity_line p None = true
+activity_line p (Some last) = within_line last.0 (time_of (record { 0 = byte_bits * 255 }) p.baudrate).0
 
 -- no token was used yet
 unfoldable pub no_token : Micros → Micros → Bool

@@ -1,6 +1,5 @@
-// Which states, cores and laps a station has, asked line by line: what a poll or a command never makes is refused. theorem_live shows
-// that these lines are those of a sound station. It leans on station and settings for what is asked, and on station_words for whether
-// the last bus activity is known.
+//! Which states, cores and laps a station has, asked line by line: what a poll or a command never makes is refused. theorem_live shows
+//! that these lines are those of a sound station. It leans on station and settings for what is asked.
 #![tactic(auto)]
 
 ghost use Rattle.std.specs.Prelude.{◌≡◌};
@@ -10,20 +9,19 @@ use bit_times::{Bits, Micros};
 use ring::GapState;
 use settings::Parameters;
 use settings_rules::GAP_ALLOWANCE;
-use station::{
-    Activity, ConnectivityState, Core, OptionAddress, OptionApplication, PassTokenAttempt, State,
-    UseTokenData, state_number,
-};
-use station_words::activity_known;
+use station::{ConnectivityState, Core, PassTokenAttempt, State, UseTokenData};
+
+// Where the clock ends.
+const CLOCK_END: u64 = 281_474_976_710_656;
 
 // No address, or one below 128.
 #[tactic(auto, unfolding(crate::specs::Lines::low_line))]
-fn low_line(address: OptionAddress) -> bool
+fn low_line(address: Option<u8>) -> bool
     ensures { result ≡ low_line address }
 {
     match address {
-        OptionAddress::None => true,
-        OptionAddress::Some(a) => a < 128,
+        None => true,
+        Some(a) => a < 128,
     }
 }
 
@@ -32,31 +30,28 @@ fn low_line(address: OptionAddress) -> bool
 fn apart_line(address: u8, own: u8) -> bool
     ensures { result ≡ apart_line address own }
 {
-    if address == own {
-        return false;
-    }
-    address < 128
+    address != own && address < 128
 }
 
 // No address, or such a one.
 #[tactic(auto, unfolding(crate::specs::Lines::other_line))]
-fn other_line(address: OptionAddress, own: u8) -> bool
+fn other_line(address: Option<u8>, own: u8) -> bool
     ensures { result ≡ other_line address own }
 {
     match address {
-        OptionAddress::None => true,
-        OptionAddress::Some(a) => apart_line(a, own),
+        None => true,
+        Some(a) => apart_line(a, own),
     }
 }
 
 // No application, or one of so many.
 #[tactic(auto, unfolding(crate::specs::Lines::one_line))]
-fn one_line(application: OptionApplication, applications: u8) -> bool
+fn one_line(application: Option<u8>, applications: u8) -> bool
     ensures { result ≡ one_line application applications }
 {
     match application {
-        OptionApplication::None => true,
-        OptionApplication::Some(a) => a < applications,
+        None => true,
+        Some(a) => a < applications,
     }
 }
 
@@ -65,54 +60,37 @@ fn one_line(application: OptionApplication, applications: u8) -> bool
 fn held_line(token: UseTokenData, applications: u8) -> bool
     ensures { result ≡ held_line token applications }
 {
-    let time = token.token_time;
-    let first = token.first_app;
-    if time.0 < 281474976710656 {
-        return one_line(first, applications);
-    }
-    false
+    token.token_time.0 < CLOCK_END && one_line(token.first_app, applications)
 }
 
 // ListenToken: another station's address, and at most one collision.
 #[tactic(auto, unfolding(crate::specs::Lines::listens_line))]
-fn listens_line(request: OptionAddress, collisions: u8, own: u8) -> bool
+fn listens_line(request: Option<u8>, collisions: u8, own: u8) -> bool
     ensures { result ≡ listens_line request collisions own }
 {
-    if other_line(request, own) {
-        return collisions <= 1;
-    }
-    false
+    other_line(request, own) && collisions <= 1
 }
 
 // ActiveIdle: the remembered station is another one, who asked may be any, and the last bus activity is known.
 #[tactic(auto, unfolding(crate::specs::Lines::idles_line))]
 fn idles_line(
-    request: OptionAddress,
-    previous: OptionAddress,
+    request: Option<u8>,
+    previous: Option<u8>,
     collisions: u8,
     own: u8,
     known: bool,
 ) -> bool
     ensures { result ≡ idles_line request previous collisions own known }
 {
-    if known {
-        if low_line(request) {
-            return listens_line(previous, collisions, own);
-        }
-        return false;
-    }
-    false
+    known && low_line(request) && listens_line(previous, collisions, own)
 }
 
 // With a token no application was asked yet.
 #[tactic(auto, unfolding(crate::specs::Lines::unasked_line))]
-fn unasked_line(first: OptionApplication) -> bool
+fn unasked_line(first: Option<u8>) -> bool
     ensures { result ≡ unasked_line first }
 {
-    match first {
-        OptionApplication::None => true,
-        OptionApplication::Some(_) => false,
-    }
+    first.is_none()
 }
 
 // UseToken: the token in hand is the last token, once its first cycle is done; before that it is a new one.
@@ -120,18 +98,13 @@ fn unasked_line(first: OptionApplication) -> bool
 fn uses_line(cycled: bool, token: UseTokenData, applications: u8, known: bool, last: Micros) -> bool
     ensures { result ≡ uses_line cycled token applications known last }
 {
-    if known {
-        if held_line(token, applications) {
-            if cycled {
-                let time = token.token_time;
-                return time.0 == last.0;
-            }
-            let first = token.first_app;
-            return unasked_line(first);
+    known
+        && held_line(token, applications)
+        && if cycled {
+            token.token_time.0 == last.0
+        } else {
+            unasked_line(token.first_app)
         }
-        return false;
-    }
-    false
 }
 
 // AwaitDataResponse: and an address below 128 is to answer.
@@ -145,10 +118,7 @@ fn awaits_line(
 ) -> bool
     ensures { result ≡ awaits_line address token applications known last }
 {
-    if address < 128 {
-        return uses_line(true, token, applications, known, last);
-    }
-    false
+    address < 128 && uses_line(true, token, applications, known, last)
 }
 
 // ClaimToken: the first token is sent.
@@ -156,10 +126,7 @@ fn awaits_line(
 fn claims_line(first: bool, known: bool) -> bool
     ensures { result ≡ claims_line first known }
 {
-    if first {
-        return false;
-    }
-    known
+    !first && known
 }
 
 // PassToken: at its first attempt.
@@ -167,11 +134,7 @@ fn claims_line(first: bool, known: bool) -> bool
 fn passes_line(attempt: PassTokenAttempt, known: bool) -> bool
     ensures { result ≡ passes_line attempt known }
 {
-    match attempt {
-        PassTokenAttempt::First => known,
-        PassTokenAttempt::Second => false,
-        PassTokenAttempt::Third => false,
-    }
+    known && matches!(attempt, PassTokenAttempt::First)
 }
 
 // Whether this is the address that the gap state polls.
@@ -179,10 +142,7 @@ fn passes_line(attempt: PassTokenAttempt, known: bool) -> bool
 fn polled_line(gap: GapState, address: u8) -> bool
     ensures { result ≡ polled_line gap address }
 {
-    match gap {
-        GapState::Waiting { .. } => false,
-        GapState::DoPoll { current_address } => current_address == address,
-    }
+    matches!(gap, GapState::DoPoll { current_address } if current_address == address)
 }
 
 // AwaitStatusResponse: the status of the address that the gap state polls.
@@ -190,10 +150,7 @@ fn polled_line(gap: GapState, address: u8) -> bool
 fn asks_line(address: u8, gap: GapState, known: bool) -> bool
     ensures { result ≡ asks_line address gap known }
 {
-    if known {
-        return polled_line(gap, address);
-    }
-    false
+    known && polled_line(gap, address)
 }
 
 // Another station's request that is noted: the last bus activity is known.
@@ -201,20 +158,17 @@ fn asks_line(address: u8, gap: GapState, known: bool) -> bool
 fn noted_line(source: u8, own: u8, known: bool) -> bool
     ensures { result ≡ noted_line source own known }
 {
-    if known {
-        return apart_line(source, own);
-    }
-    false
+    known && apart_line(source, own)
 }
 
 // PassiveIdle, with a request or with none.
 #[tactic(auto, unfolding(crate::specs::Lines::rests_line))]
-fn rests_line(request: OptionAddress, own: u8, known: bool) -> bool
+fn rests_line(request: Option<u8>, own: u8, known: bool) -> bool
     ensures { result ≡ rests_line request own known }
 {
     match request {
-        OptionAddress::None => true,
-        OptionAddress::Some(source) => noted_line(source, own, known),
+        None => true,
+        Some(source) => noted_line(source, own, known),
     }
 }
 
@@ -267,10 +221,7 @@ fn state_line(
 fn in_gap_line(p: Parameters, address: u8) -> bool
     ensures { result ≡ in_gap_line p address }
 {
-    if address == p.address {
-        return false;
-    }
-    address < p.highest_station_address
+    address != p.address && address < p.highest_station_address
 }
 
 // The gap's count is at most one above the settings' gap wait, the address it polls is one that is asked.
@@ -280,7 +231,7 @@ fn gap_line(p: Parameters, gap: GapState) -> bool
 {
     match gap {
         GapState::Waiting { rotation_count } => {
-            rotation_count <= p.gap_wait_rotations as u16 + 1
+            rotation_count <= u16::from(p.gap_wait_rotations) + 1
         }
         GapState::DoPoll { current_address } => in_gap_line(p, current_address),
     }
@@ -291,22 +242,18 @@ fn gap_line(p: Parameters, gap: GapState) -> bool
 fn within(last: u64, time: u64) -> bool
     ensures { result ≡ within_line last time }
 {
-    if last < 281474976710656 {
-        return true;
-    }
-    last - 281474976710656 < time
+    last < CLOCK_END || last - CLOCK_END < time
 }
 
 // The last bus activity is at most the time of 255 bytes after a time of a clock.
 #[tactic(auto, unfolding(crate::specs::Lines::activity_line))]
-fn activity_line(p: Parameters, activity: Activity) -> bool
+fn activity_line(p: Parameters, activity: Option<Micros>) -> bool
     ensures { result ≡ activity_line p activity }
 {
     match activity {
-        Activity::Unknown => true,
-        Activity::At(last) => {
-            let baud = p.baudrate;
-            let time = bit_times::time_of(Bits(2805), baud);
+        None => true,
+        Some(last) => {
+            let time = p.baudrate.bits_to_time(Bits(2805));
             within(last.0, time.0)
         }
     }
@@ -317,10 +264,7 @@ fn activity_line(p: Parameters, activity: Activity) -> bool
 fn no_token(last: Micros, end: Micros) -> bool
     ensures { result ≡ no_token last end }
 {
-    if last.0 == 0 {
-        return end.0 == 0;
-    }
-    false
+    last.0 == 0 && end.0 == 0
 }
 
 // Whether the end of hold comes so much after a time of a clock that is not the last token time.
@@ -328,13 +272,7 @@ fn no_token(last: Micros, end: Micros) -> bool
 fn counts_from(end: u64, more: u64, last: u64) -> bool
     ensures { result ≡ counts_from end more last }
 {
-    if end < more {
-        return false;
-    }
-    if end - more == last {
-        return false;
-    }
-    end - more < 281474976710656
+    end >= more && end - more != last && end - more < CLOCK_END
 }
 
 // What a gap poll takes off.
@@ -342,8 +280,8 @@ fn counts_from(end: u64, more: u64, last: u64) -> bool
 fn gap_time(p: Parameters) -> Micros
     ensures { result ≡ gap_time p }
 {
-    let baud = p.baudrate;
-    bit_times::time_of(Bits(p.slot_bits as u32 + GAP_ALLOWANCE), baud)
+    p.baudrate
+        .bits_to_time(Bits(u32::from(p.slot_bits) + GAP_ALLOWANCE))
 }
 
 // The end of hold is a fresh station's, or was set with the last token time.
@@ -351,18 +289,11 @@ fn gap_time(p: Parameters) -> Micros
 fn hold_line(p: Parameters, last: Micros, end: Micros) -> bool
     ensures { result ≡ hold_line p last end }
 {
-    if no_token(last, end) {
-        return true;
-    }
     let span = p.token_rotation_time();
-    if counts_from(end.0, span.0, last.0) {
-        return true;
-    }
     let less = gap_time(p);
-    if span.0 < less.0 {
-        return false;
-    }
-    counts_from(end.0, span.0 - less.0, last.0)
+    no_token(last, end)
+        || counts_from(end.0, span.0, last.0)
+        || span.0 >= less.0 && counts_from(end.0, span.0 - less.0, last.0)
 }
 
 // A core, with so many applications.
@@ -370,26 +301,12 @@ fn hold_line(p: Parameters, last: Micros, end: Micros) -> bool
 fn core_line(p: Parameters, applications: u8, core: Core) -> bool
     ensures { result ≡ core_line p applications core }
 {
-    let gap = core.gap_state;
-    let activity = core.last_bus_activity;
-    let last = core.last_token_time;
-    let end = core.end_token_hold_time;
-    if core.next_application < applications {
-        if core.pending_bytes < 2048 {
-            if gap_line(p, gap) {
-                if activity_line(p, activity) {
-                    if last.0 < 281474976710656 {
-                        return hold_line(p, last, end);
-                    }
-                    return false;
-                }
-                return false;
-            }
-            return false;
-        }
-        return false;
-    }
-    false
+    core.next_application < applications
+        && core.pending_bytes < 2048
+        && gap_line(p, core.gap_state)
+        && activity_line(p, core.last_bus_activity)
+        && core.last_token_time.0 < CLOCK_END
+        && hold_line(p, core.last_token_time, core.end_token_hold_time)
 }
 
 // A station that is put offline is in Offline.
@@ -398,9 +315,8 @@ fn offline_line(connectivity: ConnectivityState, state: State) -> bool
     ensures { result ≡ offline_line connectivity state }
 {
     match connectivity {
-        ConnectivityState::Offline => state_number(state) == 0,
-        ConnectivityState::Passive => true,
-        ConnectivityState::Online => true,
+        ConnectivityState::Offline => state.number() == 0,
+        ConnectivityState::Passive | ConnectivityState::Online => true,
     }
 }
 
@@ -409,10 +325,7 @@ fn offline_line(connectivity: ConnectivityState, state: State) -> bool
 fn resting_line(gap: GapState) -> bool
     ensures { result ≡ resting_line gap }
 {
-    match gap {
-        GapState::Waiting { rotation_count } => rotation_count == 0,
-        GapState::DoPoll { .. } => false,
-    }
+    matches!(gap, GapState::Waiting { rotation_count: 0 })
 }
 
 // A core as a fresh station's, but for the last bus activity and the connectivity state.
@@ -420,19 +333,10 @@ fn resting_line(gap: GapState) -> bool
 fn fresh_line(core: Core) -> bool
     ensures { result ≡ fresh_line core }
 {
-    let gap = core.gap_state;
-    let last = core.last_token_time;
-    let end = core.end_token_hold_time;
-    if core.pending_bytes == 0 {
-        if core.next_application == 0 {
-            if resting_line(gap) {
-                return no_token(last, end);
-            }
-            return false;
-        }
-        return false;
-    }
-    false
+    core.pending_bytes == 0
+        && core.next_application == 0
+        && resting_line(core.gap_state)
+        && no_token(core.last_token_time, core.end_token_hold_time)
 }
 
 // In Offline the core is such a one.
@@ -440,33 +344,25 @@ fn fresh_line(core: Core) -> bool
 fn starts_line(state: State, core: Core) -> bool
     ensures { result ≡ starts_line state core }
 {
-    if state_number(state) == 0 {
-        return fresh_line(core);
-    }
-    true
+    state.number() != 0 || fresh_line(core)
 }
 
-// Whether a station can have this state, this core and these laps.
+/// Whether a station can have this state, this core and these laps.
 #[tactic(auto, unfolding(crate::specs::Lines::sound_line))]
 pub fn sound_line(p: Parameters, applications: u8, state: State, core: Core, laps: u16) -> bool
     ensures { result ≡ sound_line p applications state core laps }
 {
-    let connectivity = core.connectivity_state;
-    let gap = core.gap_state;
-    let activity = core.last_bus_activity;
-    let last = core.last_token_time;
-    let known = activity_known(activity);
-    if laps <= 2 {
-        if offline_line(connectivity, state) {
-            if starts_line(state, core) {
-                if state_line(state, p.address, applications, gap, known, last) {
-                    return core_line(p, applications, core);
-                }
-                return false;
-            }
-            return false;
-        }
-        return false;
-    }
-    false
+    let known = core.last_bus_activity.is_some();
+    laps <= 2
+        && offline_line(core.connectivity_state, state)
+        && starts_line(state, core)
+        && state_line(
+            state,
+            p.address,
+            applications,
+            core.gap_state,
+            known,
+            core.last_token_time,
+        )
+        && core_line(p, applications, core)
 }

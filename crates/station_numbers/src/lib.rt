@@ -1,16 +1,16 @@
-// A state as plain numbers, and these as two words: what a station's bytes hold of its state. It leans on station for the states and
-// on codec_fields for the fields.
+//! A state as plain numbers, and these as two words: what a station's bytes hold of its state. It leans on station for the states and
+//! on codec_fields for the fields.
 #![tactic(auto)]
 
 ghost use Rattle.std.specs.Prelude.{◌≡◌};
-ghost use Rattle.station_numbers.specs.Numbers.{address_number, address_of, application_number, application_of, attempt_number, attempt_of, plain_numbers, held_numbers, state_numbers, held_of, state_from, state_word, numbers_in};
+ghost use Rattle.station_numbers.specs.Numbers.{number_or_none, none_or_number, attempt_number, attempt_of, plain_numbers, held_numbers, state_numbers, held_of, state_from, state_word, numbers_in};
 
 use bit_times::Micros;
-use codec_fields::{bit, field_byte, put, put_bit, put_byte};
-use station::{OptionAddress, OptionApplication, PassTokenAttempt, State, UseTokenData};
+use codec_fields::{field, put};
+use station::{PassTokenAttempt, State, UseTokenData};
 
-// A state's number and what it holds; what a state does not hold is 0.
-#[derive(Clone, Copy)]
+/// A state's number and what it holds; what a state does not hold is 0.
+#[derive(Clone, Copy, Debug, PartialEq, Eq)]
 pub struct StateNumbers {
     pub token_time: u64,
     pub kind: u8,
@@ -23,46 +23,19 @@ pub struct StateNumbers {
     pub first_app: u8,
 }
 
-// The number of an address: 255 for none.
-fn address_number(address: OptionAddress) -> u8
-    ensures { result ≡ address_number address }
+// The number of an address or an application: 255 for none.
+fn number_or_none(held: Option<u8>) -> u8
+    ensures { result ≡ number_or_none held }
 {
-    match address {
-        OptionAddress::None => 255,
-        OptionAddress::Some(a) => a,
-    }
+    held.unwrap_or(255)
 }
 
-// The address of a number.
-#[tactic(auto, unfolding(crate::specs::Numbers::address_of))]
-fn address_of(number: u8) -> OptionAddress
-    ensures { result ≡ address_of number }
+// The address or application of a number.
+#[tactic(auto, unfolding(crate::specs::Numbers::none_or_number))]
+fn none_or_number(number: u8) -> Option<u8>
+    ensures { result ≡ none_or_number number }
 {
-    if number == 255 {
-        return OptionAddress::None;
-    }
-    OptionAddress::Some(number)
-}
-
-// The number of an application: 255 for none.
-fn application_number(application: OptionApplication) -> u8
-    ensures { result ≡ application_number application }
-{
-    match application {
-        OptionApplication::None => 255,
-        OptionApplication::Some(a) => a,
-    }
-}
-
-// The application of a number.
-#[tactic(auto, unfolding(crate::specs::Numbers::application_of))]
-fn application_of(number: u8) -> OptionApplication
-    ensures { result ≡ application_of number }
-{
-    if number == 255 {
-        return OptionApplication::None;
-    }
-    OptionApplication::Some(number)
+    if number == 255 { None } else { Some(number) }
 }
 
 // The number of an attempt: 0 for the first.
@@ -81,13 +54,11 @@ fn attempt_number(attempt: PassTokenAttempt) -> u8
 fn attempt_of(number: u8) -> PassTokenAttempt
     ensures { result ≡ attempt_of number }
 {
-    if number == 1 {
-        return PassTokenAttempt::Second;
+    match number {
+        1 => PassTokenAttempt::Second,
+        2 => PassTokenAttempt::Third,
+        _ => PassTokenAttempt::First,
     }
-    if number == 2 {
-        return PassTokenAttempt::Third;
-    }
-    PassTokenAttempt::First
 }
 
 // A state without a token, as plain numbers.
@@ -121,10 +92,8 @@ fn plain(
 fn holding(kind: u8, flag: bool, address: u8, token: UseTokenData) -> StateNumbers
     ensures { result ≡ held_numbers kind flag address token }
 {
-    let time = token.token_time;
-    let first_app = token.first_app;
     StateNumbers {
-        token_time: time.0,
+        token_time: token.token_time.0,
         kind,
         flag,
         request: 0,
@@ -132,11 +101,11 @@ fn holding(kind: u8, flag: bool, address: u8, token: UseTokenData) -> StateNumbe
         collisions: 0,
         attempt: 0,
         address,
-        first_app: application_number(first_app),
+        first_app: number_or_none(token.first_app),
     }
 }
 
-// A state as plain numbers.
+/// A state as plain numbers.
 #[tactic(auto, unfolding(crate::specs::Numbers::state_numbers))]
 pub fn state_numbers(state: State) -> StateNumbers
     ensures { result ≡ state_numbers state }
@@ -149,7 +118,7 @@ pub fn state_numbers(state: State) -> StateNumbers
         } => plain(
             1,
             false,
-            address_number(status_request),
+            number_or_none(status_request),
             0,
             collision_count,
             0,
@@ -162,8 +131,8 @@ pub fn state_numbers(state: State) -> StateNumbers
         } => plain(
             2,
             false,
-            address_number(status_request),
-            address_number(new_previous_station),
+            number_or_none(status_request),
+            number_or_none(new_previous_station),
             collision_count,
             0,
             0,
@@ -188,7 +157,7 @@ pub fn state_numbers(state: State) -> StateNumbers
         State::PassiveIdle { status_request } => plain(
             9,
             false,
-            address_number(status_request),
+            number_or_none(status_request),
             0,
             0,
             0,
@@ -204,100 +173,83 @@ fn held(numbers: StateNumbers) -> UseTokenData
 {
     UseTokenData {
         token_time: Micros(numbers.token_time),
-        first_app: application_of(numbers.first_app),
+        first_app: none_or_number(numbers.first_app),
     }
 }
 
-// The state that plain numbers are; Offline where there is no state with such a number.
+/// The state that plain numbers are; Offline where there is no state with such a number.
 #[tactic(auto, unfolding(crate::specs::Numbers::state_from))]
 pub fn state_from(numbers: StateNumbers) -> State
     ensures { result ≡ state_from numbers }
 {
-    let kind = numbers.kind;
-    if kind == 1 {
-        return State::ListenToken {
-            status_request: address_of(numbers.request),
+    match numbers.kind {
+        1 => State::ListenToken {
+            status_request: none_or_number(numbers.request),
             collision_count: numbers.collisions,
-        };
-    }
-    if kind == 2 {
-        return State::ActiveIdle {
-            status_request: address_of(numbers.request),
-            new_previous_station: address_of(numbers.previous),
+        },
+        2 => State::ActiveIdle {
+            status_request: none_or_number(numbers.request),
+            new_previous_station: none_or_number(numbers.previous),
             collision_count: numbers.collisions,
-        };
-    }
-    if kind == 3 {
-        return State::UseToken {
+        },
+        3 => State::UseToken {
             first_cycle_done: numbers.flag,
             data: held(numbers),
-        };
-    }
-    if kind == 4 {
-        return State::ClaimToken {
+        },
+        4 => State::ClaimToken {
             first: numbers.flag,
-        };
-    }
-    if kind == 5 {
-        return State::AwaitDataResponse {
+        },
+        5 => State::AwaitDataResponse {
             address: numbers.address,
             data: held(numbers),
-        };
-    }
-    if kind == 6 {
-        return State::PassToken {
+        },
+        6 => State::PassToken {
             do_gap: numbers.flag,
             attempt: attempt_of(numbers.attempt),
-        };
-    }
-    if kind == 7 {
-        return State::CheckTokenPass {
+        },
+        7 => State::CheckTokenPass {
             attempt: attempt_of(numbers.attempt),
-        };
-    }
-    if kind == 8 {
-        return State::AwaitStatusResponse {
+        },
+        8 => State::AwaitStatusResponse {
             address: numbers.address,
-        };
+        },
+        9 => State::PassiveIdle {
+            status_request: none_or_number(numbers.request),
+        },
+        _ => State::Offline,
     }
-    if kind == 9 {
-        return State::PassiveIdle {
-            status_request: address_of(numbers.request),
-        };
-    }
-    State::Offline
 }
 
-// The word of plain numbers but for the token's time, which is a word of its own.
+/// The word of plain numbers but for the token's time, which is a word of its own.
 #[tactic(auto, unfolding(crate::specs::Numbers::state_word))]
 pub fn state_word(numbers: StateNumbers) -> u64
     ensures { result ≡ state_word numbers }
 {
-    let mut word = put_byte(0, 7, numbers.kind);
-    word = put_bit(word, numbers.flag);
-    word = put_byte(word, 8, numbers.request);
-    word = put_byte(word, 8, numbers.previous);
-    word = put_byte(word, 8, numbers.collisions);
-    word = put_byte(word, 8, numbers.attempt);
-    word = put_byte(word, 8, numbers.address);
-    word = put_byte(word, 8, numbers.first_app);
-    put(word, 8, 0)
+    let mut word = put(0, 7, numbers.kind);
+    word = put(word, 1, numbers.flag);
+    word = put(word, 8, numbers.request);
+    word = put(word, 8, numbers.previous);
+    word = put(word, 8, numbers.collisions);
+    word = put(word, 8, numbers.attempt);
+    word = put(word, 8, numbers.address);
+    word = put(word, 8, numbers.first_app);
+    put(word, 8, 0u8)
 }
 
-// The plain numbers that two words hold.
+/// The plain numbers that two words hold.
 #[tactic(auto, unfolding(crate::specs::Numbers::numbers_in))]
 pub fn numbers_in(word: u64, token_time: u64) -> StateNumbers
     ensures { result ≡ numbers_in word token_time }
 {
     StateNumbers {
         token_time,
-        kind: field_byte(word, 57, 7),
-        flag: bit(word, 56),
-        request: field_byte(word, 48, 8),
-        previous: field_byte(word, 40, 8),
-        collisions: field_byte(word, 32, 8),
-        attempt: field_byte(word, 24, 8),
-        address: field_byte(word, 16, 8),
-        first_app: field_byte(word, 8, 8),
+        kind: field(word, 57, 7),
+        flag: field(word, 56, 1),
+        request: field(word, 48, 8),
+        previous: field(word, 40, 8),
+        collisions: field(word, 32, 8),
+        attempt: field(word, 24, 8),
+        address: field(word, 16, 8),
+        first_app: field(word, 8, 8),
     }
 }

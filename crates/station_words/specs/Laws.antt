@@ -1,31 +1,29 @@
 -- A station's parts come back from its words, and each word has 64 bits. Assumes nothing.
-use Rattle.std.specs.Prelude.{ℕ, ◌^◌, ◌<◌, ◌≡◌, refl, Bool, true, false, cond}
+use Rattle.std.specs.Prelude.{ℕ, ◌^◌, ◌<◌, ◌≡◌, refl, Bool, true, false, cond, Option, Some, None}
 use Rattle.std.proofs.Math.Path.{ap}
 use Rattle.std.proofs.Common.{◌∙◌, arith, eqb-true, eq-eqb, lit<, lit≤}
 use mathlib.Core.List.{List}
 use Rattle.std.proofs.Math.ListN.{get_or}
 use Rattle.std.proofs.Math.Dec.{eqb}
+use Rattle.bit_times.specs.declared.micros.Micros.{Micros}
 use Rattle.codec_fields.specs.Fields.{field_of, bit_number, unpack, Within}
 use Rattle.codec_fields.proofs.Laws.{unpack_put, put_below, bit_below, bit_read}
-use Rattle.settings.specs.declared.Parameters.{Parameters}
-use Rattle.settings_build.specs.declared.PlainSettings.{PlainSettings}
+use Rattle.settings.specs.declared.parameters.Parameters.{Parameters}
+use Rattle.settings_build.specs.declared.plain.PlainSettings.{PlainSettings}
 use Rattle.settings_build.specs.Build.{plain_of}
-use Rattle.ring.specs.declared.Head.{Head}
 use Rattle.ring.specs.declared.GapState.{GapState}
 use Rattle.ring.specs.declared.GapState.TheVariants.{Waiting, DoPoll}
-use Rattle.station.specs.declared.Activity.{Activity}
-use Rattle.station.specs.declared.Activity.TheVariants as activity
-use Rattle.station.specs.declared.ConnectivityState.{ConnectivityState}
-use Rattle.station.specs.declared.ConnectivityState.TheVariants as connectivity
-use Rattle.station.specs.declared.State.{State}
-use Rattle.station.specs.declared.Core.{Core}
-use Rattle.station.specs.declared.Counts.{Counts}
-use Rattle.station_numbers.specs.Numbers.{state_numbers, state_word}
+use Rattle.station.specs.declared.state.ConnectivityState.{ConnectivityState}
+use Rattle.station.specs.declared.state.ConnectivityState.TheVariants as connectivity
+use Rattle.station.specs.declared.state.State.{State}
+use Rattle.station.specs.declared.parts.Core.{Core}
+use Rattle.station.specs.declared.parts.Counts.{Counts}
+use Rattle.station_numbers.specs.Numbers.{state_numbers}
 use Rattle.station_numbers.specs.Laws.{StateFits, state_back, state_word_below}
 use Rattle.trace_headers.specs.declared.Header.{Header}
 use Rattle.trace_headers.specs.Finished.{header_with}
 use Rattle.station_words.specs.declared.Words.{Words}
-use Rattle.station_words.specs.Words.{connectivity_number, connectivity_of, activity_known, activity_time, activity_of, gap_polls, gap_number, gap_of, first_widths, first_values, first_word, settings_widths, settings_values, settings_word, limits_widths, limits_values, limits_word, counts_widths, counts_values, counts_word, numbers_widths, numbers_values, numbers_word, words_of, state_in, core_in, counts_in, head_in, header_in, same_five, same_words}
+use Rattle.station_words.specs.Words.{connectivity_number, connectivity_of, activity_known, activity_time, activity_of, gap_polls, gap_number, gap_of, first_widths, first_values, first_word, settings_widths, settings_values, settings_word, limits_widths, limits_values, limits_word, counts_widths, counts_values, counts_word, numbers_widths, numbers_values, numbers_word, words_of, state_in, core_in, counts_in, laps_in, ready_in, header_in, same_five, same_words}
 
 -- What fits its fields.
 
@@ -93,10 +91,10 @@ connectivity_read connectivity.Offline = refl
 connectivity_read connectivity.Passive = refl
 connectivity_read connectivity.Online = refl
 
-activity_read : (a : Activity) → activity_of (eqb (bit_number (activity_known a)) 1) (activity_time a) ≡ a
+activity_read : (a : Option Micros) → activity_of (eqb (bit_number (activity_known a)) 1) (activity_time a) ≡ a
 unfolding activity_of
-activity_read activity.Unknown = refl
-activity_read (activity.At last) = refl
+activity_read None = refl
+activity_read (Some last) = refl
 
 gap_read : (g : GapState) → gap_of (eqb (bit_number (gap_polls g)) 1) (gap_number g) ≡ g
 unfolding gap_of
@@ -180,7 +178,7 @@ core_from last end active l m =
     }
 
 -- a core with these three parts
-abbrev core_with : Core → Activity → GapState → ConnectivityState → Core
+abbrev core_with : Core → Option Micros → GapState → ConnectivityState → Core
 core_with c a g v =
     record {
       last_token_time = c.last_token_time;
@@ -226,7 +224,7 @@ module _ (x : State) (c : Core) (laps : ℕ) (ready : Bool) (p : Parameters) (n 
       let active = activity_time c.last_bus_activity in
       ap (λ (l : List ℕ). core_from last end active l (unpack numbers_widths (numbers_word k c))) (first_fields c laps ready f.core_fits f.laps_fit)
       ∙ ap (core_from last end active (first_values c laps ready)) (numbers_fields k f.counts_fit c f.core_fits)
-      ∙ ap (λ (a : Activity). core_with c a (gap_of (eqb (bit_number (gap_polls c.gap_state)) 1) (gap_number c.gap_state)) (connectivity_of (connectivity_number c.connectivity_state))) (activity_read c.last_bus_activity)
+      ∙ ap (λ (a : Option Micros). core_with c a (gap_of (eqb (bit_number (gap_polls c.gap_state)) 1) (gap_number c.gap_state)) (connectivity_of (connectivity_number c.connectivity_state))) (activity_read c.last_bus_activity)
       ∙ ap (λ (g : GapState). core_with c c.last_bus_activity g (connectivity_of (connectivity_number c.connectivity_state))) (gap_read c.gap_state)
       ∙ ap (core_with c c.last_bus_activity c.gap_state) (connectivity_read c.connectivity_state)
 
@@ -236,11 +234,13 @@ module _ (x : State) (c : Core) (laps : ℕ) (ready : Bool) (p : Parameters) (n 
       ap (λ (l : List ℕ). record { claims = get_or l 0 0; removals = get_or l 1 0; meetings = field_of (numbers_word k c) 32 32 }) (counts_fields k f.counts_fit)
       ∙ ap (λ (m : List ℕ). record { claims = k.claims; removals = k.removals; meetings = get_or m 0 0 }) (numbers_fields k f.counts_fit c f.core_fits)
 
-  pub head_is : (own : ℕ) → head_in (words_of x c laps ready p n k) own ≡ record { laps = laps; own = own; ready = ready }
-  unfolding head_in words_of
-  head_is own =
-      ap (λ (l : List ℕ). record { laps = get_or l 3 0; own = own; ready = eqb (get_or l 5 0) 1 }) (first_fields c laps ready f.core_fits f.laps_fit)
-      ∙ ap (λ (b : Bool). record { laps = laps; own = own; ready = b }) (bit_read ready)
+  pub laps_is : laps_in (words_of x c laps ready p n k) ≡ laps
+  unfolding laps_in words_of
+  laps_is = ap (λ (l : List ℕ). get_or l 3 0) (first_fields c laps ready f.core_fits f.laps_fit)
+
+  pub ready_is : ready_in (words_of x c laps ready p n k) ≡ ready
+  unfolding ready_in words_of
+  ready_is = ap (λ (l : List ℕ). eqb (get_or l 5 0) 1) (first_fields c laps ready f.core_fits f.laps_fit) ∙ bit_read ready
 
   pub header_is : header_in (words_of x c laps ready p n k) ≡ header_with p n
   unfolding header_in words_of

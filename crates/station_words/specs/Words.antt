@@ -1,19 +1,17 @@
 -- What a station's bytes hold besides its ring's members, as ten words of 64 bits (the live door: a station is bytes). Assumes nothing.
-use Rattle.std.specs.Prelude.{ℕ, Bool, true, false, cond, List, [], ◌∷◌, eqb}
+use Rattle.std.specs.Prelude.{ℕ, Bool, true, false, cond, List, [], ◌∷◌, eqb, Option, Some, None}
+use Rattle.bit_times.specs.declared.micros.Micros.{Micros}
 use Rattle.codec_fields.specs.Fields.{field_of, bit_at, bit_number, put_all}
-use Rattle.settings.specs.declared.Parameters.{Parameters}
-use Rattle.settings_build.specs.declared.PlainSettings.{PlainSettings}
+use Rattle.settings.specs.declared.parameters.Parameters.{Parameters}
+use Rattle.settings_build.specs.declared.plain.PlainSettings.{PlainSettings}
 use Rattle.settings_build.specs.Build.{plain_of}
-use Rattle.ring.specs.declared.Head.{Head}
 use Rattle.ring.specs.declared.GapState.{GapState}
 use Rattle.ring.specs.declared.GapState.TheVariants.{Waiting, DoPoll}
-use Rattle.station.specs.declared.Activity.{Activity}
-use Rattle.station.specs.declared.Activity.TheVariants as activity
-use Rattle.station.specs.declared.ConnectivityState.{ConnectivityState}
-use Rattle.station.specs.declared.ConnectivityState.TheVariants as connectivity
-use Rattle.station.specs.declared.State.{State}
-use Rattle.station.specs.declared.Core.{Core}
-use Rattle.station.specs.declared.Counts.{Counts}
+use Rattle.station.specs.declared.state.ConnectivityState.{ConnectivityState}
+use Rattle.station.specs.declared.state.ConnectivityState.TheVariants as connectivity
+use Rattle.station.specs.declared.state.State.{State}
+use Rattle.station.specs.declared.parts.Core.{Core}
+use Rattle.station.specs.declared.parts.Counts.{Counts}
 use Rattle.station_numbers.specs.Numbers.{state_numbers, state_from, state_word, numbers_in}
 use Rattle.trace_headers.specs.declared.Header.{Header}
 use Rattle.station_words.specs.declared.Words.{Words}
@@ -30,16 +28,16 @@ unfoldable pub connectivity_of : ℕ → ConnectivityState
 connectivity_of n = cond (eqb n 1) connectivity.Passive (cond (eqb n 2) connectivity.Online connectivity.Offline)
 
 -- the last bus activity: whether it is known, and its time, 0 where none is
-abbrev pub activity_known : Activity → Bool
-activity_known activity.Unknown = false
-activity_known (activity.At last) = true
+abbrev pub activity_known : Option Micros → Bool
+activity_known None = false
+activity_known (Some last) = true
 
-abbrev pub activity_time : Activity → ℕ
-activity_time activity.Unknown = 0
-activity_time (activity.At last) = last.0
+abbrev pub activity_time : Option Micros → ℕ
+activity_time None = 0
+activity_time (Some last) = last.0
 
-unfoldable pub activity_of : Bool → ℕ → Activity
-activity_of known time = cond known (activity.At (record { 0 = time })) activity.Unknown
+unfoldable pub activity_of : Bool → ℕ → Option Micros
+activity_of known time = cond known (Some (record { 0 = time })) None
 
 -- the gap state: whether it polls, and its count or its address
 abbrev pub gap_polls : GapState → Bool
@@ -163,8 +161,12 @@ core_in w =
 unfoldable pub counts_in : Words → Counts
 counts_in w = record { claims = field_of w.counts 32 32; removals = field_of w.counts 0 32; meetings = field_of w.numbers 32 32 }
 
-unfoldable pub head_in : Words → ℕ → Head
-head_in w own = record { laps = field_of w.first 24 16; own = own; ready = bit_at w.first 2 }
+-- what stands beside its ring's links and its own address
+unfoldable pub laps_in : Words → ℕ
+laps_in w = field_of w.first 24 16
+
+unfoldable pub ready_in : Words → Bool
+ready_in w = bit_at w.first 2
 
 unfoldable pub header_in : Words → Header
 header_in w =

@@ -1,20 +1,20 @@
-// What a station's bytes hold besides its ring's members, as ten words: written from a station, and its parts read from them. It
-// leans on station_numbers for the state, on settings_build and trace_headers for the settings, on codec_fields for the fields.
+//! What a station's bytes hold besides its ring's members, as ten words: written from a station, and its parts read from them. It
+//! leans on station_numbers for the state, on settings_build and trace_headers for the settings, on codec_fields for the fields.
 #![tactic(auto)]
 
 ghost use Rattle.std.specs.Prelude.{◌≡◌};
-ghost use Rattle.station_words.specs.Words.{connectivity_number, connectivity_of, activity_known, activity_time, activity_of, gap_polls, gap_number, gap_of, first_word, settings_word, limits_word, counts_word, numbers_word, words_of, state_in, core_in, counts_in, head_in, header_in, same_five, same_words};
+ghost use Rattle.station_words.specs.Words.{connectivity_number, connectivity_of, activity_time, activity_of, gap_polls, gap_number, gap_of, first_word, settings_word, limits_word, counts_word, numbers_word, words_of, state_in, core_in, counts_in, laps_in, ready_in, header_in, same_five, same_words};
 
 use bit_times::Micros;
-use codec_fields::{bit, field_byte, field_long, field_short, put, put_bit, put_byte, put_short};
-use ring::{GapState, Head};
+use codec_fields::{field, put};
+use ring::{GapState, TokenRing};
 use settings_build::PlainSettings;
-use station::{Activity, ConnectivityState, Core, Counts, State, Station};
+use station::{ConnectivityState, Core, Counts, State, Station};
 use station_numbers::{numbers_in, state_from, state_numbers, state_word};
 use trace_headers::Header;
 
-// The words, in the order of their bytes.
-#[derive(Clone, Copy)]
+/// The words, in the order of their bytes.
+#[derive(Clone, Copy, Debug, PartialEq, Eq)]
 pub struct Words {
     pub first: u64,
     pub settings: u64,
@@ -46,54 +46,33 @@ fn connectivity_number(connectivity: ConnectivityState) -> u8
 fn connectivity_of(number: u8) -> ConnectivityState
     ensures { result ≡ connectivity_of number }
 {
-    if number == 1 {
-        return ConnectivityState::Passive;
-    }
-    if number == 2 {
-        return ConnectivityState::Online;
-    }
-    ConnectivityState::Offline
-}
-
-// Whether the last bus activity is known.
-pub fn activity_known(activity: Activity) -> bool
-    ensures { result ≡ activity_known activity }
-{
-    match activity {
-        Activity::Unknown => false,
-        Activity::At(_) => true,
+    match number {
+        1 => ConnectivityState::Passive,
+        2 => ConnectivityState::Online,
+        _ => ConnectivityState::Offline,
     }
 }
 
 // The time of the last bus activity, 0 where none is known.
-fn activity_time(activity: Activity) -> u64
+fn activity_time(activity: Option<Micros>) -> u64
     ensures { result ≡ activity_time activity }
 {
-    match activity {
-        Activity::Unknown => 0,
-        Activity::At(last) => last.0,
-    }
+    activity.map_or(0, |last| last.0)
 }
 
 // The last bus activity, by whether it is known and its time.
 #[tactic(auto, unfolding(crate::specs::Words::activity_of))]
-fn activity_of(known: bool, time: u64) -> Activity
+fn activity_of(known: bool, time: u64) -> Option<Micros>
     ensures { result ≡ activity_of known time }
 {
-    if known {
-        return Activity::At(Micros(time));
-    }
-    Activity::Unknown
+    if known { Some(Micros(time)) } else { None }
 }
 
 // Whether the gap is polled.
 fn gap_polls(gap: GapState) -> bool
     ensures { result ≡ gap_polls gap }
 {
-    match gap {
-        GapState::Waiting { .. } => false,
-        GapState::DoPoll { .. } => true,
-    }
+    matches!(gap, GapState::DoPoll { .. })
 }
 
 // The count or the address of a gap state.
@@ -102,7 +81,7 @@ fn gap_number(gap: GapState) -> u16
 {
     match gap {
         GapState::Waiting { rotation_count } => rotation_count,
-        GapState::DoPoll { current_address } => current_address as u16,
+        GapState::DoPoll { current_address } => u16::from(current_address),
     }
 }
 
@@ -112,40 +91,31 @@ fn gap_of(polls: bool, number: u8) -> GapState
     ensures { result ≡ gap_of polls number }
 {
     if polls {
-        return GapState::DoPoll {
+        GapState::DoPoll {
             current_address: number,
-        };
-    }
-    GapState::Waiting {
-        rotation_count: number as u16,
+        }
+    } else {
+        GapState::Waiting {
+            rotation_count: u16::from(number),
+        }
     }
 }
 
 // The words of a station.
 
-// A number of 32 bits as a wide number.
-fn wide_long(n: u32) -> u64
-    ensures { result ≡ n }
-{
-    n as u64
-}
-
-// The first word: the edition, and the small parts of the core and of the ring's head.
+// The first word: the edition, and the small parts of the core and of the ring.
 #[tactic(auto, unfolding(crate::specs::Words::first_word))]
-fn first_word(core: Core, head: Head) -> u64
-    ensures { result ≡ first_word core head.laps head.ready }
+fn first_word(core: Core, ring: &TokenRing) -> u64
+    ensures { result ≡ first_word core ring.now.laps ring.now.ready }
 {
-    let connectivity = core.connectivity_state;
-    let gap = core.gap_state;
-    let activity = core.last_bus_activity;
-    let mut word = put(0, 8, 1);
-    word = put_byte(word, 8, connectivity_number(connectivity));
-    word = put_byte(word, 8, core.next_application);
-    word = put_short(word, 16, head.laps);
-    word = put(word, 21, 0);
-    word = put_bit(word, head.ready);
-    word = put_bit(word, gap_polls(gap));
-    put_bit(word, activity_known(activity))
+    let mut word = put(0, 8, 1u8);
+    word = put(word, 8, connectivity_number(core.connectivity_state));
+    word = put(word, 8, core.next_application);
+    word = put(word, 16, ring.laps());
+    word = put(word, 21, 0u32);
+    word = put(word, 1, ring.ready_for_ring());
+    word = put(word, 1, gap_polls(core.gap_state));
+    put(word, 1, core.last_bus_activity.is_some())
 }
 
 // The first half of the settings, as in a header of edition 1.
@@ -153,10 +123,10 @@ fn first_word(core: Core, head: Head) -> u64
 fn settings_word(plain: PlainSettings) -> u64
     ensures { result ≡ settings_word plain }
 {
-    let mut word = put_byte(0, 8, plain.address);
-    word = put_byte(word, 8, plain.baud_code);
-    word = put_short(word, 16, plain.slot_bits);
-    put(word, 32, wide_long(plain.token_rotation_bits))
+    let mut word = put(0, 8, plain.address);
+    word = put(word, 8, plain.baud_code);
+    word = put(word, 16, plain.slot_bits);
+    put(word, 32, plain.token_rotation_bits)
 }
 
 // The second half.
@@ -164,14 +134,14 @@ fn settings_word(plain: PlainSettings) -> u64
 fn limits_word(plain: PlainSettings, applications: u8) -> u64
     ensures { result ≡ limits_word plain applications }
 {
-    let mut word = put_byte(0, 8, plain.gap_wait_rotations);
-    word = put_byte(word, 8, plain.highest_station_address);
-    word = put_byte(word, 8, plain.max_retry_limit);
-    word = put_byte(word, 8, plain.min_tsdr_bits);
-    word = put_byte(word, 8, applications);
-    word = put_byte(word, 8, plain.factor_1);
-    word = put_byte(word, 8, plain.factor_2);
-    put(word, 8, 0)
+    let mut word = put(0, 8, plain.gap_wait_rotations);
+    word = put(word, 8, plain.highest_station_address);
+    word = put(word, 8, plain.max_retry_limit);
+    word = put(word, 8, plain.min_tsdr_bits);
+    word = put(word, 8, applications);
+    word = put(word, 8, plain.factor_1);
+    word = put(word, 8, plain.factor_2);
+    put(word, 8, 0u8)
 }
 
 // Two of the counts.
@@ -179,11 +149,7 @@ fn limits_word(plain: PlainSettings, applications: u8) -> u64
 fn counts_word(counts: Counts) -> u64
     ensures { result ≡ counts_word counts }
 {
-    put(
-        put(0, 32, wide_long(counts.claims)),
-        32,
-        wide_long(counts.removals),
-    )
+    put(put(0, 32, counts.claims), 32, counts.removals)
 }
 
 // The third count, the pending bytes and the gap state's number.
@@ -191,45 +157,37 @@ fn counts_word(counts: Counts) -> u64
 fn numbers_word(counts: Counts, core: Core) -> u64
     ensures { result ≡ numbers_word counts core }
 {
-    let gap = core.gap_state;
-    let mut word = put(0, 32, wide_long(counts.meetings));
-    word = put_short(word, 16, core.pending_bytes);
-    word = put(word, 8, 0);
-    put_short(word, 8, gap_number(gap))
+    let mut word = put(0, 32, counts.meetings);
+    word = put(word, 16, core.pending_bytes);
+    word = put(word, 8, 0u8);
+    put(word, 8, gap_number(core.gap_state))
 }
 
-// The words of a station.
+/// The words of a station.
 #[tactic(auto, unfolding(crate::specs::Words::words_of))]
-pub fn words_of(station: Station) -> Words
-    ensures { result ≡ words_of station.state station.core station.token_ring.laps station.token_ring.ready station.p station.applications station.counts }
+pub fn words_of(station: &Station) -> Words
+    ensures { result ≡ words_of station.now.state station.now.core station.now.token_ring.laps station.now.token_ring.ready station.now.p station.now.applications station.now.counts }
 {
-    let state = station.state;
     let core = station.core;
-    let head = station.token_ring;
-    let p = station.p;
-    let counts = station.counts;
-    let numbers = state_numbers(state);
-    let plain = PlainSettings::of_parameters(p);
-    let last = core.last_token_time;
-    let hold = core.end_token_hold_time;
-    let activity = core.last_bus_activity;
+    let numbers = state_numbers(station.state);
+    let plain = PlainSettings::from(station.p);
     Words {
-        first: first_word(core, head),
+        first: first_word(core, &station.token_ring),
         settings: settings_word(plain),
         limits: limits_word(plain, station.applications),
         state: state_word(numbers),
         token_time: numbers.token_time,
-        last_token_time: last.0,
-        end_token_hold_time: hold.0,
-        last_bus_activity: activity_time(activity),
-        counts: counts_word(counts),
-        numbers: numbers_word(counts, core),
+        last_token_time: core.last_token_time.0,
+        end_token_hold_time: core.end_token_hold_time.0,
+        last_bus_activity: activity_time(core.last_bus_activity),
+        counts: counts_word(station.counts),
+        numbers: numbers_word(station.counts, core),
     }
 }
 
 // A station's parts, read from its words.
 
-// The state.
+/// The state.
 #[tactic(auto, unfolding(crate::specs::Words::state_in))]
 pub fn state_in(words: Words) -> State
     ensures { result ≡ state_in words }
@@ -237,7 +195,7 @@ pub fn state_in(words: Words) -> State
     state_from(numbers_in(words.state, words.token_time))
 }
 
-// The core.
+/// The core.
 #[tactic(auto, unfolding(crate::specs::Words::core_in))]
 pub fn core_in(words: Words) -> Core
     ensures { result ≡ core_in words }
@@ -247,39 +205,43 @@ pub fn core_in(words: Words) -> Core
     Core {
         last_token_time: Micros(words.last_token_time),
         end_token_hold_time: Micros(words.end_token_hold_time),
-        last_bus_activity: activity_of(bit(first, 0), words.last_bus_activity),
-        gap_state: gap_of(bit(first, 1), field_byte(numbers, 0, 8)),
-        pending_bytes: field_short(numbers, 16, 16),
-        next_application: field_byte(first, 40, 8),
-        connectivity_state: connectivity_of(field_byte(first, 48, 8)),
+        last_bus_activity: activity_of(field(first, 0, 1), words.last_bus_activity),
+        gap_state: gap_of(field(first, 1, 1), field(numbers, 0, 8)),
+        pending_bytes: field(numbers, 16, 16),
+        next_application: field(first, 40, 8),
+        connectivity_state: connectivity_of(field(first, 48, 8)),
     }
 }
 
-// The counts.
+/// The counts.
 #[tactic(auto, unfolding(crate::specs::Words::counts_in))]
 pub fn counts_in(words: Words) -> Counts
     ensures { result ≡ counts_in words }
 {
     Counts {
-        claims: field_long(words.counts, 32, 32),
-        removals: field_long(words.counts, 0, 32),
-        meetings: field_long(words.numbers, 32, 32),
+        claims: field(words.counts, 32, 32),
+        removals: field(words.counts, 0, 32),
+        meetings: field(words.numbers, 32, 32),
     }
 }
 
-// The head of the ring of a station with this address.
-#[tactic(auto, unfolding(crate::specs::Words::head_in))]
-pub fn head_in(words: Words, own: u8) -> Head
-    ensures { result ≡ head_in words own }
+/// The laps of the ring.
+#[tactic(auto, unfolding(crate::specs::Words::laps_in))]
+pub fn laps_in(words: Words) -> u16
+    ensures { result ≡ laps_in words }
 {
-    Head {
-        laps: field_short(words.first, 24, 16),
-        own,
-        ready: bit(words.first, 2),
-    }
+    field(words.first, 24, 16)
 }
 
-// The header, unchecked.
+/// Whether the ring is ready.
+#[tactic(auto, unfolding(crate::specs::Words::ready_in))]
+pub fn ready_in(words: Words) -> bool
+    ensures { result ≡ ready_in words }
+{
+    field(words.first, 2, 1)
+}
+
+/// The header, unchecked.
 #[tactic(auto, unfolding(crate::specs::Words::header_in))]
 pub fn header_in(words: Words) -> Header
     ensures { result ≡ header_in words }
@@ -288,19 +250,19 @@ pub fn header_in(words: Words) -> Header
     let limits = words.limits;
     Header {
         settings: PlainSettings {
-            token_rotation_bits: field_long(settings, 0, 32),
-            slot_bits: field_short(settings, 32, 16),
-            address: field_byte(settings, 56, 8),
-            baud_code: field_byte(settings, 48, 8),
-            gap_wait_rotations: field_byte(limits, 56, 8),
-            highest_station_address: field_byte(limits, 48, 8),
-            max_retry_limit: field_byte(limits, 40, 8),
-            min_tsdr_bits: field_byte(limits, 32, 8),
-            factor_1: field_byte(limits, 16, 8),
-            factor_2: field_byte(limits, 8, 8),
+            token_rotation_bits: field(settings, 0, 32),
+            slot_bits: field(settings, 32, 16),
+            address: field(settings, 56, 8),
+            baud_code: field(settings, 48, 8),
+            gap_wait_rotations: field(limits, 56, 8),
+            highest_station_address: field(limits, 48, 8),
+            max_retry_limit: field(limits, 40, 8),
+            min_tsdr_bits: field(limits, 32, 8),
+            factor_1: field(limits, 16, 8),
+            factor_2: field(limits, 8, 8),
         },
-        applications: field_byte(limits, 24, 8),
-        zero_bits: field_byte(limits, 0, 8),
+        applications: field(limits, 24, 8),
+        zero_bits: field(limits, 0, 8),
     }
 }
 
@@ -309,27 +271,15 @@ pub fn header_in(words: Words) -> Header
 fn same_five(a: u64, b: u64, c: u64, d: u64, e: u64, f: u64, g: u64, h: u64, i: u64, j: u64) -> bool
     ensures { result ≡ same_five a b c d e f g h i j }
 {
-    if a == f {
-        if b == g {
-            if c == h {
-                if d == i {
-                    return e == j;
-                }
-                return false;
-            }
-            return false;
-        }
-        return false;
-    }
-    false
+    a == f && b == g && c == h && d == i && e == j
 }
 
-// Whether two are the same, word by word.
+/// Whether two are the same, word by word.
 #[tactic(auto, unfolding(crate::specs::Words::same_words))]
 pub fn same_words(a: Words, b: Words) -> bool
     ensures { result ≡ same_words a b }
 {
-    if same_five(
+    same_five(
         a.first,
         a.settings,
         a.limits,
@@ -340,19 +290,16 @@ pub fn same_words(a: Words, b: Words) -> bool
         b.limits,
         b.state,
         b.token_time,
-    ) {
-        return same_five(
-            a.last_token_time,
-            a.end_token_hold_time,
-            a.last_bus_activity,
-            a.counts,
-            a.numbers,
-            b.last_token_time,
-            b.end_token_hold_time,
-            b.last_bus_activity,
-            b.counts,
-            b.numbers,
-        );
-    }
-    false
+    ) && same_five(
+        a.last_token_time,
+        a.end_token_hold_time,
+        a.last_bus_activity,
+        a.counts,
+        a.numbers,
+        b.last_token_time,
+        b.end_token_hold_time,
+        b.last_bus_activity,
+        b.counts,
+        b.numbers,
+    )
 }
