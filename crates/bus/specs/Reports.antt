@@ -84,9 +84,9 @@ running_first setup n tick ticks c before s b =
 module _ {setup : List ℕ} {n tick ticks k clock : ℕ} {c : BusKept} {at : ℕ} {before report : List ℕ}
     (s : Set setup n tick ticks) (g : Running setup n tick k clock c at before report) (here : k < ticks) (room : 8 * (n * ticks) ≤ length before)
     (sofar : at ≡ 8 * (n * k))
-    (chosen : ℕ) (r : Ticked) (t : Ticks n clock chosen c r) (left : List ℕ) (l : left ≡ answers_stored report at r.words n) where
+    (chosen : ℕ) (next : BusKept) (r : Ticked) (t : Ticks n clock chosen c next r) (left : List ℕ) (l : left ≡ answers_stored report at r.words n) where
   words_are : (j : ℕ) → j < n → get_or r.words j 0 ≡ answer_word (answer_at setup k j)
-  words_are j h = (ticked s g.run chosen r t).words j h ∙ rw (g.run.clock_is, s.tick_is)
+  words_are j h = (ticked s g.run chosen next r t).words j h ∙ rw (g.run.clock_is, s.tick_is)
 
   enough : at + 8 * n ≤ length before
   enough =
@@ -104,11 +104,11 @@ module _ {setup : List ℕ} {n tick ticks k clock : ℕ} {c : BusKept} {at : ℕ
   unfolding report_of
   report_next = rw (l, g.report_is, ← s.stations) (answers_are setup k n r.words words_are (report_of setup k) before at n (omega arith) g.at_is enough)
 
-  pub running_next : Running setup n tick (k + 1) (clock + tick) r.bus (at + 8 * n) before left
+  pub running_next : Running setup n tick (k + 1) (clock + tick) next (at + 8 * n) before left
   running_next =
       rw (add-one k)
       (record {
-        run = run_next s g.run chosen r t;
+        run = run_next s g.run chosen next r t;
         at_is = length_next;
         report_is = report_next;
       })

@@ -1,12 +1,12 @@
-// The report of a simulated bus (document 02, P12): the answers of each tick, written one behind the other. It leans on bus_setup for the
-// setup and on bus_ticks for the run.
+//! The report of a simulated bus (document 02, P12): the answers of each tick, written one behind the other. It leans on bus_setup for the
+//! setup and on bus_ticks for the run.
 #![tactic(auto)]
 
 ghost use Rattle.std.specs.Prelude.{◌≡◌, ◌*◌, ◌≤◌, ◌^◌, length};
 ghost use Rattle.bus_run.specs.Run.{simulate_number, simulate_into};
 ghost use Rattle.bus.specs.Reports.{answers_stored, Reported};
 
-use bus_ticks::{Bus, open_bus, tick};
+use bus_ticks::{Bus, open_bus};
 use codec_fields::store;
 
 // Writes the answers of a tick, 8 bytes each, from a place on; where there is no room for one it is left out.
@@ -15,38 +15,29 @@ fn write_answers(report: &mut [u8], at: usize, words: [u64; 8], n: u8)
     requires { (n ≤ 8) × (at ≤ 2 ^ 32) }
     ensures { report.new ≡ answers_stored report.old at words n }
 {
-    let mut i: u8 = 0;
-    while i < n {
-        let k = i as usize;
+    for i in 0..n {
+        let k = usize::from(i);
         store(report, at + 8 * k, 8, words[k]);
-        i += 1;
     }
 }
 
 // Runs the ticks and writes the report.
-#[tactic(auto, using(crate::specs::Reports::running_done))]
-fn run_report(opened: Bus, n: u8, step: u64, ticks: u64, report: &mut [u8])
+fn run_report(mut bus: Bus, n: u8, step: u64, ticks: u64, report: &mut [u8])
     requires { (n ≤ 8) × (step ≤ 1000000) × (ticks ≤ 1000000) }
-    ensures { Reported opened n step ticks report.old report.new }
+    ensures { Reported bus n step ticks report.old report.new }
 {
-    let mut bus = opened;
-    let mut k: u64 = 0;
     let mut clock: u64 = 0;
     let mut at: usize = 0;
-    while k < ticks {
-        let ticked = tick(bus, n, clock, 0);
-        let words = ticked.words;
-        write_answers(report, at, words, n);
-        let after = ticked.bus;
-        bus = after;
+    for _tick in 0..ticks {
+        let ticked = bus.tick(n, clock, 0);
+        write_answers(report, at, ticked.words, n);
         at += 8 * (n as usize);
         clock += step;
-        k += 1;
     }
 }
 
-// Runs a setup and writes the report, 8 bytes an answer, tick by tick, within a tick by rising address. Returns ticks × 256, or the
-// number that refuses it; then nothing is written.
+/// Runs a setup and writes the report, 8 bytes an answer, tick by tick, within a tick by rising address. Returns ticks × 256, or the
+/// number that refuses it; then nothing is written.
 #[tactic(auto, using(bus_run::specs::Sized::sized, crate::specs::Reports::product_small, crate::specs::Reports::room_short, crate::specs::Reports::simulate_refused, crate::specs::Reports::simulate_no_room, crate::specs::Reports::simulate_ran))]
 pub fn simulate(setup: &[u8], report: &mut [u8]) -> u64
     ensures value { result ≡ simulate_number setup.now (length report.old) }

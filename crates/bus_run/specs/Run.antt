@@ -1,7 +1,7 @@
 -- A simulated bus, tick by tick (document 02, P12): what each station is given, what it answers, what is on the bus then; the report and
 -- a station's trace. A station is named by its place by rising address, from 0. Assumes nothing.
-use Rattle.std.specs.Prelude.{ℕ, zero, suc, ◌+◌, ◌*◌, List, [], ◌∷◌, ◌++◌, Bool, cond, length, drop, get_or, eqb, ltb, leb}
-use Rattle.bit_times.specs.declared.Baud.TheVariants.{B9600}
+use Rattle.std.specs.Prelude.{ℕ, zero, suc, ◌+◌, ◌*◌, List, [], ◌∷◌, ◌++◌, Bool, cond, length, drop, get_or, eqb, ltb, leb, Result, Ok, Err}
+use Rattle.bit_times.specs.declared.baud.Baud.TheVariants.{B9600}
 use Rattle.codec_fields.specs.Fields.{bytes_of}
 use Rattle.codec_telegrams.specs.declared.Telegram.{Telegram}
 use Rattle.codec_telegrams.specs.declared.Telegram.TheVariants.{ShortConfirmation}
@@ -11,11 +11,10 @@ use Rattle.codec_records.specs.declared.Head.{Head}
 use Rattle.codec_records_written.specs.Whole.{record_bytes}
 use Rattle.codec_answers.specs.declared.Answer.{Answer}
 use Rattle.codec_answers.specs.Answers.{sent_bytes, answer_word}
-use Rattle.settings.specs.declared.Parameters.{Parameters}
-use Rattle.settings.specs.declared.Created.{Created}
-use Rattle.settings.specs.declared.Created.TheVariants as created
+use Rattle.settings.specs.declared.parameters.Parameters.{Parameters}
+use Rattle.refusals.specs.declared.refusal.Refusal.{Refusal}
 use Rattle.settings.specs.Settings.{default_of}
-use Rattle.station.specs.Whole.{Station}
+use Rattle.station.specs.declared.station.Station.{Station}
 use Rattle.station.specs.Parts.{fresh_station}
 use Rattle.station_answer.specs.Answer.{Polled}
 use Rattle.station_command.specs.Command.{online_of}
@@ -37,9 +36,9 @@ pub record Bus : Type 0 where
 -- The start.
 
 -- the settings that a station's header gives (every station of an accepted setup has some)
-abbrev pub settings_in : Created → Parameters
-settings_in (created.Accepted p) = p
-settings_in (created.Refused n) = default_of 0 B9600
+abbrev pub settings_in : Result Parameters Refusal → Parameters
+settings_in (Ok p) = p
+settings_in (Err refusal) = default_of 0 B9600
 
 -- the settings of the station at a place
 abbrev pub settings_for : List ℕ → ℕ → Parameters

@@ -7,8 +7,7 @@ use Rattle.codec_answers.specs.declared.Sent.{Sent}
 use Rattle.codec_answers.specs.Answers.{sent_bytes, answer_word}
 use Rattle.codec_decisions.specs.declared.Decision.TheVariants.{Decline}
 use Rattle.codec_records_written.specs.Stored.{head_stored, decision_stored}
-use Rattle.settings.specs.declared.Parameters.{Parameters}
-use Rattle.station.specs.Whole.{Station, station_at}
+use Rattle.settings.specs.declared.parameters.Parameters.{Parameters}
 use Rattle.station_poll.specs.Poll.{poll_of}
 use Rattle.bus_wire.specs.declared.Waiting.{Waiting}
 use Rattle.bus_wire.specs.declared.Wire.{Wire}
@@ -52,16 +51,16 @@ pub record RecordIs (now : ℕ) (transmitting : Bool) (w : Waiting) (r : Record)
   pub short : r.length ≤ 46
   pub full : length r.bytes ≡ 46
 
--- what a station's turn comes to
-pub record TurnIs (station : Station) (waiting : Waiting) (until : ℕ) (heard : Wire) (now place : ℕ) (r : Turn) : Type 0 where
-  pub bytes : take r.given.length r.given.bytes ≡ record_kept now (ltb now until) (offered_of waiting heard now place)
+-- what a station's turn makes of its seat, and what it comes to
+pub record TurnIs (before : Seat) (heard : Wire) (now place : ℕ) (after : Seat) (r : Turn) : Type 0 where
+  pub bytes : take r.given.length r.given.bytes ≡ record_kept now (ltb now before.until) (offered_of before.waiting heard now place)
   pub short : r.given.length ≤ 46
   pub full : length r.given.bytes ≡ 46
   pub station_after :
-      station_at r.seat.station r.seat.links ≡ (poll_of station (record_kept now (ltb now until) (offered_of waiting heard now place))).station
-  pub answer : r.answer ≡ (poll_of station (record_kept now (ltb now until) (offered_of waiting heard now place))).answer
-  pub waiting_after : r.seat.waiting ≡ left_of (offered_of waiting heard now place) r.answer.consumed
-  pub until_after_lem : r.seat.until ≡ until
+      after.station ≡ (poll_of before.station (record_kept now (ltb now before.until) (offered_of before.waiting heard now place))).station
+  pub answer : r.answer ≡ (poll_of before.station (record_kept now (ltb now before.until) (offered_of before.waiting heard now place))).answer
+  pub waiting_after : after.waiting ≡ left_of (offered_of before.waiting heard now place) r.answer.consumed
+  pub until_after_lem : after.until ≡ before.until
 
 -- when a telegram that is sent now ends
 abbrev pub end_of : ℕ → Sent → Parameters → ℕ
@@ -75,11 +74,12 @@ wire_after w now place sent p =
 unfoldable pub until_after : ℕ → ℕ → Sent → Parameters → ℕ
 until_after until now sent p = cond (eqb (sent_bytes sent) 0) until (later_of until (end_of now sent p))
 
--- a station's turn, with what it sends
-pub record PlaceIs (c : Seat) (heard wire : Wire) (now place : ℕ) (r : Place) : Type 0 where
+-- a station's turn, with what it sends: the seat and the bus after it, and what it comes to
+pub record PlaceIs (c : Seat) (heard wire : Wire) (now place : ℕ) (after : Seat) (left : Wire) (r : Place) : Type 0 where
+  pub turned : Seat
   pub turn : Turn
-  pub is : TurnIs (station_at c.station c.links) c.waiting c.until heard now place turn
-  pub seat : r.seat ≡ record { station = turn.seat.station; links = turn.seat.links; waiting = turn.seat.waiting; until = until_after turn.seat.until now turn.answer.sent c.station.p }
-  pub wire_after_lem : r.wire ≡ wire_after wire now place turn.answer.sent c.station.p
+  pub is : TurnIs c heard now place turned turn
+  pub seat : after ≡ record turned { until = until_after turned.until now turn.answer.sent c.station.p }
+  pub wire_after_lem : left ≡ wire_after wire now place turn.answer.sent c.station.p
   pub word : r.word ≡ answer_word turn.answer
   pub given : r.given ≡ turn.given

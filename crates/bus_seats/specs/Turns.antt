@@ -11,7 +11,7 @@ use borrow.Rule.Slice.PartMut.{mid_of, post_of, put_mid, same_len_mid}
 use Rattle.std.proofs.Math.ListN.{length, take, get_or, get_or-map}
 use Rattle.std.proofs.lemmas.List.{length-replicate}
 use Rattle.std.proofs.Math.Seq.{length-take-le}
-use Rattle.bit_times.specs.declared.Baud.{Baud}
+use Rattle.bit_times.specs.declared.baud.Baud.{Baud}
 use Rattle.bit_times.proofs.Laws.{time_bound}
 use Rattle.codec_fields.specs.Fields.{stored_of}
 use Rattle.codec_telegrams.specs.Words.{telegram_word}
@@ -22,7 +22,7 @@ use Rattle.codec_records.specs.declared.Head.{Head}
 use Rattle.codec_records_written.specs.Stored.{head_stored, decision_stored, telegram_stored}
 use Rattle.codec_records_written.specs.Whole.{record_bytes, decisions_stored, telegrams_stored, record_stored}
 use Rattle.codec_records_written.proofs.Written.{round_trip}
-use Rattle.station.specs.Whole.{Station, station_at}
+use Rattle.station.specs.declared.station.Station.{Station}
 use Rattle.station_answer.specs.Answer.{Polled}
 use Rattle.station_poll.specs.Poll.{poll_of}
 use Rattle.bus_wire.specs.declared.Waiting.{Waiting}
@@ -35,7 +35,6 @@ use Rattle.bus_wire.specs.Arrives.{OnWire, Arrival, own_latest}
 use Rattle.bus_wire.proofs.ArrivesLaws.{arrival, transmitting_is}
 use Rattle.bus_seats.specs.declared.Seat.{Seat as SeatKept}
 use Rattle.codec_answers.specs.declared.Answer.{Answer}
-use Rattle.station.specs.declared.Station.{Station as StationKept}
 use Rattle.bus_seats.specs.declared.Record.{Record}
 use Rattle.bus_seats.specs.declared.Turn.{Turn}
 use Rattle.bus_run.specs.Run.{Seat, Bus, given, head_at, declines, telegram_in, record_of, record_for, polled_for, answer_for, seat_after}
@@ -56,9 +55,6 @@ pub words_more :
     → after ≡ words_stored s w (j + 1)
 unfolding words_stored
 words_more s before after w j place word p q r e = rw (add-one j, ← p, ← q, ← r, e)
-
-pub words_all : (s bytes : List ℕ) (w : Waiting) (j : ℕ) → j ≡ w.count → bytes ≡ words_stored s w j → bytes ≡ words_stored s w w.count
-words_all s bytes w j e p = subst (λ (k : ℕ). bytes ≡ words_stored s w k) e p
 
 -- an element that is there, whatever stands for one that is not
 get_d_any : (l : List ℕ) (j d e : ℕ) → j < length l → get_or l j d ≡ get_or l j e
@@ -133,14 +129,14 @@ offered_waits w waiting heard wire now place g a =
 
 -- a seat of the code holds a seat of the bus; until is when the last that its station sent has ended
 pub record SeatIs (s : Seat) (until : ℕ) (c : SeatKept) : Type 0 where
-  pub station : station_at c.station c.links ≡ s.station
+  pub station : c.station ≡ s.station
   pub waits : Waits c.waiting s.waiting
   pub until_is : c.until ≡ until
 
-module _ (tick now place : ℕ) (b : Bus) (heard : Wire) (c : SeatKept) (r : Turn)
+module _ (tick now place : ℕ) (b : Bus) (heard : Wire) (c left : SeatKept) (r : Turn)
     (w : OnWire b.sent tick now heard)
     (g : SeatIs (b.seats place) (own_latest b.sent place) c)
-    (turn : TurnIs (station_at c.station c.links) c.waiting c.until heard now place r) where
+    (turn : TurnIs c heard now place left r) where
   offers : Waits (offered_of c.waiting heard now place) (given tick b now place)
   offers = offered_waits c.waiting (b.seats place).waiting (heard_at b.sent tick now place) heard now place g.waits (arrival b.sent tick now place heard w)
 
@@ -153,7 +149,7 @@ module _ (tick now place : ℕ) (b : Bus) (heard : Wire) (c : SeatKept) (r : Tur
   pub turn_record : take r.given.length r.given.bytes ≡ record_for tick b now place
   turn_record = turn.bytes ∙ kept_record
 
-  kept_poll : poll_of (station_at c.station c.links) (record_kept now (ltb now c.until) (offered_of c.waiting heard now place)) ≡ polled_for tick b now place
+  kept_poll : poll_of c.station (record_kept now (ltb now c.until) (offered_of c.waiting heard now place)) ≡ polled_for tick b now place
   unfolding polled_for
   kept_poll = rw (kept_record, g.station)
 
@@ -162,7 +158,7 @@ module _ (tick now place : ℕ) (b : Bus) (heard : Wire) (c : SeatKept) (r : Tur
   turn_answer = turn.answer ∙ ap (λ (p : Polled). p.answer) kept_poll
 
   -- and the seat that it leaves
-  pub turn_seat : SeatIs (seat_after tick b now place) (own_latest b.sent place) r.seat
+  pub turn_seat : SeatIs (seat_after tick b now place) (own_latest b.sent place) left
   unfolding seat_after
   turn_seat =
       record {
@@ -199,15 +195,15 @@ poll_part s n l p e = let same : n - 0 ≡ n = omega arith in e ∙ ap (λ (m : 
 
 -- A turn, from what its calls ensure.
 pub turn_taken :
-    (station : Station) (waiting offered left : Waiting) (until now place : ℕ) (heard : Wire) (given : Record) (s : StationKept) (links : List ℕ) (answer : Answer)
-    → offered ≡ offered_of waiting heard now place
-    → RecordIs now (ltb now until) offered given
-    → record { station = station_at s links; answer = answer } ≡ poll_of station (take given.length given.bytes)
+    (before : SeatKept) (offered left : Waiting) (now place : ℕ) (heard : Wire) (given : Record) (s : Station) (answer : Answer)
+    → offered ≡ offered_of before.waiting heard now place
+    → RecordIs now (ltb now before.until) offered given
+    → record { station = s; answer = answer } ≡ poll_of before.station (take given.length given.bytes)
     → left ≡ left_of offered answer.consumed
-    → TurnIs station waiting until heard now place (record { seat = record { station = s; links = links; waiting = left; until = until }; answer = answer; given = given })
-turn_taken station waiting offered left until now place heard given s links answer e m p l =
-    let kept : take given.length given.bytes ≡ record_kept now (ltb now until) (offered_of waiting heard now place) = m.bytes_are ∙ ap (λ (w : Waiting). record_kept now (ltb now until) w) e in
-    let same = p ∙ ap (λ (l : List ℕ). poll_of station l) kept in
+    → TurnIs before heard now place (record { station = s; waiting = left; until = before.until }) (record { answer = answer; given = given })
+turn_taken before offered left now place heard given s answer e m p l =
+    let kept : take given.length given.bytes ≡ record_kept now (ltb now before.until) (offered_of before.waiting heard now place) = m.bytes_are ∙ ap (λ (w : Waiting). record_kept now (ltb now before.until) w) e in
+    let same = p ∙ ap (λ (l : List ℕ). poll_of before.station l) kept in
     record {
       bytes = kept;
       short = m.short;

@@ -8,12 +8,12 @@ use native.Mathlib.Omega.{arith}
 use borrow.Author.Tests.{eq-eqb, ne_eqb, lt-ltb, le-ltb, eqb-true, eqb-false}
 use borrow.Table.Steps.{cases}
 use Rattle.std.proofs.Math.Dec.{eqb}
-use Rattle.bit_times.specs.declared.Baud.{Baud}
+use Rattle.bit_times.specs.declared.baud.Baud.{Baud}
 use Rattle.bit_times.proofs.Laws.{time_some}
 use Rattle.codec_telegrams.specs.Words.{telegram_word}
 use Rattle.codec_answers.specs.declared.Answer.{Answer}
 use Rattle.codec_answers.specs.Answers.{sent_bytes, answer_word}
-use Rattle.station.specs.Whole.{Station}
+use Rattle.station.specs.declared.station.Station.{Station}
 use Rattle.bus_wire.specs.declared.Wire.{Wire}
 use Rattle.bus_wire.specs.Wire.{Transmission, bytes_time, sent_telegram}
 use Rattle.bus_wire.specs.Kept.{later_of, sent_on, cleared_at}
@@ -38,16 +38,16 @@ pub record BusIs (tick n : ℕ) (b : Bus) (now : ℕ) (c : BusKept) : Type 0 whe
   pub seats : (d : SeatKept) (k : ℕ) → k < n → SeatIs (b.seats k) (own_latest b.sent k) (get_or c.seats k d)
   pub wire : OnWire b.sent tick now c.wire
 
--- what a tick leaves
-pub record TickIs (tick n : ℕ) (b : Bus) (now chosen : ℕ) (r : Ticked) : Type 0 where
-  pub bus : BusIs tick n (bus_after tick n b now) (now + tick) r.bus
+-- what a tick leaves, and what it comes to
+pub record TickIs (tick n : ℕ) (b : Bus) (now chosen : ℕ) (left : BusKept) (r : Ticked) : Type 0 where
+  pub bus : BusIs tick n (bus_after tick n b now) (now + tick) left
   pub words : (k : ℕ) → k < n → get_or r.words k 0 ≡ answer_word (answer_for tick b now k)
   pub chosen_record : chosen < n → take r.given.length r.given.bytes ≡ record_for tick b now chosen
 
-pub record Ticks (n now chosen : ℕ) (c : BusKept) (r : Ticked) : Type 0 where
+pub record Ticks (n now chosen : ℕ) (c left : BusKept) (r : Ticked) : Type 0 where
   pub short : r.given.length ≤ 46
   pub full : length r.given.bytes ≡ 46
-  pub is : (tick : ℕ) (b : Bus) → 0 < tick → BusIs tick n b now c → TickIs tick n b now chosen r
+  pub is : (tick : ℕ) (b : Bus) → 0 < tick → BusIs tick n b now c → TickIs tick n b now chosen left r
 
 -- What is sent takes some time.
 
@@ -146,12 +146,12 @@ module _ {tick n : ℕ} {b : Bus} {now chosen i : ℕ} {heard : Wire} {seats : L
     (heard_is : OnWire b.sent tick now heard)
     (g : Ticking tick n b now chosen i seats wire words given)
     (here : i < n) (room : n ≤ 8)
-    (d : SeatKept) (r : Place) (p : PlaceIs (get_or seats i d) heard wire now i r) where
+    (d seat : SeatKept) (left : Wire) (r : Place) (p : PlaceIs (get_or seats i d) heard wire now i seat left r) where
   seat_before : SeatIs (b.seats i) (own_latest b.sent i) (get_or seats i d)
   seat_before = g.rest d i (omega arith) here
 
   answers : p.turn.answer ≡ answer_for tick b now i
-  answers = turn_answer tick now i b heard (get_or seats i d) p.turn heard_is seat_before p.is
+  answers = turn_answer tick now i b heard (get_or seats i d) p.turned p.turn heard_is seat_before p.is
 
   settings_are : (get_or seats i d).station.p ≡ (b.seats i).station.p
   settings_are = ap (λ (s : Station). s.p) seat_before.station
@@ -182,11 +182,11 @@ module _ {tick n : ℕ} {b : Bus} {now chosen i : ℕ} {heard : Wire} {seats : L
 
   abbrev AfterTurn : Type 0
   AfterTurn =
-      OnWire (sent_after tick b now (suc i)) tick (now + tick) r.wire
+      OnWire (sent_after tick b now (suc i)) tick (now + tick) left
       × Before (suc i) now (sent_after tick b now (suc i))
-      × (until_after p.turn.seat.until now p.turn.answer.sent (get_or seats i d).station.p ≡ own_latest (sent_after tick b now (suc i)) i)
+      × (until_after p.turned.until now p.turn.answer.sent (get_or seats i d).station.p ≡ own_latest (sent_after tick b now (suc i)) i)
 
-  until_before : p.turn.seat.until ≡ own_latest (sent_after tick b now i) i
+  until_before : p.turned.until ≡ own_latest (sent_after tick b now i) i
   until_before = p.is.until_after_lem ∙ seat_before.until_is ∙ sym (own_before tick now b i i (omega arith))
 
   -- nothing is sent
@@ -215,22 +215,22 @@ module _ {tick n : ℕ} {b : Bus} {now chosen i : ℕ} {heard : Wire} {seats : L
   either : AfterTurn
   either = cases (eqb (bytes_for tick b now i) 0) (λ e. silent (eqb-true _ _ e)) (λ e. sends (eqb-false _ _ e))
 
-  seat_after_lem : SeatIs (seat_after tick b now i) (own_latest (sent_after tick b now (suc i)) i) r.seat
+  seat_after_lem : SeatIs (seat_after tick b now i) (own_latest (sent_after tick b now (suc i)) i) seat
   seat_after_lem =
-      let s = turn_seat tick now i b heard (get_or seats i d) p.turn heard_is seat_before p.is in
+      let s = turn_seat tick now i b heard (get_or seats i d) p.turned p.turn heard_is seat_before p.is in
       rw p.seat (record { station = s.station; waits = s.waits; until_is = either.2 })
 
   -- one turn more
   pub ticking_next :
       (picked : Record)
       → picked ≡ picked_of given r.given i chosen
-      → Ticking tick n b now chosen (i + 1) (set seats i r.seat) r.wire (set words i r.word) picked
+      → Ticking tick n b now chosen (i + 1) (set seats i seat) left (set words i r.word) picked
   ticking_next picked e =
       rw (add-one i)
       (record {
-        long = length-set seats i r.seat ∙ g.long;
+        long = length-set seats i seat ∙ g.long;
         done = λ d' k h. ⊎_elim (λ (s : k ≡ i). done_here d' k s) (λ (l : k < i). done_there d' k l) (eq-or-lt_of_le (omega arith));
-        rest = λ d' k l h. rw (get_or-set_other seats i k r.seat d' (λ s. omega arith)) (g.rest d' k (omega arith) h);
+        rest = λ d' k l h. rw (get_or-set_other seats i k seat d' (λ s. omega arith)) (g.rest d' k (omega arith) h);
         on = either.0;
         before = either.1;
         many = length-set words i r.word ∙ g.many;
@@ -238,17 +238,17 @@ module _ {tick n : ℕ} {b : Bus} {now chosen i : ℕ} {heard : Wire} {seats : L
         chosen_record = λ h. picks (cases (eqb i chosen) (λ t. inl t) (λ t. inr t)) h;
       })
     where
-      done_here : (d' : SeatKept) (k : ℕ) → k ≡ i → SeatIs (seat_after tick b now k) (own_latest (sent_after tick b now (suc i)) k) (get_or (set seats i r.seat) k d')
-      done_here d' k s = rw (s, get_or-set_same seats i r.seat d' (let long = g.long in omega arith)) seat_after_lem
+      done_here : (d' : SeatKept) (k : ℕ) → k ≡ i → SeatIs (seat_after tick b now k) (own_latest (sent_after tick b now (suc i)) k) (get_or (set seats i seat) k d')
+      done_here d' k s = rw (s, get_or-set_same seats i seat d' (let long = g.long in omega arith)) seat_after_lem
 
-      done_there : (d' : SeatKept) (k : ℕ) → k < i → SeatIs (seat_after tick b now k) (own_latest (sent_after tick b now (suc i)) k) (get_or (set seats i r.seat) k d')
-      done_there d' k l = rw (get_or-set_other seats i k r.seat d' (λ s. omega arith), own_step tick now b i k (λ s. omega arith)) (g.done d' k l)
+      done_there : (d' : SeatKept) (k : ℕ) → k < i → SeatIs (seat_after tick b now k) (own_latest (sent_after tick b now (suc i)) k) (get_or (set seats i seat) k d')
+      done_there d' k l = rw (get_or-set_other seats i k seat d' (λ s. omega arith), own_step tick now b i k (λ s. omega arith)) (g.done d' k l)
 
       word_here : (k : ℕ) → k ≡ i → get_or (set words i r.word) k 0 ≡ answer_word (answer_for tick b now k)
       word_here k s = rw (s, get_or-set_same words i r.word 0 (let many = g.many in omega arith)) (p.word ∙ ap answer_word answers)
 
       picks : (eqb i chosen ≡ true) ⊎ (eqb i chosen ≡ false) → chosen < suc i → take picked.length picked.bytes ≡ record_for tick b now chosen
-      picks (inl t) h = rw (e, picked_here given r.given i chosen t, p.given, ← eqb-true i chosen t) (turn_record tick now i b heard (get_or seats i d) p.turn heard_is seat_before p.is)
+      picks (inl t) h = rw (e, picked_here given r.given i chosen t, p.given, ← eqb-true i chosen t) (turn_record tick now i b heard (get_or seats i d) p.turned p.turn heard_is seat_before p.is)
       picks (inr t) h = rw (e, picked_there given r.given i chosen t) (g.chosen_record (let f = eqb-false i chosen t in below f))
         where
           below : (i ≡ chosen → ⊥) → chosen < i
@@ -256,13 +256,13 @@ module _ {tick n : ℕ} {b : Bus} {now chosen i : ℕ} {heard : Wire} {seats : L
 
 -- after the last turn
 pub ticking_last :
-    (tick n : ℕ) (b : Bus) (now chosen i : ℕ) (seats : List SeatKept) (wire : Wire) (words : List ℕ) (given : Record)
+    (tick n : ℕ) (b : Bus) (now chosen i : ℕ) (left : BusKept) (words : List ℕ) (given : Record)
     → i ≡ n
-    → Ticking tick n b now chosen i seats wire words given
-    → TickIs tick n b now chosen (record { bus = record { seats = seats; wire = wire }; words = words; given = given })
+    → Ticking tick n b now chosen i left.seats left.wire words given
+    → TickIs tick n b now chosen left (record { words = words; given = given })
 unfolding bus_after
-ticking_last tick n b now chosen i seats wire words given e t =
-    let g : Ticking tick n b now chosen n seats wire words given = subst (λ (m : ℕ). Ticking tick n b now chosen m seats wire words given) e t in
+ticking_last tick n b now chosen i left words given e t =
+    let g : Ticking tick n b now chosen n left.seats left.wire words given = subst (λ (m : ℕ). Ticking tick n b now chosen m left.seats left.wire words given) e t in
     record {
       bus = record { long = g.long; seats = λ d k h. g.done d k h; wire = g.on };
       words = g.word;
@@ -279,5 +279,5 @@ unfolding picked_of
 picked_short before new place chosen a b = cases (eqb place chosen) (λ t. rw t b) (λ t. rw t a)
 
 -- and the record that a place was given is as long
-pub place_short : (c : SeatKept) (heard wire : Wire) (now place : ℕ) (r : Place) → PlaceIs c heard wire now place r → (r.given.length ≤ 46) × (length r.given.bytes ≡ 46)
-place_short c heard wire now place r p = rw p.given (p.is.short, p.is.full)
+pub place_short : (c : SeatKept) (heard wire : Wire) (now place : ℕ) (after : SeatKept) (left : Wire) (r : Place) → PlaceIs c heard wire now place after left r → (r.given.length ≤ 46) × (length r.given.bytes ≡ 46)
+place_short c heard wire now place after left r p = rw p.given (p.is.short, p.is.full)

@@ -1,5 +1,5 @@
-// A simulated bus and its ticks (document 02, P12): eight seats at most, and what is on the bus; its start, where each station is fresh
-// and online. It leans on bus_setup for a station's header, on bus_seats for its turn and on bus_wire for what is on the bus.
+//! A simulated bus and its ticks (document 02, P12): eight seats at most, and what is on the bus; its start, where each station is fresh
+//! and online. It leans on bus_setup for a station's header, on bus_seats for its turn and on bus_wire for what is on the bus.
 #![tactic(auto)]
 
 ghost use Rattle.std.specs.Prelude.{◌≡◌, ◌≤◌, ◌<◌, ◌^◌};
@@ -9,23 +9,22 @@ ghost use Rattle.bus_ticks.specs.Ticks.{picked_of, Ticks};
 ghost use Rattle.bus_ticks.specs.Starts.{SeatStarts, BusStarts};
 
 use bit_times::Baud;
-use bus_seats::{Record, Seat, take_place};
+use bus_seats::{Record, Seat};
 use bus_wire::{Waiting, Wire};
-use settings::{Created, Parameters};
-use settings_watchdog::WatchdogFactors;
+use refusals::Refusal;
+use settings::Parameters;
 use station::Station;
 
-// The bus: eight seats, of which the first n are in use, and what is on it.
-#[derive(Clone, Copy)]
+/// The bus: eight seats, of which the first n are in use, and what is on it.
+#[derive(Drop)]
 pub struct Bus {
     pub seats: [Seat; 8],
     pub wire: Wire,
 }
 
-// What a tick leaves: the bus, the words of the answers by place, and the record of the chosen station.
+/// What a tick came to besides the bus: the words of the answers by place, and the record of the chosen station.
 #[derive(Clone, Copy)]
 pub struct Ticked {
-    pub bus: Bus,
     pub words: [u64; 8],
     pub given: Record,
 }
@@ -35,10 +34,7 @@ pub struct Ticked {
 fn picked(before: Record, new: Record, place: u8, chosen: u8) -> Record
     ensures { result ≡ picked_of before new place chosen }
 {
-    if place == chosen {
-        return new;
-    }
-    before
+    if place == chosen { new } else { before }
 }
 
 // The bus after the arrivals of now.
@@ -46,48 +42,35 @@ fn picked(before: Record, new: Record, place: u8, chosen: u8) -> Record
 fn cleared(wire: Wire, now: u64) -> Wire
     ensures { result ≡ cleared_at wire now }
 {
-    if wire.until <= now {
-        return Wire {
-            until: wire.until,
-            word: wire.word,
-            sender: wire.sender,
-            live: false,
-        };
+    if wire.until > now {
+        return wire;
     }
-    wire
+    Wire {
+        live: false,
+        ..wire
+    }
 }
 
-// A tick of n stations: each hears what arrives, and is polled, by rising address.
-pub fn tick(bus: Bus, n: u8, clock: u64, chosen: u8) -> Ticked
-    requires { (n ≤ 8) × (clock < 2 ^ 48) }
-    ensures { Ticks n clock chosen bus result }
-{
-    let heard = bus.wire;
-    let mut seats = bus.seats;
-    let mut wire = cleared(heard, clock);
-    let mut words = [0u64; 8];
-    let mut given = Record {
-        bytes: [0u8; 46],
-        length: 0,
-    };
-    let mut i: u8 = 0;
-    while i < n {
-        let at = i as usize;
-        let seat = seats[at];
-        let place = take_place(seat, heard, wire, clock, i);
-        let after = place.seat;
-        let listed = place.given;
-        seats[at] = after;
-        words[at] = place.word;
-        given = picked(given, listed, i, chosen);
-        wire = place.wire;
-        i += 1;
-    }
-    let out = Bus { seats, wire };
-    Ticked {
-        bus: out,
-        words,
-        given,
+impl Bus {
+    /// A tick of n stations: each hears what arrives, and is polled, by rising address.
+    pub fn tick(&mut self, n: u8, clock: u64, chosen: u8) -> Ticked
+        requires { (n ≤ 8) × (clock < 2 ^ 48) }
+        ensures { Ticks n clock chosen self.old self.new result }
+    {
+        let heard = self.wire;
+        self.wire = cleared(heard, clock);
+        let mut words = [0u64; 8];
+        let mut given = Record {
+            bytes: [0u8; 46],
+            length: 0,
+        };
+        for i in 0..n {
+            let at = i as usize;
+            let place = self.seats[at].take_place(heard, &mut self.wire, clock, i);
+            words[at] = place.word;
+            given = picked(given, place.given, i, chosen);
+        }
+        Ticked { words, given }
     }
 }
 
@@ -116,12 +99,12 @@ fn quiet_wire() -> Wire
 }
 
 // The settings that a station's header gives.
-fn settings_in(created: Created) -> Parameters
+fn settings_in(created: Result<Parameters, Refusal>) -> Parameters
     ensures { result ≡ settings_in created }
 {
     match created {
-        Created::Accepted(p) => p,
-        Created::Refused(_) => Parameters {
+        Ok(p) => p,
+        Err(_) => Parameters {
             token_rotation_bits: 32436,
             slot_bits: 100,
             address: 0,
@@ -130,48 +113,47 @@ fn settings_in(created: Created) -> Parameters
             highest_station_address: 126,
             max_retry_limit: 1,
             min_tsdr_bits: 11,
-            watchdog_factors: WatchdogFactors::None,
+            watchdog_factors: None,
         },
     }
 }
 
 // The station at a place, fresh and online.
-#[tactic(auto, using(bus_setup::specs::Laws::header_length_lem, crate::specs::Starts::seat_opened))]
+#[tactic(auto, using(bus_setup::specs::Laws::header_length_lem))]
 fn open_seat(setup: &[u8], n: u8, place: u8) -> Seat
     ensures { SeatStarts setup.now n place result }
 {
     let mut header = [0u8; 16];
     bus_setup::write_header(setup, bus_setup::placed(setup, n, place), &mut header);
-    let created = trace::trace_settings(&header);
-    let mut links = [127u8; 252];
-    let started = Station::new(settings_in(created), 1, &mut links);
-    let online = station_command::set_online(started.station, &links);
-    let station = online.station;
+    let settings = settings_in(trace::trace_settings(&header));
+    // one application is not refused
+    let Ok(mut station) = Station::new(settings, 1) else {
+        unreachable!();
+    };
+    station_command::set_online(&mut station);
     Seat {
         station,
-        links,
         waiting: nothing_waits(),
         until: 0,
     }
 }
 
-// The bus at the start: a fresh station at each place, online, and nothing was sent.
-#[tactic(auto, using(crate::specs::Starts::filled_none))]
+/// The bus at the start: a fresh station at each place, online, and nothing was sent.
 pub fn open_bus(setup: &[u8], n: u8) -> Bus
     requires { n ≤ 8 }
     ensures { BusStarts setup.now n result }
 {
-    let first = open_seat(setup, n, 0);
-    let mut seats = [first; 8];
-    let mut i: u8 = 0;
-    while i < n {
-        let seat = open_seat(setup, n, i);
-        let at = i as usize;
-        seats[at] = seat;
-        i += 1;
-    }
     Bus {
-        seats,
+        seats: [
+            open_seat(setup, n, 0),
+            open_seat(setup, n, 1),
+            open_seat(setup, n, 2),
+            open_seat(setup, n, 3),
+            open_seat(setup, n, 4),
+            open_seat(setup, n, 5),
+            open_seat(setup, n, 6),
+            open_seat(setup, n, 7),
+        ],
         wire: quiet_wire(),
     }
 }

@@ -138,11 +138,11 @@ tracing_first setup n tick ticks chosen c start before s b =
 
 module _ {setup : List ℕ} {n tick ticks k clock chosen : ℕ} {c : BusKept} {start at : ℕ} {before trace : List ℕ}
     (s : Set setup n tick ticks) (g : Tracing setup n tick k clock chosen c start at before trace) (one : chosen < n)
-    (r : Ticked) (t : Ticks n clock chosen c r) (left : List ℕ)
+    (next : BusKept) (r : Ticked) (t : Ticks n clock chosen c next r) (left : List ℕ)
     (l : left ≡ bytes_in trace at (r.given.length ∷ take r.given.length r.given.bytes)) where
   -- the record that is written is the one that the station was given
   given_is : take r.given.length r.given.bytes ≡ record_at setup k chosen
-  given_is = (ticked s g.run chosen r t).chosen_record one ∙ rw (g.run.clock_is, s.tick_is)
+  given_is = (ticked s g.run chosen next r t).chosen_record one ∙ rw (g.run.clock_is, s.tick_is)
 
   given_long : r.given.length ≡ length (record_at setup k chosen)
   given_long =
@@ -170,8 +170,8 @@ module _ {setup : List ℕ} {n tick ticks k clock chosen : ℕ} {c : BusKept} {s
       ∙ ap (λ (m : ℕ). bytes_in (bytes_in before start (entries_of setup chosen k)) m (length (record_at setup k chosen) ∷ record_at setup k chosen)) (sym g.at_is)
       ∙ bytes_more (entries_of setup chosen k) (length (record_at setup k chosen) ∷ record_at setup k chosen) before start
 
-  pub tracing_next : Tracing setup n tick (k + 1) (clock + tick) chosen r.bus start (at + (1 + r.given.length)) before left
-  tracing_next = rw (add-one k) (record { run = run_next s g.run chosen r t; at_is = at_next; trace_is = trace_next })
+  pub tracing_next : Tracing setup n tick (k + 1) (clock + tick) chosen next start (at + (1 + r.given.length)) before left
+  tracing_next = rw (add-one k) (record { run = run_next s g.run chosen next r t; at_is = at_next; trace_is = trace_next })
 
 -- after the last tick
 pub tracing_done :

@@ -1,6 +1,6 @@
-// A station's trace of a simulated bus (document 02, P12): its header of edition 1, online, and the record of each tick, as the station
-// was given it. The ticks are run twice: first nothing is kept of the trace but its length, so that a trace without room writes nothing.
-// It leans on bus_setup for the setup and on bus_ticks for the run.
+//! A station's trace of a simulated bus (document 02, P12): its header of edition 1, online, and the record of each tick, as the station
+//! was given it. The ticks are run twice: first nothing is kept of the trace but its length, so that a trace without room writes nothing.
+//! It leans on bus_setup for the setup and on bus_ticks for the run.
 #![tactic(auto)]
 
 ghost use Rattle.std.specs.Prelude.{◌≡◌, ◌+◌, ◌*◌, ◌≤◌, ◌<◌, ◌^◌, ◌∷◌, length, take};
@@ -9,7 +9,7 @@ ghost use Rattle.bus_run.specs.Run.{trace_of, trace_number, trace_into};
 ghost use Rattle.bus_trace.specs.Traces.{byte_in, bytes_in, Traced};
 
 use bus_seats::Record;
-use bus_ticks::{Bus, open_bus, tick};
+use bus_ticks::{Bus, open_bus};
 
 // Writes a byte; where there is no room for it, it is left out.
 #[tactic(auto, using(crate::specs::Traces::byte_written, crate::specs::Traces::byte_left_out))]
@@ -27,10 +27,8 @@ fn put_bytes(trace: &mut [u8], at: usize, bytes: &[u8])
     requires { at + length bytes.now < 2 ^ 64 }
     ensures { trace.new ≡ bytes_in trace.old at bytes.now }
 {
-    let mut j: usize = 0;
-    while j < bytes.len() {
-        put_byte(trace, at + j, bytes[j]);
-        j += 1;
+    for (j, byte) in bytes.iter().enumerate() {
+        put_byte(trace, at + j, *byte);
     }
 }
 
@@ -40,16 +38,14 @@ fn put_entry(trace: &mut [u8], at: usize, given: Record)
     requires { (given.length ≤ 46) × (length given.bytes ≡ 46) × (at ≤ 2 ^ 32) }
     ensures { trace.new ≡ bytes_in trace.old at (given.length ∷ take given.length given.bytes) }
 {
-    let bytes = given.bytes;
-    let length = given.length;
-    put_byte(trace, at, length as u8);
-    put_bytes(trace, at + 1, &bytes[0..length]);
+    put_byte(trace, at, given.length as u8);
+    put_bytes(trace, at + 1, &given.bytes[0..given.length]);
 }
 
 // Runs the ticks and writes the chosen station's entries from a place on; gives the place behind them.
-#[tactic(auto, using(crate::specs::Traces::tracing_first, crate::specs::Traces::tracing_next, crate::specs::Traces::tracing_done))]
+#[tactic(auto, using(crate::specs::Traces::tracing_first, crate::specs::Traces::tracing_next))]
 fn put_entries(
-    opened: Bus,
+    mut bus: Bus,
     n: u8,
     step: u64,
     ticks: u64,
@@ -58,21 +54,15 @@ fn put_entries(
     from: usize,
 ) -> usize
     requires { (n ≤ 8) × (step ≤ 1000000) × (ticks ≤ 1000000) × (from ≤ 17) }
-    ensures { (result ≤ 17 + 47 * ticks) × Traced opened n step ticks chosen from trace.old result trace.new }
+    ensures { (result ≤ 17 + 47 * ticks) × Traced bus n step ticks chosen from trace.old result trace.new }
 {
-    let mut bus = opened;
-    let mut k: u64 = 0;
     let mut clock: u64 = 0;
     let mut at: usize = from;
-    while k < ticks {
-        let ticked = tick(bus, n, clock, chosen);
-        let given = ticked.given;
+    for _tick in 0..ticks {
+        let given = bus.tick(n, clock, chosen).given;
         put_entry(trace, at, given);
-        let after = ticked.bus;
-        bus = after;
         at += 1 + given.length;
         clock += step;
-        k += 1;
     }
     at
 }
@@ -100,7 +90,7 @@ fn put_trace(setup: &[u8], station: u8, trace: &mut [u8]) -> usize
     )
 }
 
-// Writes the trace of the station with that place by rising address, from 0, of a run of a setup. Returns bytes × 256, or the number that
+/// Writes the trace of the station with that place by rising address, from 0, of a run of a setup. Returns bytes × 256, or the number that
 // refuses it; then nothing is written.
 #[tactic(auto, using(crate::specs::Traces::trace_refused, crate::specs::Traces::trace_nobody, crate::specs::Traces::trace_no_room, crate::specs::Traces::trace_done))]
 pub fn simulated_trace(setup: &[u8], station: u8, trace: &mut [u8]) -> u64

@@ -66,8 +66,7 @@ pub fn sent_telegram(sent: Sent, source: u8) -> Telegram
 pub fn bytes_time(bytes: u8, baud: Baud) -> u64
     ensures { result ≡ bytes_time bytes baud }
 {
-    let time = bit_times::time_of(Bits(11 * bytes as u32), baud);
-    time.0
+    baud.bits_to_time(Bits(11 * u32::from(bytes))).0
 }
 
 // The later of two times.
