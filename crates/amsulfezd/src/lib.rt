@@ -4,7 +4,8 @@
 // capture_import and capture_export.
 #![tactic(auto)]
 
-ghost use Rattle.std.specs.Prelude.{◌≡◌, length};
+ghost use Rattle.std.specs.Prelude.{◌≡◌, length, IfOk, IfErr};
+ghost use Rattle.refusals.specs.Refusals.{number_of as refusal_number, number_in};
 ghost use Rattle.bus_run.specs.Run.{simulate_number, simulate_into, trace_number, trace_into};
 ghost use Rattle.capture_export.specs.Export.{export_of, exported_of, buffer_of as exportBuffer};
 ghost use Rattle.capture_import.specs.Import.{import_of, imported_of, buffer_of as importBuffer};
@@ -20,6 +21,23 @@ ghost use Rattle.trace.specs.Trace.{replay_of, number_of, buffer_of};
 ghost use Rattle.trace_editions.specs.Editions.{move_number, move_into};
 ghost use Rattle.trace_counts.specs.TraceCounts.{counts_number, counts_into};
 ghost use Rattle.trace_heard.specs.TraceHeard.{heard_number, heard_into};
+
+use refusals::Refusal;
+
+// The number that a caller is given: what a call gives, or the number of its refusal alone.
+fn returned(answer: Result<u64, Refusal>) -> u64
+    ensures value { IfOk answer (λ number. result ≡ number) }
+    ensures refused { IfErr answer (λ refusal. result ≡ refusal_number refusal) }
+{
+    answer.unwrap_or_else(|refusal| u64::from(refusal.number()))
+}
+
+// The same of a call that gives nothing: 0, or the number of its refusal.
+fn number(answer: Result<(), Refusal>) -> u64
+    ensures { result ≡ number_in answer }
+{
+    returned(answer.map(|()| 0))
+}
 
 // Replays a trace and returns the entries answered × 256 + the ending number. Each entry's answer stands in the next eight
 // bytes of `answers`; the bytes past them stay as they were.
@@ -76,12 +94,16 @@ pub extern "C" fn amsulfezd_simulated_trace(setup: &[u8], station: u8, trace: &m
 // Writes the header that `header` begins with in the other edition into the first bytes of `out`, and returns the bytes written
 // × 256. Refused with 17, the header's numbers, or 18 where `out` is too short: then the number is returned and nothing is
 // written.
+#[tactic(auto, using(refusals::proofs::Numbers::refused), unfolding(trace_editions::specs::Editions::move_number))]
 #[unsafe(no_mangle)]
 pub extern "C" fn amsulfezd_other_edition(header: &[u8], out: &mut [u8]) -> u64
     ensures value { result ≡ move_number header.now (length out.old) }
     ensures out_after { out.new ≡ move_into header.now out.old }
 {
-    trace_editions::other_edition(header, out)
+    match trace_editions::other_edition(header, out) {
+        Ok(written) => returned(Ok(written as u64 * 256)),
+        Err(refusal) => returned(Err(refusal)),
+    }
 }
 
 // Reads the frame at the start of a slice and returns telegram word × 65536 + bytes used × 256, or a refusal's number alone.
@@ -94,12 +116,16 @@ pub extern "C" fn amsulfezd_read_frame(frame: &[u8]) -> u64
 
 // Writes the frame of a telegram word at the start of a slice and returns bytes written × 256 + number. A refused call writes
 // nothing; the bytes past the frame stay as they were.
+#[tactic(auto, using(codec_frames::specs::Laws::counted, codec_frames::specs::Laws::count_small, codec_frames::specs::Laws::count_refused))]
 #[unsafe(no_mangle)]
 pub extern "C" fn amsulfezd_write_frame(word: u32, frame: &mut [u8]) -> u64
     ensures value { result ≡ write_number (write_of word (length frame.old)) }
     ensures frame_after { frame.new ≡ written_over (write_of word (length frame.old)) frame.old }
 {
-    codec_frames::write_frame(word as u64, frame)
+    match codec_frames::write_frame(word as u64, frame) {
+        Ok(count) => count as u64 * 256,
+        Err(refusal) => u64::from(refusal.number()),
+    }
 }
 
 // Imports a capture: the entries of its lines stand at the start of `entries`, the bytes past them stay as they were. The first bad
@@ -117,10 +143,18 @@ pub extern "C" fn amsulfezd_import_capture(
     ensures line_after { line.new ≡ (imported_of (import_of text.now (length entries.old))).line }
     ensures written_after { written.new ≡ (imported_of (import_of text.now (length entries.old))).written }
 {
-    let imported = capture_import::import_capture(text, entries);
-    *line = imported.line;
-    *written = imported.written;
-    imported.refusal as u64
+    match capture_import::import_capture(text, entries) {
+        Ok(count) => {
+            *line = 0;
+            *written = count;
+            0
+        }
+        Err(refused) => {
+            *line = refused.line;
+            *written = refused.written;
+            u64::from(refused.refusal.number())
+        }
+    }
 }
 
 // Exports trace entries as a capture: the lines stand at the start of `text`, the bytes past them stay as they were. The first bad
@@ -138,10 +172,18 @@ pub extern "C" fn amsulfezd_export_capture(
     ensures after { entry.new ≡ (exported_of (export_of entries.now (length text.old))).entry }
     ensures written_after { written.new ≡ (exported_of (export_of entries.now (length text.old))).written }
 {
-    let exported = capture_export::export_capture(entries, text);
-    *entry = exported.entry;
-    *written = exported.written;
-    exported.refusal as u64
+    match capture_export::export_capture(entries, text) {
+        Ok(count) => {
+            *entry = 0;
+            *written = count;
+            0
+        }
+        Err(refused) => {
+            *entry = refused.entry;
+            *written = refused.written;
+            u64::from(refused.refusal.number())
+        }
+    }
 }
 
 // Settings in the caller's memory: the first 16 bytes of `header` are a header of edition 1.
@@ -158,7 +200,7 @@ pub extern "C" fn amsulfezd_new_settings(
     ensures value { result ≡ new_number address baud applications (length header.old) }
     ensures header_after { header.new ≡ new_into address baud applications header.old }
 {
-    settings_header::new_settings(address, baud, applications, header)
+    number(settings_header::new_settings(address, baud, applications, header))
 }
 
 // The setters. Each is refused with 17 where the bytes are too few, with the header's own number if it is refused for another reason
@@ -170,7 +212,7 @@ pub extern "C" fn amsulfezd_set_slot_bits(header: &mut [u8], slot_bits: u16) -> 
     ensures value { result ≡ set_number (λ p. slot_bits_of p slot_bits) header.old }
     ensures header_after { header.new ≡ set_into (λ p. slot_bits_of p slot_bits) header.old }
 {
-    settings_header::set_slot_bits(header, slot_bits)
+    number(settings_header::set_slot_bits(header, slot_bits))
 }
 
 // Sets the highest station address, and the rotation to 5000 bits for each of its addresses. Refused with 3.
@@ -179,7 +221,7 @@ pub extern "C" fn amsulfezd_set_highest_station_address(header: &mut [u8], hsa: 
     ensures value { result ≡ set_number (λ p. hsa_of p hsa) header.old }
     ensures header_after { header.new ≡ set_into (λ p. hsa_of p hsa) header.old }
 {
-    settings_header::set_highest_station_address(header, hsa)
+    number(settings_header::set_highest_station_address(header, hsa))
 }
 
 // Sets the target token rotation time in bits. Refused with 4.
@@ -188,7 +230,7 @@ pub extern "C" fn amsulfezd_set_token_rotation_bits(header: &mut [u8], ttr: u32)
     ensures value { result ≡ set_number (λ p. rotation_of p ttr) header.old }
     ensures header_after { header.new ≡ set_into (λ p. rotation_of p ttr) header.old }
 {
-    settings_header::set_token_rotation_bits(header, ttr)
+    number(settings_header::set_token_rotation_bits(header, ttr))
 }
 
 // Sets how many token rotations to wait before the gap is polled again. Refused with 5.
@@ -197,7 +239,7 @@ pub extern "C" fn amsulfezd_set_gap_wait_rotations(header: &mut [u8], gap_wait: 
     ensures value { result ≡ set_number (λ p. gap_wait_of p gap_wait) header.old }
     ensures header_after { header.new ≡ set_into (λ p. gap_wait_of p gap_wait) header.old }
 {
-    settings_header::set_gap_wait_rotations(header, gap_wait)
+    number(settings_header::set_gap_wait_rotations(header, gap_wait))
 }
 
 // Sets how often a telegram is retried. Refused with 6.
@@ -206,7 +248,7 @@ pub extern "C" fn amsulfezd_set_max_retry_limit(header: &mut [u8], max_retry_lim
     ensures value { result ≡ set_number (λ p. retry_of p max_retry_limit) header.old }
     ensures header_after { header.new ≡ set_into (λ p. retry_of p max_retry_limit) header.old }
 {
-    settings_header::set_max_retry_limit(header, max_retry_limit)
+    number(settings_header::set_max_retry_limit(header, max_retry_limit))
 }
 
 // Sets the least time in bits before anyone responds. Refused with 7.
@@ -215,7 +257,7 @@ pub extern "C" fn amsulfezd_set_min_tsdr_bits(header: &mut [u8], min_tsdr_bits: 
     ensures value { result ≡ set_number (λ p. min_tsdr_of p min_tsdr_bits) header.old }
     ensures header_after { header.new ≡ set_into (λ p. min_tsdr_of p min_tsdr_bits) header.old }
 {
-    settings_header::set_min_tsdr_bits(header, min_tsdr_bits)
+    number(settings_header::set_min_tsdr_bits(header, min_tsdr_bits))
 }
 
 // Sets the watchdog timeout in milliseconds. Refused with 8.
@@ -224,7 +266,7 @@ pub extern "C" fn amsulfezd_set_watchdog_timeout(header: &mut [u8], ms: u32) -> 
     ensures value { result ≡ set_number (λ p. watchdog_of p ms) header.old }
     ensures header_after { header.new ≡ set_into (λ p. watchdog_of p ms) header.old }
 {
-    settings_header::set_watchdog_timeout(header, ms)
+    number(settings_header::set_watchdog_timeout(header, ms))
 }
 
 // The number that the whole header is refused with, 25 among them, or 0: then the settings are finished.
@@ -232,7 +274,7 @@ pub extern "C" fn amsulfezd_set_watchdog_timeout(header: &mut [u8], ms: u32) -> 
 pub extern "C" fn amsulfezd_finish_settings(header: &[u8]) -> u64
     ensures { result ≡ finish_number header.now }
 {
-    settings_header::finish_settings(header)
+    number(settings_header::finish_settings(header))
 }
 
 // Opens a station: writes the 96 bytes of a fresh one, with the settings of the header that `header` begins with in either edition, and
@@ -294,5 +336,5 @@ pub extern "C" fn amsulfezd_table_heard(table: &[u8], address: u8, entry: &mut [
     ensures value { result ≡ summary_number (lookup_of table.now address) (length entry.old) }
     ensures after { entry.new ≡ summary_into (lookup_of table.now address) entry.old }
 {
-    heard_shown::summary(table, address, entry) as u64
+    number(heard_shown::summary(table, address, entry))
 }
