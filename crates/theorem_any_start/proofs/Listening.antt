@@ -1,20 +1,16 @@
 -- One silent poll of a station that waits for the lost token: Offline and online, ListenToken, ActiveIdle.
-use Rattle.std.specs.Prelude.{ℕ, Bool, ◌≡◌, List}
+use Rattle.std.specs.Prelude.{ℕ, Bool, ◌≡◌, List, Option, Some, None}
 use Rattle.std.proofs.Math.Bool.{true, false}
 use Rattle.std.proofs.Math.Path.{refl}
 use Rattle.std.proofs.Common.{sym, ap, ◌∙◌, arith}
 use borrow.Table.Steps.{cases}
-use Rattle.bit_times.specs.declared.Micros.{Micros}
-use Rattle.settings.specs.declared.Parameters.{Parameters}
+use Rattle.bit_times.specs.declared.micros.Micros.{Micros}
+use Rattle.settings.specs.declared.parameters.Parameters.{Parameters}
 use Rattle.settings.specs.Settings.{slot_time_of, token_lost_of}
 use Rattle.ring.specs.Ring.{Ring}
 use Rattle.codec_answers.specs.declared.Sent.TheVariants as sent
-use Rattle.station.specs.declared.OptionAddress.{OptionAddress}
-use Rattle.station.specs.declared.OptionAddress.TheVariants as optionAddress
-use Rattle.station.specs.declared.Activity.{Activity}
-use Rattle.station.specs.declared.Activity.TheVariants as activity
-use Rattle.station.specs.declared.State.{State}
-use Rattle.station.specs.declared.Core.{Core}
+use Rattle.station.specs.declared.state.State.{State}
+use Rattle.station.specs.declared.parts.Core.{Core}
 use Rattle.station.specs.Whole.{RingStep}
 use Rattle.station.specs.Steps.{pause_of, token_lost_wait_of, busy_of, done_of, transmit_of, heard_of}
 use Rattle.station_listen.specs.Listen.{handle_lost_token, respond_of, listen_answered, listen_response, heard_all, received_all, consumed_all, listen_token_on, listen_token_of, active_response, active_idle_on, active_idle_of, met_in, meetings_of}
@@ -31,13 +27,13 @@ use Rattle.theorem_any_start.specs.Listening.{Hears, idle, listening, ListenTurn
 -- The lost-token timeout.
 
 -- to come after it is what Silence says of the slot time, of another time
-pub lost_is : (a : Activity) (now timeout : ℕ) → lost_after a now timeout ≡ slot_after a now timeout
+pub lost_is : (a : Option Micros) (now timeout : ℕ) → lost_after a now timeout ≡ slot_after a now timeout
 unfolding lost_after slot_after
-lost_is activity.Unknown now timeout = refl
-lost_is (activity.At last) now timeout = refl
+lost_is None now timeout = refl
+lost_is (Some last) now timeout = refl
 
 -- a poll that comes after it comes after a slot
-pub lost_slot : (p : Parameters) (a : Activity) (now : ℕ) → lost_after a now (token_lost_of p).0 ≡ true → slot_after a now (slot_time_of p).0 ≡ true
+pub lost_slot : (p : Parameters) (a : Option Micros) (now : ℕ) → lost_after a now (token_lost_of p).0 ≡ true → slot_after a now (slot_time_of p).0 ≡ true
 lost_slot p a now e = after_shorter a now (slot_time_of p).0 (token_lost_of p).0 (slot_lost p) (sym (lost_is a now (token_lost_of p).0) ∙ e)
 
 module _ (p : Parameters) (w : Slotted p) (os : List ℕ) (c : Core) (r : Ring) (now : Micros) (g : Ready p c r os) where
@@ -67,35 +63,35 @@ module _ (p : Parameters) (w : Slotted p) (os : List ℕ) (c : Core) (r : Ring) 
 -- What ListenToken and ActiveIdle do with no telegram: nothing, or they answer.
 module _ (p : Parameters) (os : List ℕ) (c : Core) (r : Ring) (now : Micros) (bytes : List ℕ) (n : ℕ) (g : Ready p c r os) where
   -- a ready station goes to ActiveIdle, another one stays
-  answered_hears : (collisions : ℕ) (ready : Bool) → r.ready ≡ ready → Hears optionAddress.None (listen_answered r collisions)
+  answered_hears : (collisions : ℕ) (ready : Bool) → r.ready ≡ ready → Hears None (listen_answered r collisions)
   unfolding listen_answered connected_of
-  answered_hears i true e = rw e (idle optionAddress.None 0 refl)
+  answered_hears i true e = rw e (idle None 0 refl)
   answered_hears i false e = rw e (listening i refl)
 
-  listen_rest : (request : OptionAddress) (collisions : ℕ) → ListenTurn p now request os false (listen_token_on request p c r now collisions bytes n 0)
+  listen_rest : (request : Option ℕ) (collisions : ℕ) → ListenTurn p now request os false (listen_token_on request p c r now collisions bytes n 0)
   unfolding listen_token_on listen_response respond_of met_in meetings_of consumed_all received_all heard_all heard_of transmit_of done_of connected_of pause_of
-  listen_rest optionAddress.None i = waits refl refl (g, listening i refl)
-  listen_rest (optionAddress.Some source) i =
+  listen_rest None i = waits refl refl (g, listening i refl)
+  listen_rest (Some source) i =
       cases (pause_of p c now).over
       (λ e. rw e (answers refl source _ refl refl (active_ready p _ r os _ (known_ready p c r os now _ g), answered_hears i r.ready refl)))
       (λ e. rw e (waits refl refl (known_ready p c r os now _ g, listening i refl)))
 
-  active_rest : (request newPreviousStation : OptionAddress) (collisions : ℕ) → ListenTurn p now request os false (active_idle_on request p c r now newPreviousStation collisions bytes n 0)
+  active_rest : (request newPreviousStation : Option ℕ) (collisions : ℕ) → ListenTurn p now request os false (active_idle_on request p c r now newPreviousStation collisions bytes n 0)
   unfolding active_idle_on active_response respond_of met_in meetings_of consumed_all received_all heard_all heard_of transmit_of done_of connected_of pause_of
-  active_rest optionAddress.None m i = waits refl refl (g, idle m i refl)
-  active_rest (optionAddress.Some source) m i =
+  active_rest None m i = waits refl refl (g, idle m i refl)
+  active_rest (Some source) m i =
       cases (pause_of p c now).over
       (λ e. rw e (answers refl source _ refl refl (active_ready p _ r os _ (known_ready p c r os now _ g), idle m i refl)))
       (λ e. rw e (waits refl refl (known_ready p c r os now _ g, idle m i refl)))
 
 -- a turn of a poll that is not counted, by that
-uncounted_turn : (p : Parameters) (now : Micros) (request : OptionAddress) (os : List ℕ) (counts : Bool) (x : RingStep) → counts ≡ false → ListenTurn p now request os false x → ListenTurn p now request os counts x
+uncounted_turn : (p : Parameters) (now : Micros) (request : Option ℕ) (os : List ℕ) (counts : Bool) (x : RingStep) → counts ≡ false → ListenTurn p now request os false x → ListenTurn p now request os counts x
 uncounted_turn p now request os counts x f (claims g) = claims g
 uncounted_turn p now request os counts x f (answers e source state i t l) = answers f source state i t l
 uncounted_turn p now request os counts x f (waits e t l) = waits f t l
 
 -- Both states ask for the lost token first.
-module _ (p : Parameters) (w : Slotted p) (request : OptionAddress) (os : List ℕ) (s : State) (c : Core) (r : Ring) (now : Micros) (bytes : List ℕ) (n : ℕ) (g : Ready p c r os) where
+module _ (p : Parameters) (w : Slotted p) (request : Option ℕ) (os : List ℕ) (s : State) (c : Core) (r : Ring) (now : Micros) (bytes : List ℕ) (n : ℕ) (g : Ready p c r os) where
   lost_turn : (rest : Core → RingStep) → ((d : Core) → Ready p d r os → ListenTurn p now request os false (rest d)) → ListenTurn p now request os (counts_here p w os c r now g) (handle_lost_token p c r now rest)
   lost_turn rest then =
       cases (token_lost_wait_of p c now).over (λ e. claims (lost_claimed p w os c r now g rest e))

@@ -2,9 +2,9 @@
 use Rattle.std.specs.Prelude.{ℕ, ◌*◌, ◌≤◌, refl, List, length}
 use Rattle.std.proofs.Common.{arith}
 use Rattle.ring.specs.declared.GapState.{GapState}
-use Rattle.station.specs.declared.PassTokenAttempt.{PassTokenAttempt}
-use Rattle.station.specs.declared.PassTokenAttempt.TheVariants.{First, Second, Third}
-use Rattle.station.specs.declared.State.TheVariants.{CheckTokenPass}
+use Rattle.station.specs.declared.state.PassTokenAttempt.{PassTokenAttempt}
+use Rattle.station.specs.declared.state.PassTokenAttempt.TheVariants.{First, Second, Third}
+use Rattle.station.specs.declared.state.State.TheVariants.{CheckTokenPass}
 use Rattle.theorem_silence.proofs.Phases.{tokens_length}
 use Rattle.theorem_any_start.specs.AnyStart.{plan_on, in_plan}
 use Rattle.theorem_any_start.proofs.Theorem.{from_length}

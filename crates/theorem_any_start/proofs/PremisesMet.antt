@@ -1,6 +1,6 @@
 -- A station that calls make meets the premises of AnyStart.
 use Rattle.std.specs.Prelude.{◌≡◌}
-use Rattle.station.specs.Whole.{Station}
+use Rattle.station.specs.declared.station.Station.{Station}
 use Rattle.station.specs.Parts.{state_number}
 use Rattle.theorem_sound.proofs.Sound.{part_ring}
 use Rattle.theorem_silence.specs.Silence.{Online}

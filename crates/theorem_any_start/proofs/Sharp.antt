@@ -1,8 +1,8 @@
 -- 3k + 2 is sharp: where a token pass has a gap question due, 3k + 1 polls never lead to the token, and there is a run of 3k + 1 polls
 -- that are all counted. And so is the number of every other state that does not wait for the lost token.
-use Rattle.std.specs.Prelude.{ℕ, ◌+◌, ◌*◌, ◌^◌, ◌<◌, ◌≤◌, true, ◌≡◌, refl, List, [], ◌∷◌, length}
+use Rattle.std.specs.Prelude.{ℕ, ◌+◌, ◌*◌, ◌^◌, ◌<◌, ◌≤◌, true, ◌≡◌, refl, List, [], ◌∷◌, length, Some}
 use Rattle.std.proofs.Common.{subst, ◌∙◌, arith, one-add, le-leb}
-use Rattle.bit_times.specs.declared.Micros.{Micros}
+use Rattle.bit_times.specs.declared.micros.Micros.{Micros}
 use Rattle.bit_times.specs.Times.{byte_bits}
 use Rattle.bit_times.proofs.Laws.{time_grows}
 use Rattle.settings.specs.Settings.{token_lost_of}
@@ -10,10 +10,9 @@ use Rattle.settings_build.specs.Build.{first_refusal, plain_of}
 use Rattle.ring.specs.declared.GapState.TheVariants.{DoPoll}
 use Rattle.ring.specs.Ring.{others}
 use Rattle.codec_records.specs.Records.{head_of}
-use Rattle.station.specs.declared.Activity.TheVariants as activity
-use Rattle.station.specs.declared.PassTokenAttempt.{PassTokenAttempt}
-use Rattle.station.specs.declared.State.TheVariants.{PassToken}
-use Rattle.station.specs.Whole.{Station}
+use Rattle.station.specs.declared.state.PassTokenAttempt.{PassTokenAttempt}
+use Rattle.station.specs.declared.state.State.TheVariants.{PassToken}
+use Rattle.station.specs.declared.station.Station.{Station}
 use Rattle.station_pass.specs.Pass.{gap_advanced}
 use Rattle.station_poll.specs.Poll.{poll_of}
 use Rattle.theorem_silence.specs.Silence.{slot_after}
@@ -38,7 +37,7 @@ after_late (bytes ∷ later) s a =
     rw (lost_is s.core.last_bus_activity (head_of bytes).clock (token_lost_of s.p).0 ∙ a.0, after_late later (poll_of s bytes).station a.1) (one-add (length later))
 
 -- from any place, with known last activity: a run of as many polls as are wanted, up to one for each telegram, if the clock has room
-late_run : (ph : Phase) (s : Station) (last : Micros) (m : ℕ) → first_refusal (plain_of s.p) ≡ 0 → At ph s.p s.state s.core s.token_ring → s.core.last_bus_activity ≡ activity.At last → m ≤ length (todo s.p.address ph) → last.0 + (token_lost_of s.p).0 + m * late_time s.p < 2 ^ 48 → LateRun s m
+late_run : (ph : Phase) (s : Station) (last : Micros) (m : ℕ) → first_refusal (plain_of s.p) ≡ 0 → At ph s.p s.state s.core s.token_ring → s.core.last_bus_activity ≡ Some last → m ≤ length (todo s.p.address ph) → last.0 + (token_lost_of s.p).0 + m * late_time s.p < 2 ^ 48 → LateRun s m
 unfolding slot_after
 late_run ph s last m e g a l room =
     let p = s.p in
@@ -54,7 +53,7 @@ late_run ph s last m e g a l room =
     }
 
 -- so the number of telegrams to send is sharp
-pub sharp_from : (ph : Phase) (s : Station) (last : Micros) (m : ℕ) → first_refusal (plain_of s.p) ≡ 0 → At ph s.p s.state s.core s.token_ring → s.core.last_bus_activity ≡ activity.At last → length (todo s.p.address ph) ≡ m + 1 → last.0 + (token_lost_of s.p).0 + (m + 1) * late_time s.p < 2 ^ 48 → SharpAt s m
+pub sharp_from : (ph : Phase) (s : Station) (last : Micros) (m : ℕ) → first_refusal (plain_of s.p) ≡ 0 → At ph s.p s.state s.core s.token_ring → s.core.last_bus_activity ≡ Some last → length (todo s.p.address ph) ≡ m + 1 → last.0 + (token_lost_of s.p).0 + (m + 1) * late_time s.p < 2 ^ 48 → SharpAt s m
 sharp_from ph s last m e g a l room =
     let w = slotted s.p e in
     let short = late_run ph s last m e g a (omega arith) (room_less m (late_time s.p) _ room) in
@@ -67,7 +66,7 @@ sharp_from ph s last m e g a l room =
     }
 
 -- with a gap question due: 3k + 2
-pub sharp : (s : Station) (last : Micros) (a : ℕ) (attempt : PassTokenAttempt) → AnyStart s → s.state ≡ PassToken true attempt → gap_advanced s.p s.token_ring s.core.gap_state ≡ DoPoll a → s.core.last_bus_activity ≡ activity.At last → last.0 + (token_lost_of s.p).0 + (3 * length (others s.token_ring) + 2) * late_time s.p < 2 ^ 48 → SharpAt s (3 * length (others s.token_ring) + 1)
+pub sharp : (s : Station) (last : Micros) (a : ℕ) (attempt : PassTokenAttempt) → AnyStart s → s.state ≡ PassToken true attempt → gap_advanced s.p s.token_ring s.core.gap_state ≡ DoPoll a → s.core.last_bus_activity ≡ Some last → last.0 + (token_lost_of s.p).0 + (3 * length (others s.token_ring) + 2) * late_time s.p < 2 ^ 48 → SharpAt s (3 * length (others s.token_ring) + 1)
 sharp s last a attempt h state due known room =
     let os = others s.token_ring in
     let two : 3 * length os + 2 ≡ 3 * length os + 1 + 1 = omega arith in

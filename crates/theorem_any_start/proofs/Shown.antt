@@ -11,9 +11,9 @@ use Rattle.ring.proofs.Laws.{others_claim, others_fresh}
 use Rattle.codec_telegrams.specs.Words as words
 use Rattle.codec_decisions.specs.Decisions as decisions
 use Rattle.codec_records.specs.Records as records
-use Rattle.station.specs.declared.PassTokenAttempt.TheVariants.{First}
-use Rattle.station.specs.declared.State.TheVariants.{ClaimToken, PassToken}
-use Rattle.station.specs.Whole.{Station}
+use Rattle.station.specs.declared.state.PassTokenAttempt.TheVariants.{First}
+use Rattle.station.specs.declared.state.State.TheVariants.{ClaimToken, PassToken}
+use Rattle.station.specs.declared.station.Station.{Station}
 use Rattle.station.specs.Parts.{fresh_station, fresh_core, state_number, with_activity, with_gap, with_pending, with_token_times, with_next_application, with_connectivity, is_offline}
 use Rattle.station.specs.Steps as steps
 use Rattle.station_listen.specs.Listen as listening

@@ -1,8 +1,8 @@
 -- The proof of AnyStart and of Asked: where the station is, what a run from there comes to.
-use Rattle.std.specs.Prelude.{ℕ, suc, ◌+◌, ◌-◌, ◌*◌, ◌≤◌, Bool, true, false, cond, ◌≡◌, refl, List, [], ◌∷◌, ◌++◌, length, drop, eqb}
+use Rattle.std.specs.Prelude.{ℕ, suc, ◌+◌, ◌-◌, ◌*◌, ◌≤◌, Bool, true, false, cond, ◌≡◌, refl, List, [], ◌∷◌, ◌++◌, length, drop, eqb, Option, None}
 use Rattle.std.proofs.Common.{sym, ap, subst, ◌∙◌, length-append, length-drop, arith, zero-add}
 use borrow.Table.Steps.{cases}
-use Rattle.settings.specs.declared.Parameters.{Parameters}
+use Rattle.settings.specs.declared.parameters.Parameters.{Parameters}
 use Rattle.settings.specs.Settings.{token_lost_of}
 use Rattle.ring_addresses.specs.SetLaws.{true≢false}
 use Rattle.ring.specs.declared.GapState.{GapState}
@@ -11,14 +11,13 @@ use Rattle.ring.specs.Ring.{Ring, others}
 use Rattle.codec_records.specs.Records.{head_of}
 use Rattle.codec_answers.specs.declared.Sent.{Sent}
 use Rattle.codec_answers.specs.declared.Sent.TheVariants.{Token, StatusResponse}
-use Rattle.station.specs.declared.OptionAddress.{OptionAddress}
-use Rattle.station.specs.declared.OptionAddress.TheVariants as optionAddress
-use Rattle.station.specs.declared.PassTokenAttempt.{PassTokenAttempt}
-use Rattle.station.specs.declared.State.{State}
-use Rattle.station.specs.declared.State.TheVariants.{Offline, ListenToken, ActiveIdle, UseToken, ClaimToken, AwaitDataResponse, PassToken, CheckTokenPass, AwaitStatusResponse, PassiveIdle}
-use Rattle.station.specs.declared.Core.{Core}
-use Rattle.station.specs.declared.Counts.{Counts}
-use Rattle.station.specs.Whole.{Station, RingStep}
+use Rattle.station.specs.declared.state.PassTokenAttempt.{PassTokenAttempt}
+use Rattle.station.specs.declared.state.State.{State}
+use Rattle.station.specs.declared.state.State.TheVariants.{Offline, ListenToken, ActiveIdle, UseToken, ClaimToken, AwaitDataResponse, PassToken, CheckTokenPass, AwaitStatusResponse, PassiveIdle}
+use Rattle.station.specs.declared.parts.Core.{Core}
+use Rattle.station.specs.declared.parts.Counts.{Counts}
+use Rattle.station.specs.declared.station.Station.{Station}
+use Rattle.station.specs.Whole.{RingStep}
 use Rattle.station.specs.Parts.{state_number}
 use Rattle.station_pass.specs.Pass.{gap_advanced}
 use Rattle.station_answer.specs.Counted.{counted_of}
@@ -60,7 +59,7 @@ lost_on p n ks s c r bytes later x is = rw is
 -- The run of a station that waits for the lost token.
 
 -- a station that waits does not hold the token
-hears_number : (request : OptionAddress) (s : State) → Hears request s → eqb (state_number s) 3 ≡ false
+hears_number : (request : Option ℕ) (s : State) → Hears request s → eqb (state_number s) 3 ≡ false
 unfolding connected_of
 hears_number request Offline h = refl
 hears_number request (ListenToken q i) h = refl
@@ -75,7 +74,7 @@ hears_number request (AwaitStatusResponse a) h = refl
 hears_number request (PassiveIdle q) h = refl
 
 -- What a run comes to, by what it sends, the station at its end and the counted polls.
-record Ran (request : OptionAddress) (own : ℕ) (out : List Sent) (end : Station) (polls : ℕ) : Type 0 where
+record Ran (request : Option ℕ) (own : ℕ) (out : List Sent) (end : Station) (polls : ℕ) : Type 0 where
   pub first : List Sent
   pub first_is : Before (claim_plan request own) first
   pub rest : List Sent
@@ -84,7 +83,7 @@ record Ran (request : OptionAddress) (own : ℕ) (out : List Sent) (end : Statio
   pub some_of : holds_token end ≡ false → rest ≡ [] → ⊥
   pub in_time : 2 ≤ polls → holds_token end ≡ true
 
-abbrev RanOn : OptionAddress → Station → List (List ℕ) → Type 0
+abbrev RanOn : Option ℕ → Station → List (List ℕ) → Type 0
 RanOn request s records = Ran request s.p.address (sent_until s records) (until s records) (lost_counted_in s records)
 
 -- one telegram is no empty list
@@ -92,11 +91,11 @@ one_sent : {A : Type 0} (x : Sent) (l : List Sent) → x ∷ l ≡ [] → A
 one_sent x l e = let z : ◌≡◌ {A = ℕ} 0 1 = cc in absurd (omega arith)
 
 -- nothing was noted, so nothing is answered
-no_answer : (own : ℕ) (first : List Sent) → Before (claim_plan optionAddress.None own) first → first ≡ []
+no_answer : (own : ℕ) (first : List Sent) → Before (claim_plan None own) first → first ≡ []
 no_answer own first (asked e) = e
 no_answer own first (answered source state i e) = let z : ◌≡◌ {A = ℕ} 0 1 = cc in absurd (omega arith)
 
-module _ (p : Parameters) (w : Slotted p) (n : ℕ) (request : OptionAddress) (os : List ℕ) (ks : Counts) (s : State) (c : Core) (r : Ring) (bytes : List ℕ) (later : List (List ℕ)) (g : Listens request os p s c r) (q : AllQuiet n (bytes ∷ later)) where
+module _ (p : Parameters) (w : Slotted p) (n : ℕ) (request : Option ℕ) (os : List ℕ) (ks : Counts) (s : State) (c : Core) (r : Ring) (bytes : List ℕ) (later : List (List ℕ)) (g : Listens request os p s c r) (q : AllQuiet n (bytes ∷ later)) where
   -- the step, whether the poll is counted, the station after it
   abbrev the_step : RingStep
   the_step = quiet_step p (connected_of s) c r (clock_of bytes) bytes n
@@ -118,7 +117,7 @@ module _ (p : Parameters) (w : Slotted p) (n : ℕ) (request : OptionAddress) (o
   outside = hears_number request s g.1
 
   -- one poll, and a run from wherever it leads
-  module _ (then : (request : OptionAddress) (ms : Counts) (y : State) (d : Core) (t : Ring) → Listens request os p y d t → RanOn request (station_of p n ms y d t) later) where
+  module _ (then : (request : Option ℕ) (ms : Counts) (y : State) (d : Core) (t : Ring) → Listens request os p y d t → RanOn request (station_of p n ms y d t) later) where
     by_turn : ListenTurn p (clock_of bytes) request os is_counted the_step → Ran request p.address (told the_step.step.sent ++ sent_until after_it later) (until after_it later) (cond is_counted 1 0 + lost_counted_in after_it later)
     by_turn (claims x) =
         let ran = run_from_lem (claiming false os) after_it later w q.1 x.place in
@@ -132,7 +131,7 @@ module _ (p : Parameters) (w : Slotted p) (n : ℕ) (request : OptionAddress) (o
           in_time = λ l. ran.bound_of (omega (arith, one_less is_counted 1 (lost_counted_in after_it later) l, lost_fewer later after_it));
         }
     by_turn (answers f source state i t l) =
-        let ran = then optionAddress.None (counted_of ks the_step.step.event) _ _ _ l in
+        let ran = then None (counted_of ks the_step.step.event) _ _ _ l in
         record {
           first = StatusResponse source state ∷ [];
           first_is = answered source state i refl;
@@ -149,7 +148,7 @@ module _ (p : Parameters) (w : Slotted p) (n : ℕ) (request : OptionAddress) (o
         rw (sent_on p n ks s c r bytes later the_step outside polled, until_on p n ks s c r bytes later the_step outside polled, lost_on p n ks s c r bytes later the_step polled)
         (by_turn turned)
 
-ran : (records : List (List ℕ)) (p : Parameters) → Slotted p → (n : ℕ) → AllQuiet n records → (request : OptionAddress) (os : List ℕ) (ks : Counts) (s : State) (c : Core) (r : Ring) → Listens request os p s c r → RanOn request (station_of p n ks s c r) records
+ran : (records : List (List ℕ)) (p : Parameters) → Slotted p → (n : ℕ) → AllQuiet n records → (request : Option ℕ) (os : List ℕ) (ks : Counts) (s : State) (c : Core) (r : Ring) → Listens request os p s c r → RanOn request (station_of p n ks s c r) records
 unfolding sent_until until lost_counted_in holds_token
 ran [] p w n q request os ks s c r g =
     record {
@@ -164,12 +163,12 @@ ran [] p w n q request os ks s c r g =
 ran (bytes ∷ later) p w n q request os ks s c r g = ran_poll p w n request os ks s c r bytes later g q (λ k ms y d t l. ran later p w n q.1 k os ms y d t l)
 
 -- Its applications are asked: what comes before, and where.
-record Finds (request : OptionAddress) (p : Parameters) (os : List ℕ) (s : Station) (records : List (List ℕ)) : Type 0 where
+record Finds (request : Option ℕ) (p : Parameters) (os : List ℕ) (s : Station) (records : List (List ℕ)) : Type 0 where
   pub first : List Sent
   pub first_is : Before (claim_plan request p.address) first
   pub finds : Found p (first ++ claim_tokens true p.address) os s records
 
-module _ (p : Parameters) (w : Slotted p) (n : ℕ) (request : OptionAddress) (os : List ℕ) (ks : Counts) (s : State) (c : Core) (r : Ring) (bytes : List ℕ) (later : List (List ℕ)) (g : Listens request os p s c r) (q : AllQuiet n (bytes ∷ later)) (then : (request : OptionAddress) (ms : Counts) (y : State) (d : Core) (t : Ring) → Listens request os p y d t → 3 ≤ lost_counted_in (station_of p n ms y d t) later → Finds request p os (station_of p n ms y d t) later) (enough : 3 ≤ lost_counted_in (station_of p n ks s c r) (bytes ∷ later)) where
+module _ (p : Parameters) (w : Slotted p) (n : ℕ) (request : Option ℕ) (os : List ℕ) (ks : Counts) (s : State) (c : Core) (r : Ring) (bytes : List ℕ) (later : List (List ℕ)) (g : Listens request os p s c r) (q : AllQuiet n (bytes ∷ later)) (then : (request : Option ℕ) (ms : Counts) (y : State) (d : Core) (t : Ring) → Listens request os p y d t → 3 ≤ lost_counted_in (station_of p n ms y d t) later → Finds request p os (station_of p n ms y d t) later) (enough : 3 ≤ lost_counted_in (station_of p n ks s c r) (bytes ∷ later)) where
   abbrev the_turn : Type 0
   the_turn = ListenTurn p (clock_of bytes) request os (is_counted p w n request os ks s c r bytes later g q) (the_step p w n request os ks s c r bytes later g q)
 
@@ -190,7 +189,7 @@ module _ (p : Parameters) (w : Slotted p) (n : ℕ) (request : OptionAddress) (o
       let f = found later p w n q.1 (claiming false os) (counted_of ks (the_step p w n request os ks s c r bytes later g q).step.event) _ _ _ x.place (omega (arith, few, lost_fewer later (after_it p w n request os ks s c r bytes later g q))) in
       record { first = []; first_is = asked refl; finds = rw x.telegram at (behind_it _ f) }
   finds_on (answers e source state i t l) =
-      let f = then optionAddress.None (counted_of ks (the_step p w n request os ks s c r bytes later g q).step.event) _ _ _ l (uncounted (is_counted p w n request os ks s c r bytes later g q) 3 left e of_these) in
+      let f = then None (counted_of ks (the_step p w n request os ks s c r bytes later g q).step.event) _ _ _ l (uncounted (is_counted p w n request os ks s c r bytes later g q) 3 left e of_these) in
       record {
         first = StatusResponse source state ∷ [];
         first_is = answered source state i refl;
@@ -200,7 +199,7 @@ module _ (p : Parameters) (w : Slotted p) (n : ℕ) (request : OptionAddress) (o
       let f = then request (counted_of ks (the_step p w n request os ks s c r bytes later g q).step.event) _ _ _ l (uncounted (is_counted p w n request os ks s c r bytes later g q) 3 left e of_these) in
       record { first = f.first; first_is = f.first_is; finds = rw t at (behind_it _ f.finds) }
 
-finds_from : (records : List (List ℕ)) (p : Parameters) → Slotted p → (n : ℕ) → AllQuiet n records → (request : OptionAddress) (os : List ℕ) (ks : Counts) (s : State) (c : Core) (r : Ring) → Listens request os p s c r → 3 ≤ lost_counted_in (station_of p n ks s c r) records → Finds request p os (station_of p n ks s c r) records
+finds_from : (records : List (List ℕ)) (p : Parameters) → Slotted p → (n : ℕ) → AllQuiet n records → (request : Option ℕ) (os : List ℕ) (ks : Counts) (s : State) (c : Core) (r : Ring) → Listens request os p s c r → 3 ≤ lost_counted_in (station_of p n ks s c r) records → Finds request p os (station_of p n ks s c r) records
 unfolding lost_counted_in
 finds_from [] p w n q request os ks s c r g l = absurd (omega arith)
 finds_from (bytes ∷ later) p w n q request os ks s c r g l =
@@ -209,7 +208,7 @@ finds_from (bytes ∷ later) p w n q request os ks s c r g l =
 -- Where the station is: at a place of Silence's with as much to send as its state plans, or waiting for the lost token.
 data Placed (gap : GapState) (p : Parameters) (s : State) (c : Core) (r : Ring) : Type 0 where
   on_way : (ph : Phase) → At ph p s c r → others r ≡ in_ring ph → todo p.address ph ≡ (plan_on s gap (others r) p.address).question ++ (plan_on s gap (others r) p.address).tokens_left → Placed gap p s c r
-  hearing : (request : OptionAddress) → (4 ≤ state_number s → state_number s ≤ 8 → ⊥) → Hears request s → plan_on s gap (others r) p.address ≡ claim_plan request p.address → Placed gap p s c r
+  hearing : (request : Option ℕ) → (4 ≤ state_number s → state_number s ≤ 8 → ⊥) → Hears request s → plan_on s gap (others r) p.address ≡ claim_plan request p.address → Placed gap p s c r
 
 -- no question is due in a pass whose gap's turn has none
 no_turn : (p : Parameters) (c : Core) (r : Ring) (count : ℕ) → gap_advanced p r c.gap_state ≡ Waiting count → gap_due p c r true ≡ false
@@ -223,7 +222,7 @@ pass_placed false gap k p c r w e = on_way (starting k (others r)) (w, record { 
 
 placed : (s : State) (p : Parameters) (c : Core) (r : Ring) → Ready p c r (others r) → (state_number s ≡ 3 → ⊥) → (state_number s ≡ 5 → ⊥) → Placed (gap_advanced p r c.gap_state) p s c r
 unfolding connected_of
-placed Offline p c r w a b = hearing optionAddress.None (λ u v. omega arith) (listening 0 refl) refl
+placed Offline p c r w a b = hearing None (λ u v. omega arith) (listening 0 refl) refl
 placed (ListenToken q i) p c r w a b = hearing q (λ u v. omega arith) (listening i refl) refl
 placed (ActiveIdle q m i) p c r w a b = hearing q (λ u v. omega arith) (idle m i refl) refl
 placed (UseToken i d) p c r w a b = absurd (a refl)
@@ -232,7 +231,7 @@ placed (AwaitDataResponse x d) p c r w a b = absurd (b refl)
 placed (PassToken look k) p c r w a b = pass_placed look _ k p c r w refl
 placed (CheckTokenPass k) p c r w a b = on_way (checking k (others r)) (w, refl) refl refl
 placed (AwaitStatusResponse x) p c r w a b = on_way (awaiting (others r)) (w, record { address = x; awaiting_it = refl }) refl refl
-placed (PassiveIdle q) p c r w a b = hearing optionAddress.None (λ u v. omega arith) (listening 0 refl) refl
+placed (PassiveIdle q) p c r w a b = hearing None (λ u v. omega arith) (listening 0 refl) refl
 
 -- how much there is to send
 thrice_length : (os : List ℕ) → length (thrice os) ≡ 3 * length os

@@ -7,7 +7,8 @@
 --   (3k+2)th poll that comes at least the lost-token timeout after known last activity. A poll with unknown activity is not counted."
 --
 -- What a silent poll is, a run, when the token is held and what is sent until then are Silence's definitions (demand 3).
-use Rattle.std.specs.Prelude.{ℕ, suc, ◌+◌, ◌*◌, ◌≤◌, Bool, true, false, cond, ◌≡◌, List, [], ◌∷◌, ◌++◌, length, leb}
+use Rattle.std.specs.Prelude.{ℕ, suc, ◌+◌, ◌*◌, ◌≤◌, Bool, true, false, cond, ◌≡◌, List, [], ◌∷◌, ◌++◌, length, leb, Option, Some, None}
+use Rattle.bit_times.specs.declared.micros.Micros.{Micros}
 use Rattle.settings.specs.Settings.{token_lost_of}
 use Rattle.settings_build.specs.Build.{first_refusal, plain_of}
 use Rattle.ring.specs.declared.GapState.{GapState}
@@ -17,15 +18,11 @@ use Rattle.codec_telegrams.specs.declared.ResponseState.{ResponseState}
 use Rattle.codec_records.specs.Records.{head_of}
 use Rattle.codec_answers.specs.declared.Sent.{Sent}
 use Rattle.codec_answers.specs.declared.Sent.TheVariants.{StatusRequest, StatusResponse}
-use Rattle.station.specs.declared.OptionAddress.{OptionAddress}
-use Rattle.station.specs.declared.OptionAddress.TheVariants as optionAddress
-use Rattle.station.specs.declared.Activity.{Activity}
-use Rattle.station.specs.declared.Activity.TheVariants as activity
-use Rattle.station.specs.declared.ConnectivityState.TheVariants as connectivity
-use Rattle.station.specs.declared.PassTokenAttempt.{PassTokenAttempt}
-use Rattle.station.specs.declared.State.{State}
-use Rattle.station.specs.declared.State.TheVariants.{Offline, ListenToken, ActiveIdle, UseToken, ClaimToken, AwaitDataResponse, PassToken, CheckTokenPass, AwaitStatusResponse, PassiveIdle}
-use Rattle.station.specs.Whole.{Station}
+use Rattle.station.specs.declared.state.ConnectivityState.TheVariants as connectivity
+use Rattle.station.specs.declared.state.PassTokenAttempt.{PassTokenAttempt}
+use Rattle.station.specs.declared.state.State.{State}
+use Rattle.station.specs.declared.state.State.TheVariants.{Offline, ListenToken, ActiveIdle, UseToken, ClaimToken, AwaitDataResponse, PassToken, CheckTokenPass, AwaitStatusResponse, PassiveIdle}
+use Rattle.station.specs.declared.station.Station.{Station}
 use Rattle.station.specs.Parts.{state_number}
 use Rattle.station_pass.specs.Pass.{gap_advanced}
 use Rattle.station_poll.specs.Poll.{poll_of}
@@ -49,9 +46,9 @@ pub record AnyStart (s : Station) : Type 0 where
 -- Which polls count.
 
 -- a time comes at least the timeout after known last bus activity
-unfoldable pub lost_after : Activity → ℕ → ℕ → Bool
-lost_after activity.Unknown now timeout = false
-lost_after (activity.At last) now timeout = leb (last.0 + timeout) now
+unfoldable pub lost_after : Option Micros → ℕ → ℕ → Bool
+lost_after None now timeout = false
+lost_after (Some last) now timeout = leb (last.0 + timeout) now
 
 -- a poll is counted: its clock comes at least the lost-token timeout after the last bus activity, which is known before the poll
 unfoldable pub lost_counted : Station → List ℕ → Bool
@@ -66,35 +63,35 @@ lost_counted_in s (bytes ∷ later) = cond (lost_counted s bytes) 1 0 + lost_cou
 
 -- a status request that is noted and not answered yet; the gap question that is due; the tokens
 pub record Plan : Type 0 where
-  pub noted : OptionAddress
+  pub noted : Option ℕ
   pub question : List Sent
   pub tokens_left : List Sent
 
 -- nothing but these tokens
 abbrev pub only_tokens : List Sent → Plan
-only_tokens left = record { noted = optionAddress.None; question = []; tokens_left = left }
+only_tokens left = record { noted = None; question = []; tokens_left = left }
 
 -- who waits for the lost token claims it: two tokens to itself
-abbrev pub claim_plan : OptionAddress → ℕ → Plan
+abbrev pub claim_plan : Option ℕ → ℕ → Plan
 claim_plan request own = record { noted = request; question = []; tokens_left = claim_tokens true own }
 
 -- a token pass: with a gap question due it is asked first, and the pass then starts at its first attempt; the gap's turn counts only
 -- where the pass looks at the gap
 abbrev pub pass_plan : Bool → GapState → PassTokenAttempt → List ℕ → ℕ → Plan
-pass_plan true (DoPoll current) attempt stations own = record { noted = optionAddress.None; question = StatusRequest current ∷ []; tokens_left = tokens stations own }
+pass_plan true (DoPoll current) attempt stations own = record { noted = None; question = StatusRequest current ∷ []; tokens_left = tokens stations own }
 pass_plan true (Waiting count) attempt stations own = only_tokens (tokens_from (tried_before attempt) stations own)
 pass_plan false gap attempt stations own = only_tokens (tokens_from (tried_before attempt) stations own)
 
 -- by the state, with the gap's turn moved on by one (what a pass that looks at the gap does first), the others in ring order, and own
 abbrev pub plan_on : State → GapState → List ℕ → ℕ → Plan
-plan_on Offline gap stations own = claim_plan optionAddress.None own
+plan_on Offline gap stations own = claim_plan None own
 plan_on (ListenToken request collisions) gap stations own = claim_plan request own
 plan_on (ActiveIdle request newPreviousStation collisions) gap stations own = claim_plan request own
 plan_on (ClaimToken first) gap stations own = only_tokens (claim_tokens first own)
 plan_on (PassToken look attempt) gap stations own = pass_plan look gap attempt stations own
 plan_on (CheckTokenPass attempt) gap stations own = only_tokens (tokens_from (suc (tried_before attempt)) stations own)
 plan_on (AwaitStatusResponse address) gap stations own = only_tokens (tokens stations own)
-plan_on (PassiveIdle request) gap stations own = claim_plan optionAddress.None own
+plan_on (PassiveIdle request) gap stations own = claim_plan None own
 plan_on (UseToken cycled held) gap stations own = only_tokens []
 plan_on (AwaitDataResponse address held) gap stations own = only_tokens []
 
@@ -109,7 +106,7 @@ in_plan plan = length (plan.question ++ plan.tokens_left)
 -- its pause is over before the token is lost.
 pub data Before (plan : Plan) (first : List Sent) : Type 0 where
   asked : first ≡ plan.question → Before plan first
-  answered : (source : ℕ) (state : ResponseState) → plan.noted ≡ optionAddress.Some source → first ≡ StatusResponse source state ∷ [] → Before plan first
+  answered : (source : ℕ) (state : ResponseState) → plan.noted ≡ Some source → first ≡ StatusResponse source state ∷ [] → Before plan first
 
 -- What is claimed, for any such station and any list of later polls. `others` are the other stations in its ring, in ring order; k is
 -- their number, which is at most 125 (`others_length` of ring).

@@ -3,7 +3,7 @@
 use Rattle.std.specs.Prelude.{ℕ, ◌+◌, ◌*◌, ◌≤◌, ◌≡◌, List, ◌∷◌, ◌++◌, length}
 use Rattle.ring.specs.Ring.{others}
 use Rattle.codec_answers.specs.declared.Sent.{Sent}
-use Rattle.station.specs.Whole.{Station}
+use Rattle.station.specs.declared.station.Station.{Station}
 use Rattle.theorem_silence.specs.Silence.{AllQuiet}
 use Rattle.theorem_silence.specs.Letter.{after_polls, sent_in, Asks}
 use Rattle.theorem_any_start.specs.AnyStart.{AnyStart, lost_counted_in, plan_of, Before}

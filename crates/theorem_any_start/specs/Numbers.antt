@@ -1,20 +1,19 @@
 -- How many counted polls each state needs at most: as many as its plan has telegrams (`by_state` of AnyStart). None is above 3k + 2. As a
 -- statement; the proof is in proofs/Numbers.
-use Rattle.std.specs.Prelude.{ℕ, ◌+◌, ◌*◌, ◌≤◌, true, false, ◌≡◌, List}
+use Rattle.std.specs.Prelude.{ℕ, ◌+◌, ◌*◌, ◌≤◌, true, false, ◌≡◌, List, Option}
 use Rattle.ring.specs.declared.GapState.{GapState}
 use Rattle.ring.specs.declared.GapState.TheVariants.{Waiting, DoPoll}
-use Rattle.station.specs.declared.OptionAddress.{OptionAddress}
-use Rattle.station.specs.declared.PassTokenAttempt.{PassTokenAttempt}
-use Rattle.station.specs.declared.PassTokenAttempt.TheVariants.{First}
-use Rattle.station.specs.declared.State.TheVariants.{Offline, ListenToken, ActiveIdle, ClaimToken, PassToken, CheckTokenPass, AwaitStatusResponse, PassiveIdle}
+use Rattle.station.specs.declared.state.PassTokenAttempt.{PassTokenAttempt}
+use Rattle.station.specs.declared.state.PassTokenAttempt.TheVariants.{First}
+use Rattle.station.specs.declared.state.State.TheVariants.{Offline, ListenToken, ActiveIdle, ClaimToken, PassToken, CheckTokenPass, AwaitStatusResponse, PassiveIdle}
 use Rattle.theorem_any_start.specs.AnyStart.{plan_on, in_plan}
 
 -- by the state, with k others
 pub record Numbers (gap : GapState) (stations : List ℕ) (own k : ℕ) : Type 0 where
   pub offline : in_plan (plan_on Offline gap stations own) ≡ 2
-  pub was_passive : (request : OptionAddress) → in_plan (plan_on (PassiveIdle request) gap stations own) ≡ 2
-  pub listening : (request : OptionAddress) (collisions : ℕ) → in_plan (plan_on (ListenToken request collisions) gap stations own) ≡ 2
-  pub idle : (request newPreviousStation : OptionAddress) (collisions : ℕ) → in_plan (plan_on (ActiveIdle request newPreviousStation collisions) gap stations own) ≡ 2
+  pub was_passive : (request : Option ℕ) → in_plan (plan_on (PassiveIdle request) gap stations own) ≡ 2
+  pub listening : (request : Option ℕ) (collisions : ℕ) → in_plan (plan_on (ListenToken request collisions) gap stations own) ≡ 2
+  pub idle : (request newPreviousStation : Option ℕ) (collisions : ℕ) → in_plan (plan_on (ActiveIdle request newPreviousStation collisions) gap stations own) ≡ 2
   -- ClaimToken with its first token sent; that it stands before its first is covered, but no call leaves a station so
   pub claiming : in_plan (plan_on (ClaimToken false) gap stations own) ≡ 1
   pub before_claiming : in_plan (plan_on (ClaimToken true) gap stations own) ≡ 2

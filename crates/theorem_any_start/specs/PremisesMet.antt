@@ -4,7 +4,7 @@
 -- gap question is due, or its answer awaited, only where somebody is not in the ring, so with at most 124.
 use Rattle.std.specs.Prelude.{ℕ, ◌+◌, ◌*◌, ◌≤◌, ◌≡◌, length}
 use Rattle.ring.specs.Ring.{others}
-use Rattle.station.specs.Whole.{Station}
+use Rattle.station.specs.declared.station.Station.{Station}
 use Rattle.station.specs.Parts.{state_number}
 use Rattle.theorem_silence.specs.Calls.{ByCalls}
 use Rattle.theorem_any_start.specs.AnyStart.{AnyStart}

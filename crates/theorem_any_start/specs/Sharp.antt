@@ -1,9 +1,9 @@
 -- What it is that a number of polls is sharp: one fewer, all counted, that do not lead to the token, and as many that do. That 3k + 2 is,
 -- where a token pass has a gap question due, is proved in proofs/Sharp.
 use Rattle.std.specs.Prelude.{ℕ, ◌+◌, true, false, ◌≡◌, List, length}
-use Rattle.settings.specs.declared.Parameters.{Parameters}
+use Rattle.settings.specs.declared.parameters.Parameters.{Parameters}
 use Rattle.settings.specs.Settings.{token_lost_of}
-use Rattle.station.specs.Whole.{Station}
+use Rattle.station.specs.declared.station.Station.{Station}
 use Rattle.theorem_silence.specs.Silence.{AllQuiet, holds_token, until}
 use Rattle.theorem_silence.specs.Sharp.{bytes_time}
 use Rattle.theorem_any_start.specs.AnyStart.{lost_counted_in}

@@ -12,8 +12,8 @@ use Rattle.codec_telegrams.specs.declared.Telegram.{Telegram}
 use Rattle.codec_records.specs.Records.{record_refusal}
 use Rattle.codec_answers.specs.declared.Sent.{Sent}
 use Rattle.codec_answers.specs.declared.Sent.TheVariants as sent
-use Rattle.settings.specs.declared.Parameters.{Parameters}
-use Rattle.station.specs.Whole.{Station}
+use Rattle.settings.specs.declared.parameters.Parameters.{Parameters}
+use Rattle.station.specs.declared.station.Station.{Station}
 use Rattle.station.specs.Parts.{fresh_station}
 use Rattle.station_answer.specs.Answer.{polled_of, refused_poll}
 use Rattle.station_command.specs.Command.{connect_of, online_of}

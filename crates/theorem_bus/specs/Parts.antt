@@ -11,7 +11,7 @@ use Rattle.codec_fields.proofs.Laws.{low_length}
 use Rattle.codec_answers.specs.declared.Answer.{Answer}
 use Rattle.codec_answers.specs.Answers.{answer_word}
 use Rattle.codec_records_written.specs.Whole.{record_bytes}
-use Rattle.station.specs.Whole.{Station}
+use Rattle.station.specs.declared.station.Station.{Station}
 use Rattle.station_answer.specs.Answer.{Polled}
 use Rattle.station_command.specs.Command.{online_of}
 use Rattle.station_poll.specs.Poll.{poll_of}

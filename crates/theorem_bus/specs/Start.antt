@@ -1,22 +1,23 @@
 -- The header of a station's trace starts the station that its settings are for. Assumes nothing.
-use Rattle.std.specs.Prelude.{ℕ, ◌+◌, ◌^◌, ◌<◌, ◌≤◌, ◌≡◌, refl, List, [], ◌∷◌, ◌++◌, cond, drop, eqb, ltb}
+use Rattle.std.specs.Prelude.{ℕ, ◌+◌, ◌^◌, ◌<◌, ◌≤◌, ◌≡◌, refl, List, [], ◌∷◌, ◌++◌, cond, drop, eqb, ltb, Result, Ok, Err}
 use Rattle.std.proofs.Math.Path.{sym, ap, subst}
 use Rattle.std.proofs.Common.{◌∙◌, append-nil, arith, add-zero, zero-add, length-append, take_at, drop-cons, lit≤}
-use borrow.Author.Tests.{ne_eqb, le-ltb, le-leb, ltb-false, eqb-false}
+use borrow.Author.Tests.{ne_eqb, le-ltb, le-leb, ltb-false, eqb-false, eqb-true}
 use borrow.Table.Steps.{cases}
 use Rattle.std.proofs.Math.ListN.{length, get_or, get_or-append}
 use Rattle.std.proofs.Math.Seq.{get_or-take, get_or-drop}
 use Rattle.codec_fields.specs.Fields.{Bytes, be_from, load_of, low_bytes}
 use Rattle.codec_fields.proofs.Laws.{bytes_low, low_be, same_at}
 use Rattle.codec_fields.proofs.Stores.{load_room, loaded_bytes}
-use Rattle.bit_times.specs.declared.Coded.{Coded}
-use Rattle.bit_times.specs.declared.Coded.TheVariants.{Rate, Unknown}
+use Rattle.refusals.specs.declared.refusal.Refusal.{Refusal}
+use Rattle.refusals.specs.Refusals.{number_of, number_in, named, answered}
+use Rattle.refusals.proofs.Numbers.{refused}
+use Rattle.bit_times.specs.declared.baud.Baud.{Baud}
 use Rattle.bit_times.specs.Times.{baud_of}
-use Rattle.settings.specs.declared.Created.{Created}
-use Rattle.settings.specs.declared.Created.TheVariants as created
+use Rattle.settings.specs.declared.parameters.Parameters.{Parameters}
 use Rattle.settings.specs.Settings.{created_number}
 use Rattle.settings_rules.specs.Rules.{baud_refusal}
-use Rattle.settings_build.specs.declared.PlainSettings.{PlainSettings}
+use Rattle.settings_build.specs.declared.plain.PlainSettings.{PlainSettings}
 use Rattle.settings_build.specs.Build.{first_refusal, built_at, build_of}
 use Rattle.station.specs.Parts.{fresh_station}
 use Rattle.trace_headers.specs.declared.Header.{Header}
@@ -30,38 +31,42 @@ use Rattle.bus_run.specs.Sized.{passed, positive}
 
 -- Settings that are refused are refused with a number.
 
-abbrev Numbered : Created → Type 0
-Numbered (created.Accepted p) = Unit {0}
-Numbered (created.Refused n) = 0 < n
+abbrev Numbered : Result Parameters Refusal → Type 0
+Numbered (Ok p) = Unit {0}
+Numbered (Err refusal) = 0 < number_of refusal
 
-either_way : (n : ℕ) (x : Created) → Numbered x → Numbered (cond (eqb n 0) x (created.Refused n))
-either_way n x h = cases (eqb n 0) (λ t. rw t h) (λ t. rw t (positive n t))
+-- every refusal has a number
+has_number : (refusal : Refusal) → 0 < number_of refusal
+has_number refusal = cases (eqb (number_of refusal) 0) (λ t. absurd (refused refusal (eqb-true _ _ t))) (λ t. positive _ t)
 
-built : (f : PlainSettings) (c : Coded) → Numbered (built_at f c)
-unfolding built_at baud_refusal
-built f (Rate b) = tt
-built f Unknown = lit≤ tt
+either_way : (n : ℕ) (x : Result Parameters Refusal) → Numbered x → Numbered (cond (eqb n 0) x (Err (named n)))
+either_way n x h = cases (eqb n 0) (λ t. rw t h) (λ t. rw t (has_number (named n)))
+
+built : (f : PlainSettings) (c : Result Baud Refusal) → Numbered (built_at f c)
+unfolding built_at
+built f (Ok b) = tt
+built f (Err refusal) = has_number refusal
 
 settings_numbered : (h : Header) → Numbered (settings_of h)
 unfolding settings_of build_of
 settings_numbered h = either_way (header_refusal h) _ (either_way (first_refusal h.settings) _ (built h.settings (baud_of h.settings.baud_code)))
 
 -- so where there is no number there are settings
-accepted : (x : Created) → Numbered x → created_number x ≡ 0 → x ≡ created.Accepted (settings_in x)
-accepted (created.Accepted p) h e = refl
-accepted (created.Refused n) h e = absurd (omega arith)
+accepted : (x : Result Parameters Refusal) → Numbered x → created_number x ≡ 0 → x ≡ Ok (settings_in x)
+accepted (Ok p) h e = refl
+accepted (Err refusal) h e = absurd (omega arith)
 
 -- and its address is the plain one
-built_address : (f : PlainSettings) (c : Coded) → created_number (built_at f c) ≡ 0 → (settings_in (built_at f c)).address ≡ f.address
-unfolding built_at baud_refusal
-built_address f (Rate b) e = refl
-built_address f Unknown e = absurd (omega arith)
+built_address : (f : PlainSettings) (c : Result Baud Refusal) → created_number (built_at f c) ≡ 0 → (settings_in (built_at f c)).address ≡ f.address
+unfolding built_at
+built_address f (Ok b) e = refl
+built_address f (Err refusal) e = absurd (refused refusal e)
 
-either_address : (n address : ℕ) (x : Created) → (created_number x ≡ 0 → (settings_in x).address ≡ address) → created_number (cond (eqb n 0) x (created.Refused n)) ≡ 0 → (settings_in (cond (eqb n 0) x (created.Refused n))).address ≡ address
+either_address : (n address : ℕ) (x : Result Parameters Refusal) → (created_number x ≡ 0 → (settings_in x).address ≡ address) → created_number (cond (eqb n 0) x (Err (named n))) ≡ 0 → (settings_in (cond (eqb n 0) x (Err (named n)))).address ≡ address
 either_address n address x h e =
     cases (eqb n 0)
     (λ t. let z : created_number x ≡ 0 = rw t at e in rw t (h z))
-    (λ t. let z : n ≡ 0 = rw t at e in absurd (eqb-false n 0 t z))
+    (λ t. let z : number_of (named n) ≡ 0 = rw t at e in absurd (refused (named n) z))
 
 settings_address : (h : Header) → created_number (settings_of h) ≡ 0 → (settings_in (settings_of h)).address ≡ h.settings.address
 unfolding settings_of build_of
@@ -144,7 +149,7 @@ module _ (setup : List ℕ) (j : ℕ) (are : Bytes setup) (room : station_place 
     pub address_given : created_number (settings_at (station_header setup j)) ≡ 0 → (settings_in (settings_at (station_header setup j))).address ≡ address_of setup j
     address_given e =
         let same = own_settings in
-        ap (λ (x : Created). (settings_in x).address) same
+        ap (λ (x : Result Parameters Refusal). (settings_in x).address) same
         ∙ settings_address (header_in First (station_header setup j)) (sym (ap created_number same) ∙ e)
         ∙ header_address
         ∙ first_byte
@@ -160,5 +165,5 @@ module _ (setup : List ℕ) (j : ℕ) (are : Bytes setup) (room : station_place 
     starts rest l e =
         let numbered : Numbered (settings_at (station_header setup j)) = subst Numbered (sym own_settings) (settings_numbered (header_in First (station_header setup j))) in
         let is = accepted (settings_at (station_header setup j)) numbered e in
-        let same : settings_at (station_header setup j ++ rest) ≡ created.Accepted (settings_in (settings_at (station_header setup j))) = settings_of_lem rest l ∙ sym own_settings ∙ is in
+        let same : settings_at (station_header setup j ++ rest) ≡ Ok (settings_in (settings_at (station_header setup j))) = settings_of_lem rest l ∙ sym own_settings ∙ is in
         rw (same, header_of_lem rest, one_application)

@@ -11,7 +11,7 @@ use Rattle.codec_fields.proofs.Laws.{low_length}
 use Rattle.codec_telegrams.specs.declared.Telegram.{Telegram}
 use Rattle.codec_records_written.specs.Whole.{each, telegram_bytes, record_bytes}
 use Rattle.codec_answers.specs.declared.Answer.{Answer}
-use Rattle.station.specs.Whole.{Station}
+use Rattle.station.specs.declared.station.Station.{Station}
 use Rattle.station_command.specs.Command.{online_of}
 use Rattle.trace_headers.specs.Headers.{header_length}
 use Rattle.trace.specs.Entries.{record_length, entry_of}

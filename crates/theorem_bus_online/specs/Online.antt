@@ -1,11 +1,11 @@
 -- No station of a simulated bus goes offline, meets its own address, or sends an application's telegram. Assumes nothing.
-use Rattle.std.specs.Prelude.{ℕ, zero, suc, ◌+◌, ◌*◌, ◌^◌, ◌<◌, ◌≤◌, ◌≡◌, refl, List, [], ◌∷◌, ◌++◌, Bool, false, length, eqb}
+use Rattle.std.specs.Prelude.{ℕ, zero, suc, ◌*◌, ◌^◌, ◌<◌, ◌≤◌, ◌≡◌, refl, List, [], ◌∷◌, ◌++◌, Bool, false, length, eqb}
 use Rattle.std.proofs.Common.{sym, ◌∙◌, subst, arith, mul-le-mul, eq-eqb, le-ltb}
 use Rattle.std.proofs.Math.Path.{ap}
 use borrow.Table.Steps.{cases}
-use Rattle.bit_times.specs.declared.Micros.{Micros}
+use Rattle.bit_times.specs.declared.micros.Micros.{Micros}
 use Rattle.codec_fields.specs.Fields.{Bytes}
-use Rattle.settings.specs.declared.Parameters.{Parameters}
+use Rattle.settings.specs.declared.parameters.Parameters.{Parameters}
 use Rattle.settings_rules.specs.Rules.{refuse_outside, applications_refusal}
 use Rattle.codec_telegrams.specs.declared.Telegram.{Telegram}
 use Rattle.codec_telegrams.specs.Words.{TelegramFits}
@@ -18,11 +18,12 @@ use Rattle.codec_answers.specs.declared.Answer.{Answer}
 use Rattle.codec_answers.specs.declared.Sent.{Sent}
 use Rattle.codec_answers.specs.declared.Sent.TheVariants as sent
 use Rattle.codec_answers.specs.Answers.{SentFits}
-use Rattle.station.specs.declared.ConnectivityState.TheVariants as connectivity
-use Rattle.station.specs.declared.Counts.{Counts}
-use Rattle.station.specs.declared.Event.{Event}
-use Rattle.station.specs.declared.Event.TheVariants as event
-use Rattle.station.specs.Whole.{Station, RingStep}
+use Rattle.station.specs.declared.state.ConnectivityState.TheVariants as connectivity
+use Rattle.station.specs.declared.parts.Counts.{Counts}
+use Rattle.station.specs.declared.done.Event.{Event}
+use Rattle.station.specs.declared.done.Event.TheVariants as event
+use Rattle.station.specs.declared.station.Station.{Station}
+use Rattle.station.specs.Whole.{RingStep}
 use Rattle.station.specs.Parts.{fresh_station, with_connectivity}
 use Rattle.station.specs.Steps.{done_of}
 use Rattle.station_answer.specs.Counted.{counted_of}

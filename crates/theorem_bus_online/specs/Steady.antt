@@ -2,16 +2,14 @@
 -- online and in a state other than Offline, nothing is counted as a meeting, and no application's telegram is sent. One law for each step.
 -- Assumes nothing.
 use Prim.Native.Nat.{ℕ, zero, suc, ◌<◌, ◌≤◌}
-use Rattle.std.specs.Prelude.{Bool, ◌≡◌, List, ltb, eqb}
+use Rattle.std.specs.Prelude.{Bool, ◌≡◌, List, ltb, eqb, Option, Some, None}
 use Rattle.std.proofs.Math.Bool.{true, false}
 use Rattle.std.proofs.Math.Path.{refl}
 use Rattle.std.proofs.Common.{sym, ◌∙◌, subst, arith}
-use Rattle.bit_times.specs.declared.Micros.{Micros}
-use Rattle.settings.specs.declared.Parameters.{Parameters}
+use Rattle.bit_times.specs.declared.micros.Micros.{Micros}
+use Rattle.settings.specs.declared.parameters.Parameters.{Parameters}
 use Rattle.ring.specs.declared.GapState.{GapState}
 use Rattle.ring.specs.declared.GapState.TheVariants.{Waiting, DoPoll}
-use Rattle.ring.specs.declared.NextStation.{NextStation}
-use Rattle.ring.specs.declared.NextStation.TheVariants.{Nobody, Neighbour}
 use Rattle.ring.specs.Ring.{Ring, prev_of}
 use Rattle.codec_telegrams.specs.declared.Telegram.{Telegram}
 use Rattle.codec_telegrams.specs.declared.Telegram.TheVariants as telegram
@@ -22,24 +20,20 @@ use Rattle.codec_answers.specs.declared.Outcome.{Outcome}
 use Rattle.codec_answers.specs.declared.Outcome.TheVariants as outcome
 use Rattle.codec_answers.specs.declared.Sent.{Sent}
 use Rattle.codec_answers.specs.declared.Sent.TheVariants as sent
-use Rattle.station.specs.declared.ConnectivityState.{ConnectivityState}
-use Rattle.station.specs.declared.OptionAddress.{OptionAddress}
-use Rattle.station.specs.declared.OptionAddress.TheVariants as optionAddress
-use Rattle.station.specs.declared.PassTokenAttempt.{PassTokenAttempt}
-use Rattle.station.specs.declared.PassTokenAttempt.TheVariants.{First, Second, Third}
-use Rattle.station.specs.declared.UseTokenData.{UseTokenData}
-use Rattle.station.specs.declared.State.{State}
-use Rattle.station.specs.declared.State.TheVariants.{Offline, ListenToken, ActiveIdle, UseToken, ClaimToken, AwaitDataResponse, PassToken, CheckTokenPass, AwaitStatusResponse, PassiveIdle}
-use Rattle.station.specs.declared.Core.{Core}
-use Rattle.station.specs.declared.Event.{Event}
-use Rattle.station.specs.declared.Event.TheVariants as event
-use Rattle.station.specs.declared.Step.{Step}
-use Rattle.station.specs.Whole.{RingStep, Heard}
+use Rattle.station.specs.declared.state.ConnectivityState.{ConnectivityState}
+use Rattle.station.specs.declared.state.PassTokenAttempt.{PassTokenAttempt}
+use Rattle.station.specs.declared.state.PassTokenAttempt.TheVariants.{First, Second, Third}
+use Rattle.station.specs.declared.state.UseTokenData.{UseTokenData}
+use Rattle.station.specs.declared.state.State.{State}
+use Rattle.station.specs.declared.state.State.TheVariants.{Offline, ListenToken, ActiveIdle, UseToken, ClaimToken, AwaitDataResponse, PassToken, CheckTokenPass, AwaitStatusResponse, PassiveIdle}
+use Rattle.station.specs.declared.parts.Core.{Core}
+use Rattle.station.specs.declared.done.Event.{Event}
+use Rattle.station.specs.declared.done.Event.TheVariants as event
+use Rattle.station.specs.Whole.{Step, RingStep, Heard}
 use Rattle.station.specs.Parts.{with_activity, with_pending, with_gap, with_next_application}
 use Rattle.station.specs.Steps.{ongoing_of, waited_of, pause_of, slot_expired_of, token_lost_wait_of, rx_of, bus_activity_of, done_of, transmit_of, with_event, heard_of}
 use Rattle.station_claim.specs.Claim.{claim_next, claim_token_of}
-use Rattle.station_hold.specs.declared.Asked.{Asked}
-use Rattle.station_hold.specs.Hold.{use_pass_of, app_transmit_of, use_apps_after, use_apps_of, holds_of, use_token_timed, use_token_of, valid_response, received_of, with_notice, timeout_of, await_data_of}
+use Rattle.station_hold.specs.Hold.{Asked, use_pass_of, app_transmit_of, use_apps_after, use_apps_of, holds_of, use_token_timed, use_token_of, valid_response, received_of, with_notice, timeout_of, await_data_of}
 use Rattle.station_hear_active.specs.HearActive.{remembers, accepted_of, token_to_us, token_witnessed, token_heard, active_requested, active_heard, handle_telegram}
 use Rattle.station_hear_listen.specs.HearListen.{sent_by_us, listen_heard, passive_heard, listen_telegram}
 use Rattle.station_listen.specs.Listen.{handle_lost_token, listen_answered, respond_of, listen_response, heard_telegram, heard_all, met_too, met_in, received_all, meetings_of, consumed_all, listen_token_on, listen_token_of, active_response, active_idle_on, active_idle_of}
@@ -167,10 +161,10 @@ module _ (p : Parameters) (now : Micros) (v : ConnectivityState) (bytes : List �
       (either (Steady v) (slot_expired_of p c now).over _ _ (timeout_steady _ a held e) (done_steady _ _ _ e tt))
 
   -- do_pass_token
-  pass_sent_steady : (x : NextStation) (c : Core) (a : PassTokenAttempt) (to : ℕ) (r : Ring) → On c → S (pass_sent_on x p c now a to r)
+  pass_sent_steady : (x : Option ℕ) (c : Core) (a : PassTokenAttempt) (to : ℕ) (r : Ring) → On c → S (pass_sent_on x p c now a to r)
   unfolding pass_sent_on
-  pass_sent_steady Nobody c a to r e = transmit_steady _ c _ e tt tt
-  pass_sent_steady (Neighbour next) c a to r e = transmit_steady _ c _ e tt tt
+  pass_sent_steady None c a to r e = transmit_steady _ c _ e tt tt
+  pass_sent_steady (Some next) c a to r e = transmit_steady _ c _ e tt tt
 
   pass_send_steady : (c : Core) (r : Ring) (a : PassTokenAttempt) → On c → S (pass_send p c r now a)
   unfolding pass_send
@@ -221,28 +215,28 @@ module _ (p : Parameters) (now : Micros) (v : ConnectivityState) (bytes : List �
   unfolding accepted_of
   accepted_steady c r e = heard_steady _ c r _ e tt
 
-  to_us_steady : (c : Core) (r : Ring) (q m : OptionAddress) (destination source : ℕ) → On c → H (token_to_us c r now q m destination source)
+  to_us_steady : (c : Core) (r : Ring) (q m : Option ℕ) (destination source : ℕ) → On c → H (token_to_us c r now q m destination source)
   unfolding token_to_us
   to_us_steady c r q m destination source e =
       either H (eqb source (prev_of r)) _ _ (accepted_steady c r e)
       (either H (remembers m source) _ _ (accepted_steady c _ e) (heard_steady _ c _ _ e tt))
 
-  witnessed_steady : (c : Core) (r : Ring) (q m : OptionAddress) (destination source : ℕ) → On c → H (token_witnessed c r q m destination source)
+  witnessed_steady : (c : Core) (r : Ring) (q m : Option ℕ) (destination source : ℕ) → On c → H (token_witnessed c r q m destination source)
   unfolding token_witnessed
   witnessed_steady c r q m destination source e = heard_steady _ c _ _ e tt
 
-  token_steady : (c : Core) (r : Ring) (q m : OptionAddress) (k destination source : ℕ) (last : Bool) → eqb source p.address ≡ false → On c → H (token_heard p c r now q m k destination source last)
+  token_steady : (c : Core) (r : Ring) (q m : Option ℕ) (k destination source : ℕ) (last : Bool) → eqb source p.address ≡ false → On c → H (token_heard p c r now q m k destination source last)
   unfolding token_heard
   token_steady c r q m k destination source last other e =
       rw other
       (either H (eqb destination p.address) _ _ (either H last _ _ (to_us_steady c r q m destination source e) (witnessed_steady c r q m destination source e))
       (witnessed_steady c r q m destination source e))
 
-  requested_steady : (c : Core) (r : Ring) (q m : OptionAddress) (k source : ℕ) (noted : Bool) → On c → H (active_requested c r q m k source noted)
+  requested_steady : (c : Core) (r : Ring) (q m : Option ℕ) (k source : ℕ) (noted : Bool) → On c → H (active_requested c r q m k source noted)
   unfolding active_requested
   requested_steady c r q m k source noted e = either H noted _ _ (heard_steady _ c r _ e tt) (heard_steady _ c r _ e tt)
 
-  active_steady : (c : Core) (r : Ring) (q m : OptionAddress) (k : ℕ) (t : Telegram) (last : Bool) → sent_by_us p.address t ≡ false → On c → H (active_heard p c r now q m k t last)
+  active_steady : (c : Core) (r : Ring) (q m : Option ℕ) (k : ℕ) (t : Telegram) (last : Bool) → sent_by_us p.address t ≡ false → On c → H (active_heard p c r now q m k t last)
   unfolding active_heard sent_by_us
   active_steady c r q m k (telegram.Token destination source) last other e = token_steady c r q m k destination source last other e
   active_steady c r q m k telegram.ShortConfirmation last other e = heard_steady _ c r _ e tt
@@ -262,11 +256,11 @@ module _ (p : Parameters) (now : Micros) (v : ConnectivityState) (bytes : List �
   handle_steady (AwaitStatusResponse a) c r t last other e k = heard_steady _ c r _ e k
   handle_steady (PassiveIdle q) c r t last other e k = heard_steady _ c r _ e k
 
-  listen_heard_steady : (c : Core) (r : Ring) (q : OptionAddress) (k : ℕ) (t : Telegram) (last : Bool) → sent_by_us p.address t ≡ false → On c → H (listen_heard p c r q k t last)
+  listen_heard_steady : (c : Core) (r : Ring) (q : Option ℕ) (k : ℕ) (t : Telegram) (last : Bool) → sent_by_us p.address t ≡ false → On c → H (listen_heard p c r q k t last)
   unfolding listen_heard
   listen_heard_steady c r q k t last other e = rw other (heard_steady _ c _ _ e tt)
 
-  passive_heard_steady : (c : Core) (r : Ring) (q : OptionAddress) (t : Telegram) (last : Bool) → sent_by_us p.address t ≡ false → On c → H (passive_heard p c r q t last)
+  passive_heard_steady : (c : Core) (r : Ring) (q : Option ℕ) (t : Telegram) (last : Bool) → sent_by_us p.address t ≡ false → On c → H (passive_heard p c r q t last)
   unfolding passive_heard
   passive_heard_steady c r q t last other e = rw other (heard_steady _ c _ _ e tt)
 
@@ -321,10 +315,10 @@ module _ (p : Parameters) (now : Micros) (v : ConnectivityState) (bytes : List �
   consumed_steady h count b = record { same = b.heard_same; there = b.heard_there; unmet = meetings_none h.met b.heard_unmet; not_asked = tt }
 
   -- do_check_token_pass
-  removal_unmet : (x : NextStation) → Unmet (removal_of x)
+  removal_unmet : (x : Option ℕ) → Unmet (removal_of x)
   unfolding removal_of
-  removal_unmet Nobody = tt
-  removal_unmet (Neighbour a) = tt
+  removal_unmet None = tt
+  removal_unmet (Some a) = tt
 
   resend_steady : (c : Core) (r : Ring) (a : PassTokenAttempt) → On c → S (resend_of p c r now a)
   unfolding resend_of
@@ -351,21 +345,21 @@ module _ (p : Parameters) (now : Micros) (v : ConnectivityState) (bytes : List �
   unfolding listen_answered
   answered_there r k = either There r.ready _ _ tt tt
 
-  listen_on_steady : (q : OptionAddress) (c : Core) (r : Ring) (k count : ℕ) → Others count → On c → S (listen_token_on q p c r now k bytes n count)
+  listen_on_steady : (q : Option ℕ) (c : Core) (r : Ring) (k count : ℕ) → Others count → On c → S (listen_token_on q p c r now k bytes n count)
   unfolding listen_token_on listen_response
-  listen_on_steady optionAddress.None c r k count others e = consumed_steady _ count (received_all_steady _ c r true count others e tt)
-  listen_on_steady (optionAddress.Some source) c r k count others e = respond_steady _ _ c r source _ tt (answered_there r k) e
+  listen_on_steady None c r k count others e = consumed_steady _ count (received_all_steady _ c r true count others e tt)
+  listen_on_steady (Some source) c r k count others e = respond_steady _ _ c r source _ tt (answered_there r k) e
 
-  listen_steady : (q : OptionAddress) (c : Core) (r : Ring) (k count : ℕ) → Others count → On c → S (listen_token_of p c r now q k bytes n count)
+  listen_steady : (q : Option ℕ) (c : Core) (r : Ring) (k count : ℕ) → Others count → On c → S (listen_token_of p c r now q k bytes n count)
   unfolding listen_token_of
   listen_steady q c r k count others e = lost_steady c r _ e (λ d o. listen_on_steady q d r k count others o)
 
-  idle_on_steady : (q : OptionAddress) (c : Core) (r : Ring) (m : OptionAddress) (k count : ℕ) → Others count → On c → S (active_idle_on q p c r now m k bytes n count)
+  idle_on_steady : (q : Option ℕ) (c : Core) (r : Ring) (m : Option ℕ) (k count : ℕ) → Others count → On c → S (active_idle_on q p c r now m k bytes n count)
   unfolding active_idle_on active_response
-  idle_on_steady optionAddress.None c r m k count others e = consumed_steady _ count (received_all_steady _ c r false count others e tt)
-  idle_on_steady (optionAddress.Some source) c r m k count others e = respond_steady _ _ c r source _ tt tt e
+  idle_on_steady None c r m k count others e = consumed_steady _ count (received_all_steady _ c r false count others e tt)
+  idle_on_steady (Some source) c r m k count others e = respond_steady _ _ c r source _ tt tt e
 
-  idle_steady : (q m : OptionAddress) (c : Core) (r : Ring) (k count : ℕ) → Others count → On c → S (active_idle_of p c r now q m k bytes n count)
+  idle_steady : (q m : Option ℕ) (c : Core) (r : Ring) (k count : ℕ) → Others count → On c → S (active_idle_of p c r now q m k bytes n count)
   unfolding active_idle_of
   idle_steady q m c r k count others e = lost_steady c r _ e (λ d o. idle_on_steady q d r m k count others o)
 

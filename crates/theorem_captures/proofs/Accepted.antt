@@ -1,6 +1,6 @@
 -- What an import writes: entries that a trace accepts, within the room, over bytes that otherwise stay. The theorems have their
 -- statements here. Assumes nothing.
-use Rattle.std.specs.Prelude.{ℕ, zero, suc, ◌+◌, ◌^◌, ◌<◌, ◌≤◌, ◌≡◌, refl, List, [], ◌∷◌, ◌++◌, Bool, true, false, not, ◌&&◌, length, take, drop, eqb, ltb}
+use Rattle.std.specs.Prelude.{ℕ, zero, suc, ◌+◌, ◌^◌, ◌<◌, ◌≤◌, ◌≡◌, refl, List, [], ◌∷◌, ◌++◌, Bool, true, false, not, ◌&&◌, length, take, drop, eqb, ltb, Result, Ok, Err}
 use Rattle.std.proofs.Common.{sym, subst, append-nil, append_assoc, arith, ltb-true, ltb-false, eqb-true, take_at, drop_at, lit<}
 use Rattle.std.proofs.lemmas.Bool.{eqb-false}
 use borrow.Table.Steps.{cases}
@@ -8,15 +8,12 @@ use Rattle.codec_fields.specs.Fields.{Bytes}
 use Rattle.codec_fields.proofs.Laws.{never}
 use Rattle.codec_telegrams.specs.declared.Telegram.{Telegram}
 use Rattle.codec_telegrams.specs.Words.{TelegramFits}
-use Rattle.codec_frames.specs.declared.FrameRead.{FrameRead}
-use Rattle.codec_frames.specs.declared.FrameRead.TheVariants as frame
-use Rattle.codec_frames.specs.Frames.{frame_of}
+use Rattle.codec_frames.specs.declared.Frame.{Frame}
+use Rattle.codec_frames.specs.Frames.{read_as, frame_of}
 use Rattle.codec_records.specs.Records.{record_refusal}
 use Rattle.codec_records_written.specs.Whole.{RecordFits}
 use Rattle.codec_records_written.proofs.Written.{round_trip}
-use Rattle.capture_lines.specs.declared.LineRead.{LineRead}
-use Rattle.capture_lines.specs.declared.LineRead.TheVariants.{NotBuilt, Refused, Accepted}
-use Rattle.capture_lines.specs.Lines.{clock_limit, digit_of, is_hex, digits_at, after_digits, decimal, pairs_at, after_pairs, some, begins, zero_digit, is_end, is_time, after_time, is_built, said_of, line_of, lines_of, space}
+use Rattle.capture_lines.specs.Lines.{LineRead, NotBuilt, Refused, Accepted, clock_limit, digit_of, is_hex, digits_at, after_digits, decimal, pairs_at, after_pairs, some, begins, zero_digit, is_end, is_time, after_time, is_built, said_of, line_of, lines_of, space}
 use Rattle.capture_import.specs.Import.{Poll, head_of, declines, telegram_of, poll_bytes, entry_bytes, entries_of, heard_after, polls_after, last_time, last_count, time_refusal, line_refusal, import_from, import_of, buffer_of}
 use Rattle.capture_import.specs.Laws.{Good}
 use Rattle.capture_import.proofs.Laws.{poll_length, heard_good}
@@ -77,22 +74,22 @@ pairs_bytes (a ∷ b ∷ rest) =
 
 -- what an accepted line says of its time and its frame
 said_is :
-    (time count size : ℕ) (read : FrameRead) {at used : ℕ} {t : Telegram} → said_of time read count size ≡ Accepted at t used → (at ≡ time) × (read ≡ frame.Accepted t count)
+    (time count size : ℕ) (read : Result Frame ℕ) {at used : ℕ} {t : Telegram} → said_of time read count size ≡ Accepted at t used → (at ≡ time) × (read ≡ read_as t count)
 unfolding said_of
-said_is time count size (frame.Refused n) e = let z : ◌≡◌ {A = ℕ} 0 1 = cc in absurd (omega arith)
-said_is time count size (frame.Accepted telegram bytes) {at} {used} {t} e =
-    cases (eqb bytes count)
+said_is time count size (Err n) e = let z : ◌≡◌ {A = ℕ} 0 1 = cc in absurd (omega arith)
+said_is time count size (Ok f) {at} {used} {t} e =
+    cases (eqb f.used count)
     (λ a.
     let h = rw a at e in
-    let same : telegram ≡ t = cc in
+    let same : f.telegram ≡ t = cc in
     let clock : at ≡ time = cc in
-    (clock, rw (same, eqb-true bytes count a)))
+    (clock, rw (← same, ← eqb-true f.used count a)))
     (λ a. let h = rw a at e in let z : ◌≡◌ {A = ℕ} 0 1 = cc in absurd (omega arith))
 
 pub line_is :
     (l : List ℕ) {at used : ℕ} {t : Telegram}
     → line_of l ≡ Accepted at t used
-    → (is_built l ≡ true) × (at ≡ decimal (digits_at l)) × (frame_of (pairs_at (after_time l)) ≡ frame.Accepted t (length (pairs_at (after_time l))))
+    → (is_built l ≡ true) × (at ≡ decimal (digits_at l)) × (frame_of (pairs_at (after_time l)) ≡ read_as t (length (pairs_at (after_time l))))
 unfolding line_of
 line_is l e =
     let f = pairs_at (after_time l) in

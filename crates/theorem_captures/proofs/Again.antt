@@ -14,9 +14,7 @@ use Rattle.codec_records.specs.Records.{head_of as record_head, telegram_word_at
 use Rattle.codec_records_written.specs.Whole.{Says}
 use Rattle.codec_records_written.proofs.Written.{round_trip}
 use Rattle.codec_records.specs.Laws.{good, good_telegram}
-use Rattle.capture_lines.specs.declared.LineRead.{LineRead}
-use Rattle.capture_lines.specs.declared.LineRead.TheVariants.{NotBuilt, Refused, Accepted}
-use Rattle.capture_lines.specs.Lines.{line_of, lines_of as lines}
+use Rattle.capture_lines.specs.Lines.{LineRead, NotBuilt, Refused, Accepted, line_of, lines_of as lines}
 use Rattle.capture_import.specs.Import.{Poll, head_of, declines, telegram_of, poll_bytes, entry_bytes, entries_of, heard_after, polls_after, line_refusal, import_from, import_of}
 use Rattle.capture_import.specs.Laws.{Good}
 use Rattle.capture_import.proofs.Laws.{poll_length}

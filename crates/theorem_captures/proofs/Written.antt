@@ -10,10 +10,8 @@ use Rattle.codec_telegrams.specs.declared.Telegram.{Telegram}
 use Rattle.codec_telegrams.specs.declared.Telegram.TheVariants.{Token, ShortConfirmation, Request, Response}
 use Rattle.codec_telegrams.specs.Words.{TelegramFits}
 use Rattle.codec_telegrams.specs.Laws.{state_below}
-use Rattle.codec_frames.specs.declared.FrameRead.TheVariants as frame
-use Rattle.codec_frames.specs.Frames.{status_code, check_of, sd1_frame, response_code, frame_bytes, is_other_request, frame_of}
-use Rattle.capture_lines.specs.declared.LineRead.TheVariants.{Accepted}
-use Rattle.capture_lines.specs.Lines.{space, line_feed, zero_digit, clock_limit, between, digit_of, is_hex, digits_at, after_digits, decimal, pairs_at, after_pairs, some, begins, is_time, is_built, said_of, line_of, lines_of}
+use Rattle.codec_frames.specs.Frames.{read_as, status_code, check_of, sd1_frame, response_code, frame_bytes, is_other_request, frame_of}
+use Rattle.capture_lines.specs.Lines.{Accepted, space, line_feed, zero_digit, clock_limit, between, digit_of, is_hex, digits_at, after_digits, decimal, pairs_at, after_pairs, some, begins, is_time, is_built, said_of, line_of, lines_of}
 use Rattle.capture_lines.specs.Laws.{NoFeed}
 use Rattle.capture_lines.proofs.Laws.{lines_ended}
 use Rattle.capture_text.specs.Text.{digit_count, last_digits, decimal_text, hex_digit, hex_text, line_text}
@@ -210,7 +208,7 @@ module _ (time : ℕ) (t : Telegram) (clock : time < clock_limit) (fits : Telegr
       let is = time_written time clock in
       let ends = digits_end d (hex_text f ++ (line_feed ∷ [])) is.decimals in
       let pairs = pairs_written f (frame_bytes_lem t fits) in
-      let read : frame_of f ≡ frame.Accepted t (length f) = ap frame_of (sym (append-nil f)) ∙ frame_reads_back t fits written [] in
+      let read : frame_of f ≡ read_as t (length f) = ap frame_of (sym (append-nil f)) ∙ frame_reads_back t fits written [] in
       rw (ends.0, ends.1, digits_time time d clock is, pairs.0, pairs.1, frame_some t written, is.value, read, eq-eqb (length f) (length f) refl)
 
   -- and is the first line of a text that begins with it

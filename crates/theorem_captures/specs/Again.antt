@@ -3,9 +3,7 @@
 use Rattle.std.specs.Prelude.{ℕ, List, [], ◌∷◌, ◌++◌, cond}
 use Rattle.codec_telegrams.specs.declared.Telegram.{Telegram}
 use Rattle.codec_frames.specs.Frames.{frame_bytes, is_other_request}
-use Rattle.capture_lines.specs.declared.LineRead.{LineRead}
-use Rattle.capture_lines.specs.declared.LineRead.TheVariants.{NotBuilt, Refused, Accepted}
-use Rattle.capture_lines.specs.Lines.{line_of}
+use Rattle.capture_lines.specs.Lines.{LineRead, NotBuilt, Refused, Accepted, line_of}
 use Rattle.capture_text.specs.Text.{line_text}
 use Rattle.capture_import.specs.Import.{Poll}
 

@@ -3,8 +3,7 @@
 use Rattle.std.specs.Prelude.{ℕ, zero, suc, ◌+◌, ◌*◌, ◌<◌, ◌≡◌, List, [], ◌∷◌, true, false, cond, get_or}
 use Rattle.codec_telegrams.specs.declared.Telegram.{Telegram}
 use Rattle.codec_frames.specs.Frames.{is_other_request, start_of}
-use Rattle.capture_lines.specs.declared.LineRead.TheVariants.{Accepted}
-use Rattle.capture_lines.specs.Lines.{between, digit_of, pairs_at, after_time, line_of}
+use Rattle.capture_lines.specs.Lines.{Accepted, between, digit_of, pairs_at, after_time, line_of}
 use Rattle.theorem_frames.specs.RoundTrip.{is_written}
 
 -- a byte in lower case: A to F as a to f; and bytes

@@ -1,22 +1,21 @@
 -- What is said of a telegram is what it is: the collisions that a poll's loop sums are the meetings, and no telegram leads to ClaimToken.
 use Prim.Native.Nat.{ℕ, zero, suc, ◌+◌, ◌≤◌}
-use Rattle.std.specs.Prelude.{Bool, true, false, List, ◌≡◌, eqb}
+use Rattle.std.specs.Prelude.{Bool, true, false, List, ◌≡◌, eqb, Option}
 use Rattle.std.proofs.Math.Bool.{cond}
 use Rattle.std.proofs.Math.Path.{refl, ap}
 use Rattle.std.proofs.Common.{sym, ◌∙◌, arith, add-zero, eqb-true, lit≤}
 use Rattle.std.proofs.lemmas.Bool.{eqb-false}
 use borrow.Table.Steps.{cases}
-use Rattle.bit_times.specs.declared.Micros.{Micros}
-use Rattle.settings.specs.declared.Parameters.{Parameters}
+use Rattle.bit_times.specs.declared.micros.Micros.{Micros}
+use Rattle.settings.specs.declared.parameters.Parameters.{Parameters}
 use Rattle.ring.specs.Ring.{Ring, prev_of}
 use Rattle.codec_telegrams.specs.declared.Telegram.{Telegram}
 use Rattle.codec_telegrams.specs.declared.Telegram.TheVariants as telegram
 use Rattle.codec_records.specs.Records.{telegram_at}
 use Rattle.codec_answers.specs.declared.Outcome.{Outcome}
-use Rattle.station.specs.declared.OptionAddress.{OptionAddress}
-use Rattle.station.specs.declared.State.{State}
-use Rattle.station.specs.declared.State.TheVariants.{Offline, ListenToken, ActiveIdle, UseToken, ClaimToken, AwaitDataResponse, PassToken, CheckTokenPass, AwaitStatusResponse, PassiveIdle}
-use Rattle.station.specs.declared.Core.{Core}
+use Rattle.station.specs.declared.state.State.{State}
+use Rattle.station.specs.declared.state.State.TheVariants.{Offline, ListenToken, ActiveIdle, UseToken, ClaimToken, AwaitDataResponse, PassToken, CheckTokenPass, AwaitStatusResponse, PassiveIdle}
+use Rattle.station.specs.declared.parts.Core.{Core}
 use Rattle.station.specs.Whole.{Heard}
 use Rattle.station.specs.Steps.{heard_of, collision_of}
 use Rattle.station_hear_listen.specs.HearListen.{collided, sent_by_us, listen_heard, passive_heard, listen_telegram}
@@ -41,11 +40,11 @@ tested true h k x y = x
 tested false h k x y = y
 
 -- do_listen_token
-collided_said : (p : Parameters) (c : Core) (r : Ring) (q : OptionAddress) (k : ℕ) → Said 1 (collided p c r q k)
+collided_said : (p : Parameters) (c : Core) (r : Ring) (q : Option ℕ) (k : ℕ) → Said 1 (collided p c r q k)
 unfolding collided
 collided_said p c r q k = either (Said 1) (eqb k 0) _ _ (collision_said _ _ _ refl) (collision_said _ _ _ refl)
 
-listen_heard_said : (p : Parameters) (c : Core) (r : Ring) (q : OptionAddress) (k : ℕ) (t : Telegram) (last : Bool) → Said (cond (is_from p.address t) 1 0) (listen_heard p c r q k t last)
+listen_heard_said : (p : Parameters) (c : Core) (r : Ring) (q : Option ℕ) (k : ℕ) (t : Telegram) (last : Bool) → Said (cond (is_from p.address t) 1 0) (listen_heard p c r q k t last)
 unfolding listen_heard sent_by_us is_from
 listen_heard_said p c r q k (telegram.Token destination source) last = tested (eqb source p.address) _ _ (collided_said p c r q k) (heard_said _ _ _ _ refl)
 listen_heard_said p c r q k telegram.ShortConfirmation last = heard_said _ _ _ _ refl
@@ -53,7 +52,7 @@ listen_heard_said p c r q k (telegram.Request destination source asks) last = te
 listen_heard_said p c r q k (telegram.Response destination source state status) last = tested (eqb source p.address) _ _ (collided_said p c r q k) (heard_said _ _ _ _ refl)
 
 -- PassiveIdle: nothing is met
-passive_heard_said : (p : Parameters) (c : Core) (r : Ring) (q : OptionAddress) (t : Telegram) (last : Bool) → Said 0 (passive_heard p c r q t last)
+passive_heard_said : (p : Parameters) (c : Core) (r : Ring) (q : Option ℕ) (t : Telegram) (last : Bool) → Said 0 (passive_heard p c r q t last)
 unfolding passive_heard
 passive_heard_said p c r q t last = either (Said 0) (sent_by_us p.address t) _ _ (heard_said _ _ _ _ refl) (heard_said _ _ _ _ refl)
 
@@ -71,7 +70,7 @@ listen_said p (AwaitStatusResponse a) c r t last e = heard_said _ _ _ _ e
 listen_said p (PassiveIdle q) c r t last e = passive_heard_said p c r q t last
 
 -- handle_telegram
-active_collided_said : (c : Core) (r : Ring) (q m : OptionAddress) (k : ℕ) → Said 1 (active_collided c r q m k)
+active_collided_said : (c : Core) (r : Ring) (q m : Option ℕ) (k : ℕ) → Said 1 (active_collided c r q m k)
 unfolding active_collided
 active_collided_said c r q m k = either (Said 1) (eqb k 0) _ _ (collision_said _ _ _ refl) (collision_said _ _ _ refl)
 
@@ -79,17 +78,17 @@ accepted_said : (c : Core) (r : Ring) (now : Micros) → Said 0 (accepted_of c r
 unfolding accepted_of
 accepted_said c r now = heard_said _ _ _ _ refl
 
-to_us_said : (c : Core) (r : Ring) (now : Micros) (q m : OptionAddress) (destination source : ℕ) → Said 0 (token_to_us c r now q m destination source)
+to_us_said : (c : Core) (r : Ring) (now : Micros) (q m : Option ℕ) (destination source : ℕ) → Said 0 (token_to_us c r now q m destination source)
 unfolding token_to_us
 to_us_said c r now q m destination source =
     either (Said 0) (eqb source (prev_of r)) _ _ (accepted_said c r now)
     (either (Said 0) (remembers m source) _ _ (accepted_said c _ now) (heard_said _ _ _ _ refl))
 
-witnessed_said : (c : Core) (r : Ring) (q m : OptionAddress) (destination source : ℕ) → Said 0 (token_witnessed c r q m destination source)
+witnessed_said : (c : Core) (r : Ring) (q m : Option ℕ) (destination source : ℕ) → Said 0 (token_witnessed c r q m destination source)
 unfolding token_witnessed
 witnessed_said c r q m destination source = heard_said _ _ _ _ refl
 
-token_said : (p : Parameters) (c : Core) (r : Ring) (now : Micros) (q m : OptionAddress) (k destination source : ℕ) (last : Bool) → Said (cond (eqb source p.address) 1 0) (token_heard p c r now q m k destination source last)
+token_said : (p : Parameters) (c : Core) (r : Ring) (now : Micros) (q m : Option ℕ) (k destination source : ℕ) (last : Bool) → Said (cond (eqb source p.address) 1 0) (token_heard p c r now q m k destination source last)
 unfolding token_heard
 token_said p c r now q m k destination source last =
     tested (eqb source p.address) _ _ (active_collided_said c r q m k)
@@ -97,11 +96,11 @@ token_said p c r now q m k destination source last =
     (either (Said 0) last _ _ (to_us_said c r now q m destination source) (witnessed_said c r q m destination source))
     (witnessed_said c r q m destination source))
 
-requested_said : (c : Core) (r : Ring) (q m : OptionAddress) (k source : ℕ) (noted : Bool) → Said 0 (active_requested c r q m k source noted)
+requested_said : (c : Core) (r : Ring) (q m : Option ℕ) (k source : ℕ) (noted : Bool) → Said 0 (active_requested c r q m k source noted)
 unfolding active_requested
 requested_said c r q m k source noted = either (Said 0) noted _ _ (heard_said _ _ _ _ refl) (heard_said _ _ _ _ refl)
 
-active_heard_said : (p : Parameters) (c : Core) (r : Ring) (now : Micros) (q m : OptionAddress) (k : ℕ) (t : Telegram) (last : Bool) → Said (cond (is_token_from p.address t) 1 0) (active_heard p c r now q m k t last)
+active_heard_said : (p : Parameters) (c : Core) (r : Ring) (now : Micros) (q m : Option ℕ) (k : ℕ) (t : Telegram) (last : Bool) → Said (cond (is_token_from p.address t) 1 0) (active_heard p c r now q m k t last)
 unfolding active_heard is_token_from
 active_heard_said p c r now q m k (telegram.Token destination source) last = token_said p c r now q m k destination source last
 active_heard_said p c r now q m k telegram.ShortConfirmation last = heard_said _ _ _ _ refl

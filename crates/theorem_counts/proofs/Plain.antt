@@ -1,14 +1,12 @@
 -- Which steps are plain: of all but those that hear telegrams, claim, or remove, nothing is counted, and they do not lead to ClaimToken.
-use Rattle.std.specs.Prelude.{ℕ, Bool, true, List, ltb, eqb}
+use Rattle.std.specs.Prelude.{ℕ, Bool, true, List, ltb, eqb, Option, Some, None}
 use Rattle.std.proofs.Math.Bool.{false}
 use Rattle.std.proofs.Math.Path.{refl}
-use Rattle.bit_times.specs.declared.Micros.{Micros}
-use Rattle.settings.specs.declared.Parameters.{Parameters}
+use Rattle.bit_times.specs.declared.micros.Micros.{Micros}
+use Rattle.settings.specs.declared.parameters.Parameters.{Parameters}
 use Rattle.ring.specs.Ring.{Ring}
 use Rattle.ring.specs.declared.GapState.{GapState}
 use Rattle.ring.specs.declared.GapState.TheVariants.{Waiting, DoPoll}
-use Rattle.ring.specs.declared.NextStation.{NextStation}
-use Rattle.ring.specs.declared.NextStation.TheVariants.{Nobody, Neighbour}
 use Rattle.codec_decisions.specs.declared.Decision.{Decision}
 use Rattle.codec_decisions.specs.declared.Decision.TheVariants as decision
 use Rattle.codec_telegrams.specs.declared.Telegram.{Telegram}
@@ -16,19 +14,16 @@ use Rattle.codec_telegrams.specs.declared.Telegram.TheVariants as telegram
 use Rattle.codec_answers.specs.declared.Outcome.{Outcome}
 use Rattle.codec_answers.specs.declared.Sent.{Sent}
 use Rattle.codec_answers.specs.declared.Notice.{Notice}
-use Rattle.station.specs.declared.PassTokenAttempt.{PassTokenAttempt}
-use Rattle.station.specs.declared.PassTokenAttempt.TheVariants.{First}
-use Rattle.station.specs.declared.UseTokenData.{UseTokenData}
-use Rattle.station.specs.declared.State.{State}
-use Rattle.station.specs.declared.State.TheVariants.{PassiveIdle}
-use Rattle.station.specs.declared.Core.{Core}
-use Rattle.station.specs.declared.Step.{Step}
+use Rattle.station.specs.declared.state.PassTokenAttempt.{PassTokenAttempt}
+use Rattle.station.specs.declared.state.PassTokenAttempt.TheVariants.{First}
+use Rattle.station.specs.declared.state.UseTokenData.{UseTokenData}
+use Rattle.station.specs.declared.state.State.{State}
+use Rattle.station.specs.declared.state.State.TheVariants.{PassiveIdle}
+use Rattle.station.specs.declared.parts.Core.{Core}
+use Rattle.station.specs.Whole.{Step}
 use Rattle.station.specs.Steps.{to_passive_idle, pause_of, slot_expired_of, done_of, transmit_of}
-use Rattle.station_hold.specs.declared.Asked.{Asked}
-use Rattle.station_hold.specs.Hold.{valid_response, holds_of, app_transmit_of, use_pass_of, use_apps_after, use_apps_of, use_token_timed, use_token_of, received_of, with_notice, timeout_of, await_data_of}
+use Rattle.station_hold.specs.Hold.{Asked, valid_response, holds_of, app_transmit_of, use_pass_of, use_apps_after, use_apps_of, use_token_timed, use_token_of, received_of, with_notice, timeout_of, await_data_of}
 use Rattle.station_listen.specs.Listen.{respond_of, listen_answered, listen_response, active_response}
-use Rattle.station.specs.declared.OptionAddress.{OptionAddress}
-use Rattle.station.specs.declared.OptionAddress.TheVariants as optionAddress
 use Rattle.codec_telegrams.specs.declared.ResponseState.TheVariants.{Slave}
 use Rattle.station_pass.specs.Pass.{pass_sent_on, pass_send, pass_poll_on, pass_poll, pass_token_of}
 use Rattle.station_await_status.specs.AwaitStatus.{status_answered, status_unexpected, status_received, await_status_of}
@@ -103,19 +98,19 @@ module _ (p : Parameters) (n : ℕ) (bytes : List ℕ) (count : ℕ) (now : Micr
   unfolding listen_response respond_of
   response_calm c r source k = either CalmRing (pause_of p c now).over _ _ (transmit_calm p _ _ now _ (answered_elsewhere r k)) (done_calm _ _ _ refl)
 
-  pub active_response_calm : (c : Core) (r : Ring) (source : ℕ) (m : OptionAddress) (k : ℕ) → CalmRing (active_response p c r now source m k)
+  pub active_response_calm : (c : Core) (r : Ring) (source : ℕ) (m : Option ℕ) (k : ℕ) → CalmRing (active_response p c r now source m k)
   unfolding active_response respond_of
   active_response_calm c r source m k = either CalmRing (pause_of p c now).over _ _ (transmit_calm p _ _ now _ refl) (done_calm _ _ _ refl)
 
-  pub passive_response_calm : (c : Core) (r : Ring) (source : ℕ) → CalmRing (respond_of p (PassiveIdle (optionAddress.Some source)) to_passive_idle c r now source Slave)
+  pub passive_response_calm : (c : Core) (r : Ring) (source : ℕ) → CalmRing (respond_of p (PassiveIdle (Some source)) to_passive_idle c r now source Slave)
   unfolding respond_of
   passive_response_calm c r source = either CalmRing (pause_of p c now).over _ _ (transmit_calm p _ _ now _ refl) (done_calm _ _ _ refl)
 
   -- do_pass_token
-  sent_calm : (x : NextStation) (c : Core) (a : PassTokenAttempt) (to : ℕ) (r : Ring) → CalmRing (pass_sent_on x p c now a to r)
+  sent_calm : (x : Option ℕ) (c : Core) (a : PassTokenAttempt) (to : ℕ) (r : Ring) → CalmRing (pass_sent_on x p c now a to r)
   unfolding pass_sent_on
-  sent_calm Nobody c a to r = transmit_calm p _ _ now _ refl
-  sent_calm (Neighbour next) c a to r = transmit_calm p _ _ now _ refl
+  sent_calm None c a to r = transmit_calm p _ _ now _ refl
+  sent_calm (Some next) c a to r = transmit_calm p _ _ now _ refl
 
   send_calm : (c : Core) (r : Ring) (a : PassTokenAttempt) → CalmRing (pass_send p c r now a)
   unfolding pass_send

@@ -1,19 +1,17 @@
 -- Who is missing from a ring: nobody of its own members, and after a third attempt the station that is taken out, alone.
 use Prim.Native.Nat.{ℕ, suc, ◌<◌}
-use Rattle.std.specs.Prelude.{List, [], ◌∷◌, ◌≡◌}
+use Rattle.std.specs.Prelude.{List, [], ◌∷◌, ◌≡◌, None, Option, Some}
 use Rattle.std.proofs.Math.Bool.{false}
 use Rattle.std.proofs.Math.Path.{refl, ap, subst}
 use Rattle.std.proofs.Common.{sym, ◌∙◌}
-use Rattle.bit_times.specs.declared.Micros.{Micros}
-use Rattle.settings.specs.declared.Parameters.{Parameters}
+use Rattle.bit_times.specs.declared.micros.Micros.{Micros}
+use Rattle.settings.specs.declared.parameters.Parameters.{Parameters}
 use Rattle.ring_addresses.specs.SetLaws.{All}
-use Rattle.ring.specs.declared.NextStation.{NextStation}
-use Rattle.ring.specs.declared.NextStation.TheVariants.{Nobody, Neighbour}
 use Rattle.ring.specs.Ring.{Ring, has, others, next_of, witness_of, remove_of}
 use Rattle.ring.specs.Laws.{SoundRing, Other}
 use Rattle.ring.proofs.Laws.{others_all, others_remove, next_is, next_alone, next_other, witness_next, remove_same, remove_own, sound_remove}
-use Rattle.station.specs.declared.PassTokenAttempt.{PassTokenAttempt}
-use Rattle.station.specs.declared.Core.{Core}
+use Rattle.station.specs.declared.state.PassTokenAttempt.{PassTokenAttempt}
+use Rattle.station.specs.declared.parts.Core.{Core}
 use Rattle.station.specs.Whole.{RingStep}
 use Rattle.station.specs.Steps.{pause_of}
 use Rattle.station_pass.specs.Pass.{destination_of, pass_sent_on, pass_send, pass_token_of}
@@ -37,10 +35,10 @@ pub same_missing : (r : Ring) → SoundRing r → missing r (others r) ≡ 0
 same_missing r s = none_missing r r (others r) (λ a l. refl) (others_all r s)
 
 -- a token pass without a look at the gap keeps the members
-sent_ring : (x : NextStation) (p : Parameters) (c : Core) (now : Micros) (k : PassTokenAttempt) (to : ℕ) (r : Ring) → (pass_sent_on x p c now k to r).ring ≡ r
+sent_ring : (x : Option ℕ) (p : Parameters) (c : Core) (now : Micros) (k : PassTokenAttempt) (to : ℕ) (r : Ring) → (pass_sent_on x p c now k to r).ring ≡ r
 unfolding pass_sent_on
-sent_ring Nobody p c now k to r = refl
-sent_ring (Neighbour a) p c now k to r = refl
+sent_ring None p c now k to r = refl
+sent_ring (Some a) p c now k to r = refl
 
 module _ (p : Parameters) (c : Core) (r : Ring) (now : Micros) (k : PassTokenAttempt) (s : SoundRing r) (is : r.own ≡ p.address) (a : ℕ) (low : a < 126) where
   send_keeps : (d : Core) → has (pass_send p d r now k).ring a ≡ has r a
@@ -74,6 +72,6 @@ module _ (p : Parameters) (c : Core) (r : Ring) (now : Micros) (k : PassTokenAtt
       go [] e = ap (missing (after_third p c r now k)) e ∙ nobody_missing (after_third p c r now k) ∙ sym (ap goes (next_alone r s e))
       go (x ∷ xs) e =
           ap (missing (after_third p c r now k)) e
-          ∙ ap (λ (y : NextStation). missing (pass_token_of p c (remove_of r (destination_of p.address y)) now false k).ring (x ∷ xs)) (next_is r x xs s e)
+          ∙ ap (λ (y : Option ℕ). missing (pass_token_of p c (remove_of r (destination_of p.address y)) now false k).ring (x ∷ xs)) (next_is r x xs s e)
           ∙ one_missing x xs e
           ∙ sym (ap goes (next_is r x xs s e))

@@ -1,5 +1,5 @@
 -- The proof of request P6's statement: one step says what happened in it, and a run over entries counts it to the largest value.
-use Rattle.std.specs.Prelude.{ℕ, zero, suc, ◌+◌, ◌-◌, ◌*◌, ◌<◌, ◌≤◌, min, Bool, cond, ◌≡◌, ◌⊎◌, length, take, drop, ltb, eqb}
+use Rattle.std.specs.Prelude.{ℕ, zero, suc, ◌+◌, ◌-◌, ◌*◌, ◌<◌, ◌≤◌, min, Bool, cond, ◌≡◌, ◌⊎◌, length, take, drop, ltb, eqb, Option, Some, None}
 use Rattle.std.proofs.Math.Bool.{true, false}
 use Rattle.std.proofs.Math.Path.{refl, sym, ap, subst}
 use Rattle.std.proofs.Common.{◌∙◌, inl, inr, arith, zero-add, length-append, length-drop, take-append-drop}
@@ -7,29 +7,26 @@ use mathlib.Core.List.{List, [], ◌∷◌, ◌++◌}
 use borrow.Author.Tests.{eqb-true, eqb-false, ltb-true, lt-ltb, le-ltb, ne_eqb}
 use borrow.Table.Steps.{cases}
 use Rattle.std.proofs.Math.Dec.{lit≤}
-use Rattle.bit_times.specs.declared.Micros.{Micros}
-use Rattle.settings.specs.declared.Parameters.{Parameters}
-use Rattle.ring.specs.declared.NextStation.{NextStation}
-use Rattle.ring.specs.declared.NextStation.TheVariants.{Nobody, Neighbour}
+use Rattle.bit_times.specs.declared.micros.Micros.{Micros}
+use Rattle.settings.specs.declared.parameters.Parameters.{Parameters}
 use Rattle.ring.specs.Ring.{Ring, next_of}
 use Rattle.ring.specs.Laws.{SoundRing}
 use Rattle.codec_records.specs.Records.{head_of, record_refusal}
 use Rattle.codec_answers.specs.declared.Outcome.{Outcome}
 use Rattle.codec_answers.specs.declared.Outcome.TheVariants as outcome
 use Rattle.codec_answers.specs.Answers.{refused_answer}
-use Rattle.station.specs.declared.OptionAddress.{OptionAddress}
-use Rattle.station.specs.declared.OptionAddress.TheVariants as optionAddress
-use Rattle.station.specs.declared.PassTokenAttempt.{PassTokenAttempt}
-use Rattle.station.specs.declared.PassTokenAttempt.TheVariants.{First, Second, Third}
-use Rattle.station.specs.declared.ConnectivityState.{ConnectivityState}
-use Rattle.station.specs.declared.ConnectivityState.TheVariants as connectivity
-use Rattle.station.specs.declared.State.{State}
-use Rattle.station.specs.declared.State.TheVariants.{Offline, ListenToken, ActiveIdle, UseToken, ClaimToken, AwaitDataResponse, PassToken, CheckTokenPass, AwaitStatusResponse, PassiveIdle}
-use Rattle.station.specs.declared.Core.{Core}
-use Rattle.station.specs.declared.Counts.{Counts}
-use Rattle.station.specs.declared.Event.{Event}
-use Rattle.station.specs.declared.Event.TheVariants.{Nothing, Claim, Removal, Meetings}
-use Rattle.station.specs.Whole.{Station, RingStep, Heard}
+use Rattle.station.specs.declared.state.PassTokenAttempt.{PassTokenAttempt}
+use Rattle.station.specs.declared.state.PassTokenAttempt.TheVariants.{First, Second, Third}
+use Rattle.station.specs.declared.state.ConnectivityState.{ConnectivityState}
+use Rattle.station.specs.declared.state.ConnectivityState.TheVariants as connectivity
+use Rattle.station.specs.declared.state.State.{State}
+use Rattle.station.specs.declared.state.State.TheVariants.{Offline, ListenToken, ActiveIdle, UseToken, ClaimToken, AwaitDataResponse, PassToken, CheckTokenPass, AwaitStatusResponse, PassiveIdle}
+use Rattle.station.specs.declared.parts.Core.{Core}
+use Rattle.station.specs.declared.parts.Counts.{Counts}
+use Rattle.station.specs.declared.done.Event.{Event}
+use Rattle.station.specs.declared.done.Event.TheVariants.{Nothing, Claim, Removal, Meetings}
+use Rattle.station.specs.declared.station.Station.{Station}
+use Rattle.station.specs.Whole.{RingStep, Heard}
 use Rattle.station.specs.Parts.{is_offline, state_number, no_counts, fresh_station}
 use Rattle.station.specs.Steps.{to_active_idle, ongoing_of, bus_activity_of, pause_of, slot_expired_of, token_lost_wait_of, done_of, transmit_of, with_event, ring_step_of, heard_of}
 use Rattle.station_claim.specs.Claim.{claim_next, claim_token_of}
@@ -186,35 +183,35 @@ module _ (p : Parameters) (ring : Ring) (now : Micros) (bytes : List ℕ) (n cou
   unfolding handle_lost_token
   lost_says before c met rest out third g = either (Says before ring met) (token_lost_wait_of p c now).over _ _ (claim_says before p _ ring now met out third) g
 
-  listen_says : (q : OptionAddress) (k : ℕ) (c : Core) → Says (ListenToken q k) ring (met_from p (ListenToken q k) c ring now bytes n count) (listen_token_of p c ring now q k bytes n count)
+  listen_says : (q : Option ℕ) (k : ℕ) (c : Core) → Says (ListenToken q k) ring (met_from p (ListenToken q k) c ring now bytes n count) (listen_token_of p c ring now q k bytes n count)
   unfolding listen_token_of listen_token_on met_from in_third
-  listen_says optionAddress.None k c =
-      lost_says (ListenToken optionAddress.None k) c _ _ refl refl (received_says (ListenToken optionAddress.None k) p (ListenToken optionAddress.None k) _ ring now true bytes n count refl (inl refl))
-  listen_says (optionAddress.Some source) k c =
-      lost_says (ListenToken (optionAddress.Some source) k) c _ _ refl refl (calm_says _ ring _ _ refl (response_calm p n bytes count now _ ring source k))
+  listen_says None k c =
+      lost_says (ListenToken None k) c _ _ refl refl (received_says (ListenToken None k) p (ListenToken None k) _ ring now true bytes n count refl (inl refl))
+  listen_says (Some source) k c =
+      lost_says (ListenToken (Some source) k) c _ _ refl refl (calm_says _ ring _ _ refl (response_calm p n bytes count now _ ring source k))
 
-  idle_says : (q m : OptionAddress) (k : ℕ) (c : Core) → Says (ActiveIdle q m k) ring (met_from p (ActiveIdle q m k) c ring now bytes n count) (active_idle_of p c ring now q m k bytes n count)
+  idle_says : (q m : Option ℕ) (k : ℕ) (c : Core) → Says (ActiveIdle q m k) ring (met_from p (ActiveIdle q m k) c ring now bytes n count) (active_idle_of p c ring now q m k bytes n count)
   unfolding active_idle_of active_idle_on met_from in_third
-  idle_says optionAddress.None m k c =
-      lost_says (ActiveIdle optionAddress.None m k) c _ _ refl refl (received_says (ActiveIdle optionAddress.None m k) p (ActiveIdle optionAddress.None m k) _ ring now false bytes n count refl (inl refl))
-  idle_says (optionAddress.Some source) m k c =
-      lost_says (ActiveIdle (optionAddress.Some source) m k) c _ _ refl refl (calm_says _ ring _ _ refl (active_response_calm p n bytes count now _ ring source m k))
+  idle_says None m k c =
+      lost_says (ActiveIdle None m k) c _ _ refl refl (received_says (ActiveIdle None m k) p (ActiveIdle None m k) _ ring now false bytes n count refl (inl refl))
+  idle_says (Some source) m k c =
+      lost_says (ActiveIdle (Some source) m k) c _ _ refl refl (calm_says _ ring _ _ refl (active_response_calm p n bytes count now _ ring source m k))
 
   -- the removal that is said
-  removal_claims : (x : NextStation) → claims_said (removal_of x) ≡ 0
+  removal_claims : (x : Option ℕ) → claims_said (removal_of x) ≡ 0
   unfolding removal_of
-  removal_claims Nobody = refl
-  removal_claims (Neighbour a) = refl
+  removal_claims None = refl
+  removal_claims (Some a) = refl
 
-  removal_removals : (x : NextStation) → removals_said (removal_of x) ≡ goes x
+  removal_removals : (x : Option ℕ) → removals_said (removal_of x) ≡ goes x
   unfolding removal_of
-  removal_removals Nobody = refl
-  removal_removals (Neighbour a) = refl
+  removal_removals None = refl
+  removal_removals (Some a) = refl
 
-  removal_meetings : (x : NextStation) → meetings_said (removal_of x) ≡ 0
+  removal_meetings : (x : Option ℕ) → meetings_said (removal_of x) ≡ 0
   unfolding removal_of
-  removal_meetings Nobody = refl
-  removal_meetings (Neighbour a) = refl
+  removal_meetings None = refl
+  removal_meetings (Some a) = refl
 
   module _ (s : SoundRing ring) (is : ring.own ≡ p.address) where
     resend_says : (k : PassTokenAttempt) (c : Core) (met : ℕ) → Says (CheckTokenPass k) ring met (resend_of p c ring now k)
@@ -247,10 +244,10 @@ module _ (p : Parameters) (ring : Ring) (now : Micros) (bytes : List ℕ) (n cou
         (λ e. rw e (record { claims_said_lem = refl; removals_said_lem = refl; meetings_said_lem = refl }))
 
     -- PassiveIdle
-    passive_says : (q : OptionAddress) (c : Core) → Says (PassiveIdle q) ring (met_from p (PassiveIdle q) c ring now bytes n count) (passive_idle_of p c ring now q bytes n count)
+    passive_says : (q : Option ℕ) (c : Core) → Says (PassiveIdle q) ring (met_from p (PassiveIdle q) c ring now bytes n count) (passive_idle_of p c ring now q bytes n count)
     unfolding passive_idle_of met_from in_third
-    passive_says optionAddress.None c = received_says (PassiveIdle optionAddress.None) p (PassiveIdle optionAddress.None) c ring now true bytes n count refl (inl refl)
-    passive_says (optionAddress.Some source) c = calm_says (PassiveIdle (optionAddress.Some source)) ring _ _ refl (passive_response_calm p n bytes count now c ring source)
+    passive_says None c = received_says (PassiveIdle None) p (PassiveIdle None) c ring now true bytes n count refl (inl refl)
+    passive_says (Some source) c = calm_says (PassiveIdle (Some source)) ring _ _ refl (passive_response_calm p n bytes count now c ring source)
 
     -- poll_inner
     dispatch_says : (x : State) (c : Core) → Says x ring (met_from p x c ring now bytes n count) (dispatch_of p x c ring now bytes n count)

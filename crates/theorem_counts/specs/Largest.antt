@@ -1,9 +1,9 @@
 -- Where counting stops: a station whose counts stand one below the largest value of 32 bits. Worked out from the definitions.
 use Rattle.std.specs.Prelude.{ℕ, ◌-◌, ◌^◌, ◌≡◌}
 use Rattle.std.proofs.Common.{ap}
-use Rattle.settings.specs.declared.Parameters.{Parameters}
-use Rattle.station.specs.declared.Counts.{Counts}
-use Rattle.station.specs.declared.Event.TheVariants.{Claim, Removal, Meetings}
+use Rattle.settings.specs.declared.parameters.Parameters.{Parameters}
+use Rattle.station.specs.declared.parts.Counts.{Counts}
+use Rattle.station.specs.declared.done.Event.TheVariants.{Claim, Removal, Meetings}
 use Rattle.station.specs.Whole.{RingStep}
 use Rattle.station_answer.specs.Counted.{raised_by, counted_of}
 use Rattle.station_answer.specs.Answer.{polled_of}

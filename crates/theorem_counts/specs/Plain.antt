@@ -1,10 +1,9 @@
 -- Steps of which nothing is counted and that do not lead to ClaimToken. Which steps are such is proved in proofs/Plain.
 use Rattle.std.specs.Prelude.{◌≡◌, eqb}
 use Rattle.std.proofs.Math.Bool.{false}
-use Rattle.station.specs.declared.State.{State}
-use Rattle.station.specs.declared.Event.TheVariants as event
-use Rattle.station.specs.declared.Step.{Step}
-use Rattle.station.specs.Whole.{RingStep}
+use Rattle.station.specs.declared.state.State.{State}
+use Rattle.station.specs.declared.done.Event.TheVariants as event
+use Rattle.station.specs.Whole.{Step, RingStep}
 use Rattle.station.specs.Parts.{state_number}
 
 -- a state other than ClaimToken

@@ -1,8 +1,8 @@
 -- Request P6 in one statement: what the call on a trace's counts returns and leaves, for every trace that starts a station. Its proof is
 -- `every_count` in proofs/Theorem.antt. Bytes are numbers here, and any list of them is meant.
 use Rattle.std.specs.Prelude.{ℕ, ◌+◌, ◌*◌, ◌≤◌, min, ◌≡◌, List, [], ◌++◌, ◌⊎◌, length, take, drop}
-use Rattle.station.specs.declared.Counts.{Counts}
-use Rattle.station.specs.Whole.{Station}
+use Rattle.station.specs.declared.parts.Counts.{Counts}
+use Rattle.station.specs.declared.station.Station.{Station}
 use Rattle.station_answer.specs.Counted.{largest_count}
 use Rattle.trace_headers.specs.Headers.{header_length}
 use Rattle.trace.specs.Trace.{Accepted, start_of}

@@ -1,6 +1,6 @@
 -- Counts, and by how much they are raised. The proof of request P6's statement is in proofs/Theorem.
 use Rattle.std.specs.Prelude.{ℕ, ◌≤◌, ◌≡◌}
-use Rattle.station.specs.declared.Counts.{Counts}
+use Rattle.station.specs.declared.parts.Counts.{Counts}
 use Rattle.station_answer.specs.Counted.{largest_count, raised_by}
 
 -- From a step to the counts.

@@ -5,15 +5,14 @@ use Rattle.bus_run.specs.Run.{Bus}
 use Rattle.bus_seats.specs.declared.Seat.{Seat}
 use Rattle.bus_ticks.specs.Ticks.{BusIs}
 use Rattle.bus_ticks.specs.Starts.{SeatStarts}
-use Rattle.theorem_determined.specs.Joins.{station_same}
 use Rattle.theorem_determined.specs.BusSeats.{seats_same}
 use Rattle.bus_ticks.proofs.open_bus.Reads as open-bus-reads
-use Rattle.bus_ticks.proofs.tick.Reads as tick-reads
+use Rattle.bus_ticks.proofs.Bus.tick.Reads as tick-reads
 
 -- one seat starts at a place
 starts_same : (setup : List ℕ) (n place : ℕ) (c d : Seat) → SeatStarts setup n place c → SeatStarts setup n place d → c ≡ d
 starts_same setup n place c d p q =
-    seats_same c d (station_same c.station d.station c.links d.links (p.station ∙ sym q.station)) (p.waiting ∙ sym q.waiting) (p.until ∙ sym q.until)
+    seats_same c d (p.station ∙ sym q.station) (p.waiting ∙ sym q.waiting) (p.until ∙ sym q.until)
 
 -- of `open_bus` the seats in use are fixed, and what is on the bus
 pub open_bus :
@@ -30,7 +29,7 @@ pub tick :
     → tick-reads.Post κs a r₁ s₁
     → tick-reads.Post κs a r₂ s₂
     → 0 < span
-    → BusIs span a.1.0 b a.1.1.0 a.0
+    → BusIs span a.1.0 b a.1.1.0 a.0.now
     → ((k : ℕ) → k < a.1.0 → get_or r₁.words k 0 ≡ get_or r₂.words k 0)
     × (a.1.1.1.0 < a.1.0 → take r₁.given.length r₁.given.bytes ≡ take r₂.given.length r₂.given.bytes)
 tick κs a r₁ r₂ s₁ s₂ span b p q some g =

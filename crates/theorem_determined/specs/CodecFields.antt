@@ -2,48 +2,35 @@
 use Rattle.std.specs.Prelude.{◌≡◌}
 use Rattle.std.proofs.Common.{◌∙◌, sym}
 use Rattle.theorem_determined.specs.Claim.{Determined}
-use Rattle.codec_fields.proofs.field.Reads as field-reads
-use Rattle.codec_fields.proofs.field_byte.Reads as field-byte-reads
-use Rattle.codec_fields.proofs.field_short.Reads as field-short-reads
-use Rattle.codec_fields.proofs.field_long.Reads as field-long-reads
-use Rattle.codec_fields.proofs.bit.Reads as bit-reads
-use Rattle.codec_fields.proofs.put.Reads as put_reads
-use Rattle.codec_fields.proofs.put_byte.Reads as put-byte-reads
-use Rattle.codec_fields.proofs.put_short.Reads as put-short-reads
-use Rattle.codec_fields.proofs.put_bit.Reads as put-bit-reads
-use Rattle.codec_fields.proofs.zero_or_14.Reads as zero-or-14-reads
-use Rattle.codec_fields.proofs.load.Reads as load-reads
-use Rattle.codec_fields.proofs.store.Reads as store-reads
+use Rattle.theorem_determined.specs.Refused.{same_answer}
+use Rattle.codec_fields.proofs.words.bits_at.Reads as bits-at-reads
+use Rattle.codec_fields.proofs.words.field.Reads as field-reads
+use Rattle.codec_fields.proofs.words.put.Reads as put_reads
+use Rattle.codec_fields.proofs.words.check_zero.Reads as check-zero-reads
+use Rattle.codec_fields.proofs.bytes.load.Reads as load-reads
+use Rattle.codec_fields.proofs.bytes.store.Reads as store-reads
 
-pub field : Determined field-reads.Post
-field κs a r₁ r₂ s₁ s₂ p q = p ∙ sym q
+pub bits_at : Determined bits-at-reads.Post
+bits_at κs a r₁ r₂ s₁ s₂ p q = p ∙ sym q
 
-pub field_byte : Determined field-byte-reads.Post
-field_byte κs a r₁ r₂ s₁ s₂ p q = p ∙ sym q
+-- and of `field` at each type that a field may hold
+pub field :
+    (T : _) (L : _) (C : _) (F : _) (d : _) (G : _) (e : _) (κs : _) (a : _) (r₁ r₂ : _) (s₁ s₂ : _)
+    → field-reads.Post T L C F d G e κs a r₁ s₁
+    → field-reads.Post T L C F d G e κs a r₂ s₂
+    → r₁ ≡ r₂
+field T L C F d G e κs a r₁ r₂ s₁ s₂ p q = p ∙ sym q
 
-pub field_short : Determined field-short-reads.Post
-field_short κs a r₁ r₂ s₁ s₂ p q = p ∙ sym q
+-- and of `put` at each type that a field may hold
+pub put :
+    (T : _) (L : _) (C : _) (F : _) (d : _) (G : _) (e : _) (κs : _) (a : _) (r₁ r₂ : _) (s₁ s₂ : _)
+    → put_reads.Post T L C F d G e κs a r₁ s₁
+    → put_reads.Post T L C F d G e κs a r₂ s₂
+    → r₁ ≡ r₂
+put T L C F d G e κs a r₁ r₂ s₁ s₂ p q = p ∙ sym q
 
-pub field_long : Determined field-long-reads.Post
-field_long κs a r₁ r₂ s₁ s₂ p q = p ∙ sym q
-
-pub bit : Determined bit-reads.Post
-bit κs a r₁ r₂ s₁ s₂ p q = p ∙ sym q
-
-pub put : Determined put_reads.Post
-put κs a r₁ r₂ s₁ s₂ p q = p ∙ sym q
-
-pub put_byte : Determined put-byte-reads.Post
-put_byte κs a r₁ r₂ s₁ s₂ p q = p ∙ sym q
-
-pub put_short : Determined put-short-reads.Post
-put_short κs a r₁ r₂ s₁ s₂ p q = p ∙ sym q
-
-pub put_bit : Determined put-bit-reads.Post
-put_bit κs a r₁ r₂ s₁ s₂ p q = p ∙ sym q
-
-pub zero_or_14 : Determined zero-or-14-reads.Post
-zero_or_14 κs a r₁ r₂ s₁ s₂ p q = p ∙ sym q
+pub check_zero : Determined check-zero-reads.Post
+check_zero κs a r₁ r₂ s₁ s₂ p q = same_answer r₁ r₂ (p ∙ sym q)
 
 pub load : Determined load-reads.Post
 load κs a r₁ r₂ s₁ s₂ p q = p ∙ sym q

@@ -2,24 +2,29 @@
 use Rattle.std.specs.Prelude.{◌≡◌}
 use Rattle.std.proofs.Common.{◌∙◌, sym}
 use Rattle.theorem_determined.specs.Claim.{Determined}
+use Rattle.codec_frames.specs.Laws.{numbered_same}
+use Rattle.codec_frames.proofs.StartFromU8.from.Reads as from-reads
 use Rattle.codec_frames.proofs.check_byte.Reads as check-byte-reads
 use Rattle.codec_frames.proofs.read_frame.Reads as read-frame-reads
 use Rattle.codec_frames.proofs.read_number.Reads as read-number-reads
 use Rattle.codec_frames.proofs.write_frame.Reads as write-frame-reads
 
+pub from : Determined from-reads.Post
+from κs a r₁ r₂ s₁ s₂ p q = p ∙ sym q
+
 pub check_byte : Determined check-byte-reads.Post
 check_byte κs a r₁ r₂ s₁ s₂ p q = p ∙ sym q
 
 pub read_frame : Determined read-frame-reads.Post
-read_frame κs a r₁ r₂ s₁ s₂ p q = p ∙ sym q
+read_frame κs a r₁ r₂ s₁ s₂ p q = numbered_same r₁ r₂ (p ∙ sym q)
 
 pub read_number : Determined read-number-reads.Post
 read_number κs a r₁ r₂ s₁ s₂ p q = p ∙ sym q
 
--- `write_frame` returns a number and writes: both are fixed, the lent slice in every byte
+-- `write_frame` returns how many bytes or a refusal and writes: both are fixed, the lent slice in every byte
 pub write_frame :
     (κs : _) (a : _) (r₁ r₂ : _) (s₁ s₂ : _)
     → write-frame-reads.Post κs a r₁ s₁
     → write-frame-reads.Post κs a r₂ s₂
     → (r₁ ≡ r₂) × (s₁.1.0.now ≡ s₂.1.0.now)
-write_frame κs a r₁ r₂ s₁ s₂ p q = (p.0 ∙ sym q.0, p.1 ∙ sym q.1)
+write_frame κs a r₁ r₂ s₁ s₂ p q = (numbered_same r₁ r₂ (p.0 ∙ sym q.0), p.1 ∙ sym q.1)

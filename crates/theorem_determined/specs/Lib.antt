@@ -1,6 +1,8 @@
--- What is claimed of each contract, what a ring's join says, then a file for each crate with the claim proved for each of its public calls.
+-- What is claimed of each contract, what a join and a refusal's number say, then a file for each crate with the claim proved for each of its public calls.
 pub mod Claim
 pub mod Joins
+pub mod Refused
+pub mod Refusals
 pub mod BitTimes
 pub mod SettingsWatchdog
 pub mod SettingsRules

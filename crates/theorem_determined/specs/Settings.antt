@@ -1,20 +1,24 @@
 -- Determined, for the public calls of settings.
 use Rattle.std.proofs.Common.{◌∙◌, sym}
 use Rattle.theorem_determined.specs.Claim.{Determined}
-use Rattle.settings.proofs.Parameters.new.Reads as new-reads
-use Rattle.settings.proofs.Parameters.slot_bits.Reads as slot-bits-reads
-use Rattle.settings.proofs.Parameters.highest_station_address.Reads as highest-station-address-reads
-use Rattle.settings.proofs.Parameters.token_rotation_bits.Reads as token-rotation-bits-reads
-use Rattle.settings.proofs.Parameters.gap_wait_rotations.Reads as gap-wait-rotations-reads
-use Rattle.settings.proofs.Parameters.max_retry_limit.Reads as max-retry-limit-reads
-use Rattle.settings.proofs.Parameters.min_tsdr.Reads as min-tsdr-reads
-use Rattle.settings.proofs.Parameters.watchdog_timeout.Reads as watchdog-timeout-reads
-use Rattle.settings.proofs.Parameters.slot_check.Reads as slot-check-reads
-use Rattle.settings.proofs.Parameters.slot_time.Reads as slot-time-reads
-use Rattle.settings.proofs.Parameters.min_tsdr_time.Reads as min-tsdr-time-reads
-use Rattle.settings.proofs.Parameters.token_lost_timeout.Reads as token-lost-timeout-reads
-use Rattle.settings.proofs.Parameters.token_rotation_time.Reads as token-rotation-time-reads
-use Rattle.settings.proofs.Parameters.watchdog_time.Reads as watchdog-time-reads
+use Rattle.settings.proofs.not_set.RefusalFromNotSet.from.Reads as from-reads
+use Rattle.settings.proofs.parameters.Parameters.new.Reads as new-reads
+use Rattle.settings.proofs.parameters.Parameters.slot_bits.Reads as slot-bits-reads
+use Rattle.settings.proofs.parameters.Parameters.highest_station_address.Reads as highest-station-address-reads
+use Rattle.settings.proofs.parameters.Parameters.token_rotation_bits.Reads as token-rotation-bits-reads
+use Rattle.settings.proofs.parameters.Parameters.gap_wait_rotations.Reads as gap-wait-rotations-reads
+use Rattle.settings.proofs.parameters.Parameters.max_retry_limit.Reads as max-retry-limit-reads
+use Rattle.settings.proofs.parameters.Parameters.min_tsdr.Reads as min-tsdr-reads
+use Rattle.settings.proofs.parameters.Parameters.watchdog_timeout.Reads as watchdog-timeout-reads
+use Rattle.settings.proofs.parameters.Parameters.slot_check.Reads as slot-check-reads
+use Rattle.settings.proofs.parameters.Parameters.slot_time.Reads as slot-time-reads
+use Rattle.settings.proofs.parameters.Parameters.min_tsdr_time.Reads as min-tsdr-time-reads
+use Rattle.settings.proofs.parameters.Parameters.token_lost_timeout.Reads as token-lost-timeout-reads
+use Rattle.settings.proofs.parameters.Parameters.token_rotation_time.Reads as token-rotation-time-reads
+use Rattle.settings.proofs.parameters.Parameters.watchdog_time.Reads as watchdog-time-reads
+
+pub from : Determined from-reads.Post
+from κs a r₁ r₂ s₁ s₂ p q = p ∙ sym q
 
 pub new : Determined new-reads.Post
 new κs a r₁ r₂ s₁ s₂ p q = p ∙ sym q

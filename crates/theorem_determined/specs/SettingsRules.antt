@@ -1,55 +1,48 @@
 -- Determined, for the public calls of settings_rules.
 use Rattle.std.proofs.Common.{◌∙◌, sym}
 use Rattle.theorem_determined.specs.Claim.{Determined}
-use Rattle.settings_rules.proofs.address_refusal.Reads as address-refusal-reads
-use Rattle.settings_rules.proofs.baud_refusal.Reads as baud-refusal-reads
-use Rattle.settings_rules.proofs.least_of.Reads as least-of-reads
-use Rattle.settings_rules.proofs.slot_bits_refusal.Reads as slot-bits-refusal-reads
-use Rattle.settings_rules.proofs.hsa_refusal.Reads as hsa-refusal-reads
-use Rattle.settings_rules.proofs.rotation_refusal.Reads as rotation-refusal-reads
-use Rattle.settings_rules.proofs.room_refusal.Reads as room-refusal-reads
-use Rattle.settings_rules.proofs.gap_wait_refusal.Reads as gap-wait-refusal-reads
-use Rattle.settings_rules.proofs.retry_refusal.Reads as retry-refusal-reads
-use Rattle.settings_rules.proofs.min_tsdr_refusal.Reads as min-tsdr-refusal-reads
-use Rattle.settings_rules.proofs.watchdog_refusal.Reads as watchdog-refusal-reads
-use Rattle.settings_rules.proofs.factors_refusal.Reads as factors-refusal-reads
-use Rattle.settings_rules.proofs.applications_refusal.Reads as applications-refusal-reads
+use Rattle.theorem_determined.specs.Refused.{same_answer}
+use Rattle.settings_rules.proofs.check_address.Reads as check-address-reads
+use Rattle.settings_rules.proofs.check_slot_bits.Reads as check-slot-bits-reads
+use Rattle.settings_rules.proofs.check_hsa.Reads as check-hsa-reads
+use Rattle.settings_rules.proofs.check_rotation.Reads as check-rotation-reads
+use Rattle.settings_rules.proofs.check_room.Reads as check-room-reads
+use Rattle.settings_rules.proofs.check_gap_wait.Reads as check-gap-wait-reads
+use Rattle.settings_rules.proofs.check_retry.Reads as check-retry-reads
+use Rattle.settings_rules.proofs.check_min_tsdr.Reads as check-min-tsdr-reads
+use Rattle.settings_rules.proofs.check_watchdog.Reads as check-watchdog-reads
+use Rattle.settings_rules.proofs.check_factors.Reads as check-factors-reads
+use Rattle.settings_rules.proofs.check_applications.Reads as check-applications-reads
 
-pub address_refusal : Determined address-refusal-reads.Post
-address_refusal κs a r₁ r₂ s₁ s₂ p q = p ∙ sym q
+pub check_address : Determined check-address-reads.Post
+check_address κs a r₁ r₂ s₁ s₂ p q = same_answer r₁ r₂ (p ∙ sym q)
 
-pub baud_refusal : Determined baud-refusal-reads.Post
-baud_refusal κs a r₁ r₂ s₁ s₂ p q = p ∙ sym q
+pub check_slot_bits : Determined check-slot-bits-reads.Post
+check_slot_bits κs a r₁ r₂ s₁ s₂ p q = same_answer r₁ r₂ (p ∙ sym q)
 
-pub least_of : Determined least-of-reads.Post
-least_of κs a r₁ r₂ s₁ s₂ p q = p ∙ sym q
+pub check_hsa : Determined check-hsa-reads.Post
+check_hsa κs a r₁ r₂ s₁ s₂ p q = same_answer r₁ r₂ (p ∙ sym q)
 
-pub slot_bits_refusal : Determined slot-bits-refusal-reads.Post
-slot_bits_refusal κs a r₁ r₂ s₁ s₂ p q = p ∙ sym q
+pub check_rotation : Determined check-rotation-reads.Post
+check_rotation κs a r₁ r₂ s₁ s₂ p q = same_answer r₁ r₂ (p ∙ sym q)
 
-pub hsa_refusal : Determined hsa-refusal-reads.Post
-hsa_refusal κs a r₁ r₂ s₁ s₂ p q = p ∙ sym q
+pub check_room : Determined check-room-reads.Post
+check_room κs a r₁ r₂ s₁ s₂ p q = same_answer r₁ r₂ (p ∙ sym q)
 
-pub rotation_refusal : Determined rotation-refusal-reads.Post
-rotation_refusal κs a r₁ r₂ s₁ s₂ p q = p ∙ sym q
+pub check_gap_wait : Determined check-gap-wait-reads.Post
+check_gap_wait κs a r₁ r₂ s₁ s₂ p q = same_answer r₁ r₂ (p ∙ sym q)
 
-pub room_refusal : Determined room-refusal-reads.Post
-room_refusal κs a r₁ r₂ s₁ s₂ p q = p ∙ sym q
+pub check_retry : Determined check-retry-reads.Post
+check_retry κs a r₁ r₂ s₁ s₂ p q = same_answer r₁ r₂ (p ∙ sym q)
 
-pub gap_wait_refusal : Determined gap-wait-refusal-reads.Post
-gap_wait_refusal κs a r₁ r₂ s₁ s₂ p q = p ∙ sym q
+pub check_min_tsdr : Determined check-min-tsdr-reads.Post
+check_min_tsdr κs a r₁ r₂ s₁ s₂ p q = same_answer r₁ r₂ (p ∙ sym q)
 
-pub retry_refusal : Determined retry-refusal-reads.Post
-retry_refusal κs a r₁ r₂ s₁ s₂ p q = p ∙ sym q
+pub check_watchdog : Determined check-watchdog-reads.Post
+check_watchdog κs a r₁ r₂ s₁ s₂ p q = same_answer r₁ r₂ (p ∙ sym q)
 
-pub min_tsdr_refusal : Determined min-tsdr-refusal-reads.Post
-min_tsdr_refusal κs a r₁ r₂ s₁ s₂ p q = p ∙ sym q
+pub check_factors : Determined check-factors-reads.Post
+check_factors κs a r₁ r₂ s₁ s₂ p q = same_answer r₁ r₂ (p ∙ sym q)
 
-pub watchdog_refusal : Determined watchdog-refusal-reads.Post
-watchdog_refusal κs a r₁ r₂ s₁ s₂ p q = p ∙ sym q
-
-pub factors_refusal : Determined factors-refusal-reads.Post
-factors_refusal κs a r₁ r₂ s₁ s₂ p q = p ∙ sym q
-
-pub applications_refusal : Determined applications-refusal-reads.Post
-applications_refusal κs a r₁ r₂ s₁ s₂ p q = p ∙ sym q
+pub check_applications : Determined check-applications-reads.Post
+check_applications κs a r₁ r₂ s₁ s₂ p q = same_answer r₁ r₂ (p ∙ sym q)

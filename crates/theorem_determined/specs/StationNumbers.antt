@@ -1,5 +1,4 @@
 -- Determined, for the public calls of station_numbers.
-use Rattle.std.specs.Prelude.{◌≡◌}
 use Rattle.std.proofs.Common.{◌∙◌, sym}
 use Rattle.theorem_determined.specs.Claim.{Determined}
 use Rattle.station_numbers.proofs.state_numbers.Reads as state-numbers-reads

@@ -2,7 +2,7 @@
 use Rattle.std.specs.Prelude.{ℕ, suc, ◌-◌, ◌*◌, ◌≤◌, ◌≡◌, refl, List, [], ◌∷◌, ◌++◌, length, take, drop}
 use Rattle.std.proofs.Common.{sym, ap, ◌∙◌, subst, append_assoc, arith, length-append, length-take-le, take_at, drop_at}
 use Rattle.std.proofs.Math.Nat.{sub-zero}
-use Rattle.station.specs.Whole.{Station}
+use Rattle.station.specs.declared.station.Station.{Station}
 use Rattle.trace_headers.specs.Headers.{header_length}
 use Rattle.trace.specs.Entries.{record_length}
 use Rattle.theorem_every_trace.specs.Statement.{Entry, Whole, laid, Stops, empty, cut, full, Answered}

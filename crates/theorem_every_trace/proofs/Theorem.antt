@@ -3,7 +3,7 @@ use Rattle.std.specs.Prelude.{ℕ, zero, suc, ◌-◌, ◌*◌, ◌≤◌, ◌�
 use Rattle.std.proofs.Common.{sym, ap, ◌∙◌, subst, append_assoc, arith, le_refl, take-append-drop, length-take-le}
 use Rattle.std.proofs.Math.Nat.{sub-zero}
 use Rattle.codec_answers.specs.declared.Answer.{Answer}
-use Rattle.station.specs.Whole.{Station}
+use Rattle.station.specs.declared.station.Station.{Station}
 use Rattle.trace_headers.specs.Headers.{header_length}
 use Rattle.station_answer.specs.Answer.{Polled}
 use Rattle.trace.specs.Entries.{record_length, entry_of}

@@ -3,7 +3,7 @@ use Rattle.std.specs.Prelude.{ℕ, ◌-◌, ◌*◌, ◌/◌, ◌%◌, ◌<◌, 
 use Rattle.std.proofs.Common.{sym, ap, ◌∙◌, inl, inr, arith, le_refl, length-append, length-drop, take_at, drop_at}
 use borrow.Table.Steps.{cases}
 use Rattle.std.proofs.Math.Pow.{high, low}
-use Rattle.station.specs.Whole.{Station}
+use Rattle.station.specs.declared.station.Station.{Station}
 use Rattle.trace_headers.specs.Headers.{header_length}
 use Rattle.theorem_sound.proofs.Unchanged.{poll_unchanged, online_refusal, offline_refusal, passive_refusal}
 use Rattle.trace.specs.Trace.{TraceStart, Accepted, Refused, start_of, answered, run_of, ran_of, replay_on, replay_of, number_of, written, buffer_of}

@@ -1,6 +1,6 @@
 -- A trace whose header moved to the other edition (request P9): it starts the same station and gives the same answers. The entries stay
 -- as they are; the header is shorter or longer by two bytes, so at the limit of 2^32 bytes a trace may be moved past it.
-use Rattle.std.specs.Prelude.{ℕ, ◌+◌, ◌*◌, ◌^◌, ◌<◌, ◌≤◌, ◌≡◌, refl, List, [], ◌∷◌, ◌++◌, take, drop, get_or, eqb, ltb}
+use Rattle.std.specs.Prelude.{ℕ, ◌+◌, ◌*◌, ◌^◌, ◌<◌, ◌≤◌, ◌≡◌, refl, List, [], ◌∷◌, ◌++◌, take, drop, get_or, eqb, ltb, Result, Ok, Err}
 use Rattle.std.proofs.Common.{sym, ap, ap₂, ◌∙◌, subst, le_refl, arith, length-append, take-append-drop, length-take-le, take_at, drop_at, take_all, get_or-take}
 use borrow.Author.Tests.{le-leb, lt-leb, le-ltb, ltb-false, eqb-true}
 use borrow.Table.Steps.{cases}
@@ -8,10 +8,11 @@ use Rattle.std.proofs.Math.ListN.{length}
 use Rattle.codec_fields.specs.Fields.{field_of, be_from, Bytes}
 use Rattle.codec_fields.proofs.Laws.{never}
 use Rattle.codec_fields.proofs.Stores.{bytes_take}
-use Rattle.settings.specs.declared.Parameters.{Parameters}
-use Rattle.settings.specs.declared.Created.{Created}
-use Rattle.settings.specs.declared.Created.TheVariants as created
-use Rattle.station.specs.Whole.{Station}
+use Rattle.settings.specs.declared.parameters.Parameters.{Parameters}
+use Rattle.refusals.specs.declared.refusal.Refusal.{Refusal}
+use Rattle.refusals.specs.declared.refusal.Refusal.TheVariants.{TraceLength}
+use Rattle.refusals.specs.Refusals.{number_of, named}
+use Rattle.station.specs.declared.station.Station.{Station}
 use Rattle.trace_headers.specs.declared.Header.{Header}
 use Rattle.trace_headers.specs.declared.Edition.{Edition}
 use Rattle.trace_headers.specs.declared.Edition.TheVariants.{First, Second}
@@ -100,7 +101,7 @@ module _ (header entries : List ℕ) (whole : length header ≡ header_length he
   too_long : longest_trace < length (header ++ entries) → start_of (header ++ entries) ≡ Refused 17
   unfolding settings_at
   too_long l =
-      start_refused (header ++ entries) 17
+      start_refused (header ++ entries) TraceLength
       (rw (le-leb (header_length (header ++ entries)) (length (header ++ entries)) there, lt-leb (length (header ++ entries)) longest_trace l))
 
 -- one start and the same entries: one replay
@@ -114,11 +115,11 @@ unfolding replay_of
 same_replay_of trace other room s e = ap (λ (x : TraceStart). replay_on x trace room) s ∙ same_run (start_of other) trace other room e
 
 -- a header that starts a station is not refused
-settings_none : (h : Header) (p : Parameters) → settings_of h ≡ created.Accepted p → header_refusal h ≡ 0
+settings_none : (h : Header) (p : Parameters) → settings_of h ≡ Ok p → header_refusal h ≡ 0
 unfolding settings_of
 settings_none h p e = cases (eqb (header_refusal h) 0) (λ t. eqb-true _ _ t) (λ t. not_refused (rw t at e))
   where
-    not_refused : created.Refused (header_refusal h) ≡ created.Accepted p → header_refusal h ≡ 0
+    not_refused : ◌≡◌ {A = Result Parameters Refusal} (Err (named (header_refusal h))) (Ok p) → header_refusal h ≡ 0
     not_refused z = let y : ◌≡◌ {A = ℕ} 0 1 = cc in absurd (omega arith)
 
 start_none : (h : Header) (n : ℕ) (s : Station) → started_with (settings_of h) n ≡ Accepted s → header_refusal h ≡ 0
@@ -128,9 +129,9 @@ start_none h n s e = go (settings_of h) refl
     not_started : (k : ℕ) → Refused k ≡ Accepted s → header_refusal h ≡ 0
     not_started k z = let y : ◌≡◌ {A = ℕ} 0 1 = cc in absurd (omega arith)
 
-    go : (x : Created) → settings_of h ≡ x → header_refusal h ≡ 0
-    go (created.Accepted p) f = settings_none h p f
-    go (created.Refused k) f = not_started k (rw f at e)
+    go : (x : Result Parameters Refusal) → settings_of h ≡ x → header_refusal h ≡ 0
+    go (Ok p) f = settings_none h p f
+    go (Err k) f = not_started (number_of k) (rw f at e)
 
 -- The header that a list begins with, where it has one.
 module _ (trace : List ℕ) (room : header_length trace ≤ length trace) where

@@ -1,6 +1,6 @@
 -- What it is that `every_trace` leaves no choice: two replays of one trace take its bytes apart alike. The proof is in proofs/Once.
 use Rattle.std.specs.Prelude.{ℕ, ◌≡◌, List}
-use Rattle.station.specs.Whole.{Station}
+use Rattle.station.specs.declared.station.Station.{Station}
 use Rattle.theorem_every_trace.specs.Statement.{Answered}
 
 -- two replays of one trace into one buffer: the same entries are answered, the same bytes are left, with the same ending

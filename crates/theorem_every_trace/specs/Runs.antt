@@ -7,7 +7,7 @@ use Rattle.std.proofs.lemmas.List.{take-append-le, drop-append-le}
 use Rattle.codec_fields.specs.Fields.{bytes_of}
 use Rattle.codec_answers.specs.declared.Answer.{Answer}
 use Rattle.codec_answers.specs.Answers.{answer_word}
-use Rattle.station.specs.Whole.{Station}
+use Rattle.station.specs.declared.station.Station.{Station}
 use Rattle.station_answer.specs.Answer.{Polled}
 use Rattle.trace.specs.Entries.{record_length, entry_of}
 use Rattle.trace.specs.Trace.{Run, answered, run_from, run_of, written}

@@ -1,7 +1,7 @@
 -- Demand 1 in one statement: what the replay call returns and leaves for every trace and every buffer. Its proof is `every_trace` in
 -- proofs/Theorem.antt. Bytes are numbers here, and any list of them is meant.
 use Rattle.std.specs.Prelude.{ℕ, ◌+◌, ◌-◌, ◌*◌, ◌<◌, ◌≤◌, ◌≡◌, List, [], ◌∷◌, ◌++◌, ◌↔◌, ◌⊎◌, length, take, drop}
-use Rattle.station.specs.Whole.{Station}
+use Rattle.station.specs.declared.station.Station.{Station}
 use Rattle.trace_headers.specs.Headers.{header_length}
 use Rattle.trace.specs.Entries.{record_length, entry_of}
 use Rattle.trace.specs.Trace.{Accepted, Refused, start_of, Run, ended, answered, replay_of, number_of, written, buffer_of}

@@ -1,6 +1,6 @@
 -- A run over bytes, taken apart into entries. That every run can be, and demand 1's statement with it, is proved in proofs/Theorem.
 use Rattle.std.specs.Prelude.{ℕ, ◌-◌, ◌*◌, ◌≤◌, ◌≡◌, List, ◌++◌, length}
-use Rattle.station.specs.Whole.{Station}
+use Rattle.station.specs.declared.station.Station.{Station}
 use Rattle.trace.specs.Trace.{Run}
 use Rattle.theorem_every_trace.specs.Statement.{Entry, Whole, laid, along, Stops}
 

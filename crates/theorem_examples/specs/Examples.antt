@@ -1,5 +1,5 @@
 -- Document 01's examples 1 to 12 hold, all under one theorem: each row by computing the definitions. Assumes nothing.
-use Rattle.std.specs.Prelude.{true, ◌≡◌, refl, [], ◌∷◌, take, drop}
+use Rattle.std.specs.Prelude.{true, ◌≡◌, refl, [], ◌∷◌, take, drop, Some}
 use Rattle.std.proofs.Common.{ap, ◌∙◌, lit<, lit≤}
 use Rattle.bit_times.specs.Times.{baud_of, rounded, time_of}
 use Rattle.settings_rules.specs.Rules.{refuse_below, refuse_outside, address_refusal, baud_refusal, slot_bits_refusal, hsa_refusal, rotation_refusal, room_refusal, gap_wait_refusal, retry_refusal, min_tsdr_refusal, watchdog_refusal, factors_refusal, applications_refusal}
@@ -18,7 +18,7 @@ use Rattle.codec_telegrams.specs.Words.{response_state_of, telegram_of, telegram
 use Rattle.codec_decisions.specs.Decisions.{decision_of, length_refusal, decision_refusal, decision_word}
 use Rattle.codec_records.specs.Records.{head_of, decision_at, telegram_at, entry_refusal, words_refusal, record_refusal}
 use Rattle.codec_answers.specs.Answers.{outcome_of, sent_fields, sent_from, notice_fields, notice_from, refused_answer, answer_word, full_of, answer_of, refusal_known, sent_meant, meant, unpack_of}
-use Rattle.station.specs.declared.ConnectivityState.TheVariants as connectivity
+use Rattle.station.specs.declared.state.ConnectivityState.TheVariants as connectivity
 use Rattle.station.specs.Parts.{with_activity, with_gap, with_pending, with_token_times, with_next_application, with_connectivity, is_offline, fresh_core, fresh_station}
 use Rattle.station.specs.Steps.{to_active_idle, with_token_time, known_at, elapsed_of, marked_at, busy_of, ongoing_of, waited_of, pause_of, sent_at, bus_activity_of, rx_of, slot_expired_of, token_lost_wait_of, done_of, transmit_of, with_event, heard_of, collision_of, last_request_to_us}
 use Rattle.station_claim.specs.Claim.{claim_next, claim_token_of}
@@ -36,8 +36,7 @@ use Rattle.station_command.specs.Command.{connect_of, online_of, offline_of, pas
 use Rattle.trace_headers.specs.Headers.{edition_of, length_of, header_in, header_of, header_refusal}
 use Rattle.trace.specs.Trace.{TraceStart, Accepted, settings_of, settings_at, started_with, start_of, run_from, ran_of, replay_on, replay_of, number_of, written, buffer_of}
 use Rattle.trace.specs.Entries.{record_length, entry_of}
-use Rattle.station.specs.declared.Activity.TheVariants as activity
-use Rattle.station.specs.Whole.{Station}
+use Rattle.station.specs.declared.station.Station.{Station}
 use Rattle.theorem_examples.specs.Table.{TraceParts, left_on, left_by, trace_bytes, after_entries, example, example9, counts_of, alone_station, example10, neighbour_station, example11, collided_once, AllHold, table}
 
 -- two stations are equal by their parts
@@ -68,7 +67,7 @@ abbrev stands_back : Station
 stands_back =
     record {
       state = to_active_idle;
-      core = record { last_token_time = record { 0 = 9400 }; end_token_hold_time = record { 0 = 72672 }; last_bus_activity = activity.At (record { 0 = 9900 }); gap_state = DoPoll 6; pending_bytes = 0; next_application = 1; connectivity_state = connectivity.Online };
+      core = record { last_token_time = record { 0 = 9400 }; end_token_hold_time = record { 0 = 72672 }; last_bus_activity = Some (record { 0 = 9900 }); gap_state = DoPoll 6; pending_bytes = 0; next_application = 1; connectivity_state = connectivity.Online };
       token_ring = make 5 (among (5 ∷ [])) 2 true;
       p = example 1;
       counts = counts_of 1 0 0;

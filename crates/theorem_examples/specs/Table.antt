@@ -1,16 +1,14 @@
 -- Document 01, "Proved examples": the rows of the table, what a row says, and the table.
-use Rattle.std.specs.Prelude.{ℕ, zero, suc, ◌+◌, ◌*◌, ◌/◌, ◌%◌, ◌^◌, true, false, ◌≡◌, List, [], ◌∷◌, ◌++◌, map, length}
+use Rattle.std.specs.Prelude.{ℕ, zero, suc, ◌+◌, ◌*◌, ◌/◌, ◌%◌, ◌^◌, true, false, ◌≡◌, List, [], ◌∷◌, ◌++◌, map, length, Option, Some, None, Result, Ok, Err}
 use Rattle.codec_fields.specs.Fields.{bytes_of}
-use Rattle.bit_times.specs.declared.Micros.{Micros}
-use Rattle.bit_times.specs.declared.Baud.TheVariants.{B500000}
-use Rattle.bit_times.specs.declared.Coded.{Coded}
-use Rattle.bit_times.specs.declared.Coded.TheVariants.{Rate, Unknown}
+use Rattle.bit_times.specs.declared.micros.Micros.{Micros}
+use Rattle.bit_times.specs.declared.baud.Baud.TheVariants.{B500000}
+use Rattle.refusals.specs.declared.refusal.Refusal.{Refusal}
+use Rattle.refusals.specs.declared.refusal.Refusal.TheVariants.{WatchdogFactors}
+use Rattle.bit_times.specs.declared.baud.Baud.{Baud}
 use Rattle.bit_times.specs.Times.{time_of, baud_of}
-use Rattle.settings_watchdog.specs.declared.WatchdogFactors.TheVariants as watchdog
-use Rattle.settings_watchdog.specs.declared.Factored.{Factored}
-use Rattle.settings_watchdog.specs.declared.Factored.TheVariants as factored
 use Rattle.settings_watchdog.specs.Watchdog.{factors_of}
-use Rattle.settings.specs.declared.Parameters.{Parameters}
+use Rattle.settings.specs.declared.parameters.Parameters.{Parameters}
 use Rattle.settings.specs.Settings.{slot_time_of, token_lost_of}
 use Rattle.ring.specs.declared.GapState.{GapState}
 use Rattle.ring.specs.declared.GapState.TheVariants.{Waiting, DoPoll}
@@ -21,14 +19,11 @@ use Rattle.codec_answers.specs.declared.Answer.{Answer}
 use Rattle.codec_answers.specs.declared.Sent.{Sent}
 use Rattle.codec_answers.specs.declared.Sent.TheVariants as sent
 use Rattle.codec_answers.specs.Answers.{answer_word}
-use Rattle.station.specs.declared.ConnectivityState.TheVariants as connectivity
-use Rattle.station.specs.declared.OptionAddress.TheVariants as optionAddress
-use Rattle.station.specs.declared.Activity.{Activity}
-use Rattle.station.specs.declared.Activity.TheVariants as activity
-use Rattle.station.specs.declared.PassTokenAttempt.TheVariants.{First}
-use Rattle.station.specs.declared.State.TheVariants.{Offline, ListenToken, PassToken}
-use Rattle.station.specs.declared.Counts.{Counts}
-use Rattle.station.specs.Whole.{Station}
+use Rattle.station.specs.declared.state.ConnectivityState.TheVariants as connectivity
+use Rattle.station.specs.declared.state.PassTokenAttempt.TheVariants.{First}
+use Rattle.station.specs.declared.state.State.TheVariants.{Offline, ListenToken, PassToken}
+use Rattle.station.specs.declared.parts.Counts.{Counts}
+use Rattle.station.specs.declared.station.Station.{Station}
 use Rattle.station.specs.Parts.{with_gap, zero_time}
 use Rattle.station_answer.specs.Answer.{Polled}
 use Rattle.station_poll.specs.Poll.{poll_of}
@@ -63,7 +58,7 @@ left_by trace = left_on (start_of (trace_bytes trace)) trace.entries
 -- A row, in the order of document 01.
 pub data Row : Type 0 where
   -- (1..6) a watchdog time in milliseconds, and its factors or refusal
-  factors : ℕ → Factored → Row
+  factors : ℕ → Result (Option (ℕ × ℕ)) Refusal → Row
   -- (7, as document 02, P3, has it) bits at a baud code, and their microseconds
   time : ℕ → ℕ → ℕ → Row
   -- (the sentence before the list) the slot time and the time after which the token counts as lost, in microseconds
@@ -85,7 +80,7 @@ pub data Row : Type 0 where
 -- the settings of document 01's examples: address 5, code 6, slot 200, with the header's other fields as in example 12
 abbrev pub example : ℕ → Parameters
 example wait =
-    record { token_rotation_bits = 0x7eb4; slot_bits = 200; address = 5; baudrate = B500000; gap_wait_rotations = wait; highest_station_address = 126; max_retry_limit = 1; min_tsdr_bits = 11; watchdog_factors = watchdog.None }
+    record { token_rotation_bits = 0x7eb4; slot_bits = 200; address = 5; baudrate = B500000; gap_wait_rotations = wait; highest_station_address = 126; max_retry_limit = 1; min_tsdr_bits = 11; watchdog_factors = None }
 
 -- their header, with this gap wait and number of applications
 abbrev pub headed : ℕ → ℕ → List ℕ
@@ -140,9 +135,9 @@ sent_along s [] = []
 sent_along s (clock ∷ clocks) = let polled = poll_of s (poll_record clock []) in polled.answer.sent ∷ sent_along polled.station clocks
 
 -- the time of bits at a rate; none at an unknown one
-abbrev pub time_at : ℕ → Coded → Micros
-time_at bits (Rate baud) = time_of (record { 0 = bits }) baud
-time_at bits Unknown = record { 0 = 0 }
+abbrev pub time_at : ℕ → Result Baud Refusal → Micros
+time_at bits (Ok baud) = time_of (record { 0 = bits }) baud
+time_at bits (Err refusal) = record { 0 = 0 }
 
 -- example 12's trace: the header, online, and five polls
 abbrev pub example12 : TraceParts
@@ -162,7 +157,7 @@ abbrev pub alone_station : Station
 alone_station =
     record {
       state = PassToken true First;
-      core = record { last_token_time = record { 0 = 7532 }; end_token_hold_time = record { 0 = 64872 }; last_bus_activity = activity.At (record { 0 = 7598 }); gap_state = Waiting 0; pending_bytes = 0; next_application = 0; connectivity_state = connectivity.Online };
+      core = record { last_token_time = record { 0 = 7532 }; end_token_hold_time = record { 0 = 64872 }; last_bus_activity = Some (record { 0 = 7598 }); gap_state = Waiting 0; pending_bytes = 0; next_application = 0; connectivity_state = connectivity.Online };
       token_ring = record { links = links_of (among (5 ∷ [])); own = 5; laps = 0; ready = true };
       p = example 10;
       counts = counts_of 1 0 0;
@@ -183,7 +178,7 @@ abbrev pub neighbour_station : Station
 neighbour_station =
     record {
       state = PassToken true First;
-      core = record { last_token_time = record { 0 = 7700 }; end_token_hold_time = record { 0 = 64872 }; last_bus_activity = activity.At (record { 0 = 7766 }); gap_state = Waiting 0; pending_bytes = 0; next_application = 0; connectivity_state = connectivity.Online };
+      core = record { last_token_time = record { 0 = 7700 }; end_token_hold_time = record { 0 = 64872 }; last_bus_activity = Some (record { 0 = 7766 }); gap_state = Waiting 0; pending_bytes = 0; next_application = 0; connectivity_state = connectivity.Online };
       token_ring = record { links = links_of (among (5 ∷ 9 ∷ [])); own = 5; laps = 1; ready = true };
       p = example 10;
       counts = counts_of 1 0 0;
@@ -214,8 +209,8 @@ example11 =
 abbrev pub collided_once : Station
 collided_once =
     record {
-      state = ListenToken optionAddress.None 1;
-      core = record { last_token_time = record { 0 = 9400 }; end_token_hold_time = record { 0 = 72672 }; last_bus_activity = activity.At (record { 0 = 10200 }); gap_state = DoPoll 6; pending_bytes = 7; next_application = 1; connectivity_state = connectivity.Online };
+      state = ListenToken None 1;
+      core = record { last_token_time = record { 0 = 9400 }; end_token_hold_time = record { 0 = 72672 }; last_bus_activity = Some (record { 0 = 10200 }); gap_state = DoPoll 6; pending_bytes = 7; next_application = 1; connectivity_state = connectivity.Online };
       token_ring = record { links = links_of (among (5 ∷ 9 ∷ 12 ∷ [])); own = 5; laps = 2; ready = true };
       p = example 1;
       counts = counts_of 1 0 3;
@@ -224,7 +219,7 @@ collided_once =
 
 -- and after it: a fresh station, as document 01 has it, but for this activity and for what was counted (document 02, P6): one collision
 -- more. The telegram behind it is not counted
-abbrev pub fresh_but : Activity → Station
+abbrev pub fresh_but : Option Micros → Station
 fresh_but last =
     record {
       state = Offline;
@@ -260,12 +255,12 @@ table =
     ∷ slot 400
     ∷ time 33 6 66
     ∷ lost 6400
-    ∷ factors 9 (factored.Factors 1 0)
-    ∷ factors 2550 (factored.Factors 1 255)
-    ∷ factors 2560 (factored.Factors 2 128)
-    ∷ factors 10000 (factored.Factors 4 250)
-    ∷ factors 650250 (factored.Factors 255 255)
-    ∷ factors 650260 (factored.Refused 9)
+    ∷ factors 9 (Ok (Some (1, 0)))
+    ∷ factors 2550 (Ok (Some (1, 255)))
+    ∷ factors 2560 (Ok (Some (2, 128)))
+    ∷ factors 10000 (Ok (Some (4, 250)))
+    ∷ factors 650250 (Ok (Some (255, 255)))
+    ∷ factors 650260 (Err WatchdogFactors)
     ∷ time 33 10 3
     ∷ walk 5 (Waiting 11) (DoPoll 6) (sent.StatusRequest 6)
     ∷ walk 125 (DoPoll 125) (DoPoll 0) (sent.StatusRequest 0)
@@ -275,7 +270,7 @@ table =
     ∷ (sent.Token 5, Waiting 6) ∷ (sent.Token 5, Waiting 7) ∷ (sent.Token 5, Waiting 8) ∷ (sent.Token 5, Waiting 9) ∷ (sent.Token 5, Waiting 10)
     ∷ (sent.Token 5, Waiting 11) ∷ (sent.StatusRequest 6, DoPoll 6) ∷ [])
     ∷ silence example10 neighbour_station (8000 ∷ 8466 ∷ 8932 ∷ 9398 ∷ []) (sent.Token 9 ∷ sent.Token 9 ∷ sent.Token 9 ∷ sent.Token 5 ∷ [])
-    ∷ collision example11 collided_once (two_record 10300 (token 5 3 ∷ [])) (fresh_but activity.Unknown)
-    ∷ collision example11 collided_once (two_record 10300 (token 5 3 ∷ token 9 3 ∷ [])) (fresh_but (activity.At (record { 0 = 10300 })))
+    ∷ collision example11 collided_once (two_record 10300 (token 5 3 ∷ [])) (fresh_but None)
+    ∷ collision example11 collided_once (two_record 10300 (token 5 3 ∷ token 9 3 ∷ [])) (fresh_but (Some (record { 0 = 10300 })))
     ∷ replay example12 (0x00000000000001fc ∷ 0x03100000000001fc ∷ 0x03100000000001fc ∷ 0x02421400300001fc ∷ 0x02321400300001fc ∷ 0x02300000000001fc ∷ []) 6 0
     ∷ []

@@ -1,7 +1,7 @@
 -- One byte of a frame changed: which changes are found, and that the others are read as `changed` of specs/Changed says. The theorems
 -- have their statements here. Assumes nothing.
 use Prim.Native.Nat.{ℕ, zero, suc, ◌+◌, ◌%◌, ◌^◌, ◌<◌, ◌≤◌}
-use Rattle.std.specs.Prelude.{◌≡◌, true, false, cond, not, ◌&&◌, drop, eqb}
+use Rattle.std.specs.Prelude.{◌≡◌, true, false, cond, not, ◌&&◌, drop, eqb, Err, Result}
 use Rattle.std.proofs.Math.Path.{refl, sym, ap}
 use Rattle.std.proofs.Common.{◌∙◌, mod-lt, lit<, lit≤}
 use mathlib.Core.List.{List, [], ◌∷◌}
@@ -18,9 +18,8 @@ use Rattle.codec_telegrams.specs.Words.{TelegramFits}
 use Rattle.codec_telegrams.specs.Laws.{state_below}
 use Rattle.codec_frames.specs.declared.Start.{Start}
 use Rattle.codec_frames.specs.declared.Start.TheVariants.{Sd1, Sd2, Sd3, Sd4, Sc, Unknown}
-use Rattle.codec_frames.specs.declared.FrameRead.{FrameRead}
-use Rattle.codec_frames.specs.declared.FrameRead.TheVariants.{Accepted, Refused}
-use Rattle.codec_frames.specs.Frames.{sd1, sd2, sd3, sd4, sc, end_byte, sum_of, check_of, sd1_frame, status_code, response_code, frame_bytes, is_other_request, start_of, is_unknown, is_sd2, is_checked, head_length, body_length, check_place, head_holds, frame_on, frame_of}
+use Rattle.codec_frames.specs.declared.Frame.{Frame}
+use Rattle.codec_frames.specs.Frames.{read_as, sd1, sd2, sd3, sd4, sc, end_byte, sum_of, check_of, sd1_frame, status_code, response_code, frame_bytes, is_other_request, start_of, is_unknown, is_sd2, is_checked, head_length, body_length, check_place, head_holds, frame_on, frame_of}
 use Rattle.theorem_frames.proofs.Whole.{accepted, no_bit}
 use Rattle.theorem_frames.proofs.Bytes.{first_byte, byte_at_lem}
 use Rattle.theorem_frames.proofs.RoundTrip.{frame_reads_back}
@@ -100,7 +99,7 @@ module _ (f : List ℕ) (i b : ℕ) where
   kept_start Sc h = h
   kept_start Unknown h = h
 
-module _ (f : List ℕ) {t : Telegram} {used : ℕ} (read : frame_of f ≡ Accepted t used) where
+module _ (f : List ℕ) {t : Telegram} {used : ℕ} (read : frame_of f ≡ read_as t used) where
   -- how the frame begins
   abbrev begins : Start
   begins = start_of (get_or f 0 0)
@@ -109,7 +108,7 @@ module _ (f : List ℕ) {t : Telegram} {used : ℕ} (read : frame_of f ≡ Accep
     -- In a frame with a check byte, SD1, SD2 or SD3, any byte from the destination to the check byte changed is found: 22. Byte j
     -- is counted from the destination; the check byte is the last of them
     pub change_found :
-        Bytes f → (j b : ℕ) → j ≤ body_length begins f → b < 2 ^ 8 → (b ≡ get_or f (head_length begins + j) 0 → ⊥) → frame_of (set f (head_length begins + j) b) ≡ Refused 22
+        Bytes f → (j b : ℕ) → j ≤ body_length begins f → b < 2 ^ 8 → (b ≡ get_or f (head_length begins + j) 0 → ⊥) → frame_of (set f (head_length begins + j) b) ≡ Err 22
     unfolding frame_of frame_on
     change_found bytes j b last byte other =
         let start = begins in
@@ -132,7 +131,7 @@ module _ (f : List ℕ) {t : Telegram} {used : ℕ} (read : frame_of f ≡ Accep
         rw (first, length-set f i b, w.some, w.known, w.head, kept_length f i b start behind, kept_head f i b start behind, w.same, w.long, checked, ne_eqb _ _ differs)
 
     -- and so is the end byte: 23
-    pub end_found : (b : ℕ) → (b ≡ end_byte → ⊥) → frame_of (set f (check_place begins f + 1) b) ≡ Refused 23
+    pub end_found : (b : ℕ) → (b ≡ end_byte → ⊥) → frame_of (set f (check_place begins f + 1) b) ≡ Err 23
     unfolding frame_of frame_on
     end_found b other =
         let start = begins in
@@ -151,11 +150,11 @@ module _ (f : List ℕ) {t : Telegram} {used : ℕ} (read : frame_of f ≡ Accep
 -- The frames that are written
 
 -- another first byte for the same
-start_changed : (b : ℕ) (f : List ℕ) (x : FrameRead) (start : ℕ) → b ≡ start → frame_of (start ∷ f) ≡ x → frame_of (b ∷ f) ≡ x
+start_changed : (b : ℕ) (f : List ℕ) (x : Result Frame ℕ) (start : ℕ) → b ≡ start → frame_of (start ∷ f) ≡ x → frame_of (b ∷ f) ≡ x
 start_changed b f x start e h = ap (λ (k : ℕ). frame_of (k ∷ f)) e ∙ h
 
 -- a byte that begins no frame
-none_begins : (b : ℕ) (f : List ℕ) → start_of b ≡ Unknown → frame_of (b ∷ f) ≡ Refused 20
+none_begins : (b : ℕ) (f : List ℕ) → start_of b ≡ Unknown → frame_of (b ∷ f) ≡ Err 20
 unfolding frame_of frame_on
 none_begins b f e = rw (e, ne_eqb (length (b ∷ f)) 0 (λ z. omega arith))
 
@@ -170,11 +169,11 @@ module _ (d s code check : ℕ) where
   behind = d ∷ s ∷ code ∷ check ∷ end_byte ∷ []
 
   -- read as SD2 and as SD3
-  as_sd2 : (code ≡ sd2 → ⊥) → frame_of (sd2 ∷ behind) ≡ Refused 21
+  as_sd2 : (code ≡ sd2 → ⊥) → frame_of (sd2 ∷ behind) ≡ Err 21
   unfolding frame_of start_of frame_on
   as_sd2 other = cases (eqb s d) (λ k. rw (k, ne_eqb code sd2 other)) (λ k. rw k)
 
-  as_sd3 : frame_of (sd3 ∷ behind) ≡ Refused 19
+  as_sd3 : frame_of (sd3 ∷ behind) ≡ Err 19
   unfolding frame_of start_of frame_on
   as_sd3 = refl
 
@@ -188,7 +187,7 @@ module _ (d s code check : ℕ) where
       rw (a, c, g, k) (none_begins b behind (no_start b (ne_eqb b sd1 hb) g k a c))))))
 
 -- three bytes, and one, that begin no frame of as many
-three_on : (start : Start) (a b c : ℕ) → (start ≡ Sd4 → ⊥) → (start ≡ Sc → ⊥) → frame_on start (a ∷ b ∷ c ∷ []) ≡ cond (is_unknown start) (Refused 20) (Refused 19)
+three_on : (start : Start) (a b c : ℕ) → (start ≡ Sd4 → ⊥) → (start ≡ Sc → ⊥) → frame_on start (a ∷ b ∷ c ∷ []) ≡ cond (is_unknown start) (Err 20) (Err 19)
 unfolding frame_on
 three_on Sd1 a b c h k = refl
 three_on Sd2 a b c h k = refl
@@ -197,7 +196,7 @@ three_on Sd4 a b c h k = absurd (h refl)
 three_on Sc a b c h k = absurd (k refl)
 three_on Unknown a b c h k = refl
 
-one_on : (start : Start) (a : ℕ) → (start ≡ Sc → ⊥) → frame_on start (a ∷ []) ≡ cond (is_unknown start) (Refused 20) (Refused 19)
+one_on : (start : Start) (a : ℕ) → (start ≡ Sc → ⊥) → frame_on start (a ∷ []) ≡ cond (is_unknown start) (Err 20) (Err 19)
 unfolding frame_on
 one_on Sd1 a k = refl
 one_on Sd2 a k = refl
@@ -221,15 +220,15 @@ token_begun d s b h =
     rw a (three_on (start_of b) b d s (not_sd4 b h) (not_sc b (eqb-false b sc a))))
 
 -- its addresses
-token_destination : (s b : ℕ) → s < 2 ^ 7 → frame_of (sd4 ∷ b ∷ s ∷ []) ≡ cond (bit_at b 7) (Refused 24) (Accepted (Token b s) 3)
+token_destination : (s b : ℕ) → s < 2 ^ 7 → frame_of (sd4 ∷ b ∷ s ∷ []) ≡ cond (bit_at b 7) (Err 24) (read_as (Token b s) 3)
 unfolding frame_of start_of frame_on
 token_destination s b h = cases (bit_at b 7) (λ a. rw a) (λ a. rw (a, no_bit s 7 h))
 
-token_source : (d b : ℕ) → d < 2 ^ 7 → frame_of (sd4 ∷ d ∷ b ∷ []) ≡ cond (bit_at b 7) (Refused 24) (Accepted (Token d b) 3)
+token_source : (d b : ℕ) → d < 2 ^ 7 → frame_of (sd4 ∷ d ∷ b ∷ []) ≡ cond (bit_at b 7) (Err 24) (read_as (Token d b) 3)
 unfolding frame_of start_of frame_on
 token_source d b h = rw (no_bit d 7 h)
 
-module _ (d s code : ℕ) (hd : d < 2 ^ 7) (hs : s < 2 ^ 7) (hc : code < 2 ^ 7) {t : Telegram} (read : frame_of (sd1_frame d s code) ≡ Accepted t 6) where
+module _ (d s code : ℕ) (hd : d < 2 ^ 7) (hs : s < 2 ^ 7) (hc : code < 2 ^ 7) {t : Telegram} (read : frame_of (sd1_frame d s code) ≡ read_as t 6) where
   -- its bytes are bytes
   sd1_bytes : Bytes (sd1_frame d s code)
   unfolding check_of

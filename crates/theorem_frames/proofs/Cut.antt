@@ -1,6 +1,6 @@
 -- What stands behind a frame, a frame cut short, and that no frame begins another: the theorems have their statements here.
 -- Assumes nothing.
-use Rattle.std.specs.Prelude.{ℕ, zero, suc, ◌+◌, ◌<◌, ◌≤◌, refl, List, [], ◌∷◌, ◌++◌, false, length, take, drop, eqb, ltb}
+use Rattle.std.specs.Prelude.{ℕ, zero, suc, ◌+◌, ◌<◌, ◌≤◌, refl, List, [], ◌∷◌, ◌++◌, false, length, take, drop, eqb, ltb, Err}
 use Rattle.std.proofs.Math.Path.{◌≡◌}
 use Rattle.std.proofs.Common.{sym, ap, ◌∙◌, append-nil, arith, length-append, take-append-drop, length-take-le, lit≤}
 use borrow.Author.Tests.{lt-ltb, ltb-false}
@@ -11,9 +11,8 @@ use Rattle.codec_telegrams.specs.declared.Telegram.{Telegram}
 use Rattle.codec_telegrams.specs.Words.{TelegramFits}
 use Rattle.codec_frames.specs.declared.Start.{Start}
 use Rattle.codec_frames.specs.declared.Start.TheVariants.{Sd1, Sd2, Sd3, Sd4, Sc, Unknown}
-use Rattle.codec_frames.specs.declared.FrameRead.TheVariants.{Accepted, Refused}
-use Rattle.codec_frames.specs.Frames.{frame_bytes, is_other_request, start_of, is_unknown, frame_length, frame_on, frame_of}
-use Rattle.codec_frames.specs.Laws.{empty_way}
+use Rattle.codec_frames.specs.Frames.{read_as, frame_bytes, is_other_request, start_of, is_unknown, frame_length, frame_on, frame_of}
+use Rattle.codec_frames.specs.Laws.{empty_way, same_read}
 use Rattle.codec_frames.specs.Behind.{Enough, byte_behind, behind_on}
 use Rattle.theorem_frames.specs.Whole.{Whole}
 use Rattle.theorem_frames.proofs.Whole.{accepted}
@@ -43,7 +42,7 @@ used_some Sc f known = lit≤ tt
 used_some Unknown f known = lit≤ tt
 
 -- Whatever follows a frame, of any of the five, it is read as it is alone: bytes behind it are not looked at
-pub read_alone : (f rest : List ℕ) {t : Telegram} {used : ℕ} → frame_of f ≡ Accepted t used → frame_of (take used f ++ rest) ≡ Accepted t used
+pub read_alone : (f rest : List ℕ) {t : Telegram} {used : ℕ} → frame_of f ≡ read_as t used → frame_of (take used f ++ rest) ≡ read_as t used
 unfolding frame_of
 read_alone f rest {t} {used} e =
     let start = start_of (get_or f 0 0) in
@@ -67,7 +66,7 @@ short f {n} h = rw length-take (omega arith)
 
 module _ (f : List ℕ) (n : ℕ) where
   -- the first bytes of a whole frame, fewer than it has
-  cut_on : (start : Start) → Whole start f → n < frame_length start f → frame_on start (take n f) ≡ Refused 19
+  cut_on : (start : Start) → Whole start f → n < frame_length start f → frame_on start (take n f) ≡ Err 19
   unfolding frame_on
   cut_on Sd1 w h = cases (eqb (length (take n f)) 0) (λ a. rw a) (λ a. rw (a, lt-ltb (length (take n f)) 6 (short f h)))
   cut_on Sd2 w h =
@@ -86,7 +85,7 @@ module _ (f : List ℕ) (n : ℕ) where
 
 -- A frame cut short is 19, whichever of the five it is and wherever it is cut: it is never read as something else, so a reader
 -- that waits for more bytes misses nothing
-pub cut_short : (f : List ℕ) {t : Telegram} {used : ℕ} → frame_of f ≡ Accepted t used → (n : ℕ) → n < used → frame_of (take n f) ≡ Refused 19
+pub cut_short : (f : List ℕ) {t : Telegram} {used : ℕ} → frame_of f ≡ read_as t used → (n : ℕ) → n < used → frame_of (take n f) ≡ Err 19
 unfolding frame_of
 cut_short f e zero h = empty_way _ [] refl
 cut_short f e (suc n) h =
@@ -112,9 +111,9 @@ pub no_frame_begins_another :
     → (t ≡ u) × (rest ≡ [])
 no_frame_begins_another t u ft fu wt wu rest e =
     let first = frame_reads_back t ft wt rest in
-    let second : frame_of (frame_bytes u) ≡ Accepted u (length (frame_bytes u)) =
+    let second : frame_of (frame_bytes u) ≡ read_as u (length (frame_bytes u)) =
     ap frame_of (sym (append-nil (frame_bytes u))) ∙ frame_reads_back u fu wu [] in
-    let both : Accepted t (length (frame_bytes t)) ≡ Accepted u (length (frame_bytes u)) = sym first ∙ ap frame_of (sym e) ∙ second in
-    let same : length (frame_bytes t) ≡ length (frame_bytes u) = cc in
+    let both = same_read (sym first ∙ ap frame_of (sym e) ∙ second) in
+    let same : length (frame_bytes t) ≡ length (frame_bytes u) = both.1 in
     let sum : length (frame_bytes u) ≡ length (frame_bytes t) + length rest = ap length e ∙ length-append (frame_bytes t) rest in
-    (cc, none rest (omega arith))
+    (both.0, none rest (omega arith))

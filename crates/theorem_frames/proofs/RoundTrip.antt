@@ -12,8 +12,7 @@ use Rattle.codec_telegrams.specs.Words.{telegram_of, telegram_refusal, telegram_
 use Rattle.codec_telegrams.specs.Laws.{telegram_fits, telegram_read, telegram_written, state_below}
 use Rattle.codec_frames.specs.declared.Start.{Start}
 use Rattle.codec_frames.specs.declared.Start.TheVariants.{Sd1, Sd2, Sd3, Sd4, Sc, Unknown}
-use Rattle.codec_frames.specs.declared.FrameRead.TheVariants.{Accepted}
-use Rattle.codec_frames.specs.Frames.{sd4, sc, end_byte, status_code, check_of, sd1_frame, response_code, frame_bytes, is_other_request, start_of, frame_length, telegram_in, coded_telegram, frame_of, read_number, fitted, write_of, written_over}
+use Rattle.codec_frames.specs.Frames.{read_as, sd4, sc, end_byte, status_code, check_of, sd1_frame, response_code, frame_bytes, is_other_request, start_of, frame_length, telegram_in, coded_telegram, frame_of, read_number, fitted, write_of, written_over}
 use Rattle.codec_frames.specs.Laws.{status_read}
 use Rattle.theorem_frames.specs.Whole.{Whole}
 use Rattle.theorem_frames.proofs.Whole.{accepted, whole_read, no_bit, below_128}
@@ -27,7 +26,7 @@ sd1_reads :
     → d < 2 ^ 7
     → s < 2 ^ 7
     → code < 2 ^ 7
-    → frame_of (sd1_frame d s code ++ rest) ≡ Accepted (coded_telegram d s code true) 6
+    → frame_of (sd1_frame d s code ++ rest) ≡ read_as (coded_telegram d s code true) 6
 unfolding frame_of start_of
 sd1_reads d s code rest hd hs hc =
     let f = sd1_frame d s code ++ rest in
@@ -48,7 +47,7 @@ sd1_reads d s code rest hd hs hc =
 
 -- What is written reads back as the same telegram, with as many bytes used as were written, whatever follows it
 pub frame_reads_back :
-    (t : Telegram) → TelegramFits t → is_other_request t ≡ false → (rest : List ℕ) → frame_of (frame_bytes t ++ rest) ≡ Accepted t (length (frame_bytes t))
+    (t : Telegram) → TelegramFits t → is_other_request t ≡ false → (rest : List ℕ) → frame_of (frame_bytes t ++ rest) ≡ read_as t (length (frame_bytes t))
 unfolding frame_of start_of
 frame_reads_back (Token d s) fits w rest =
     let f = sd4 ∷ d ∷ s ∷ rest in
@@ -79,12 +78,12 @@ frame_reads_back ShortConfirmation fits w rest =
       code = refl;
     }
 frame_reads_back (Request d s true) fits w rest =
-    sd1_reads d s status_code rest fits.0 fits.1 (omega arith) ∙ ap (λ (t : Telegram). Accepted t 6) (status_read d s true)
+    sd1_reads d s status_code rest fits.0 fits.1 (omega arith) ∙ ap (λ (t : Telegram). read_as t 6) (status_read d s true)
 frame_reads_back (Request d s false) fits w rest = let z : ◌≡◌ {A = ℕ} 0 1 = cc in absurd (omega arith)
 frame_reads_back (Response d s state n) fits w rest =
     let k = state_below state in
     sd1_reads d s (response_code state n) rest fits.0 fits.1 (omega arith)
-    ∙ ap (λ (t : Telegram). Accepted t 6) (response_read d s n state fits.2)
+    ∙ ap (λ (t : Telegram). read_as t 6) (response_read d s n state fits.2)
 
 -- what a call that is not refused writes
 written_is :
@@ -136,7 +135,7 @@ module _ (f : List ℕ) (bytes : Bytes f) where
   fits_on Unknown w = tt
 
   -- What is read, in any of the five frames, is a telegram that document 01's word can say
-  pub read_fits : {t : Telegram} {used : ℕ} → frame_of f ≡ Accepted t used → TelegramFits t
+  pub read_fits : {t : Telegram} {used : ℕ} → frame_of f ≡ read_as t used → TelegramFits t
   unfolding frame_of
   read_fits e = let a = accepted (start_of (get_or f 0 0)) f e in rw a.1 at (fits_on (start_of (get_or f 0 0)) a.0)
 
@@ -180,7 +179,7 @@ module _ (f : List ℕ) (bytes : Bytes f) where
   same_bytes Sc first w s o = rw (front_1 f (ltb-false (length f) 1 w.long), first)
   same_bytes Unknown first w s o = let z : ◌≡◌ {A = ℕ} 0 1 = cc in absurd (omega arith)
 
-  module _ {t : Telegram} {used : ℕ} (read : frame_of f ≡ Accepted t used) (start : is_written (start_of (get_or f 0 0)) ≡ true) (other : is_other_request t ≡ false) where
+  module _ {t : Telegram} {used : ℕ} (read : frame_of f ≡ read_as t used) (start : is_written (start_of (get_or f 0 0)) ≡ true) (other : is_other_request t ≡ false) where
     -- Each frame that is read as a token, a short confirmation, a status request or a response, in SD4, SC or SD1, is the frame that
     -- its telegram is written as
     pub frame_writes_back : frame_bytes t ≡ take used f

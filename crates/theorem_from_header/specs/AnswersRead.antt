@@ -1,15 +1,14 @@
 -- Every answer that the replay call writes reads back: the eight bytes at each place of the buffer unpack to exactly the answer that
 -- the station's definition gives to the entry at that place.
-use Rattle.std.specs.Prelude.{ℕ, zero, suc, ◌+◌, ◌*◌, ◌%◌, ◌^◌, ◌<◌, ◌≤◌, ◌≡◌, refl, List, [], ◌∷◌, ◌++◌, length, drop}
+use Rattle.std.specs.Prelude.{ℕ, zero, suc, ◌+◌, ◌*◌, ◌%◌, ◌^◌, ◌<◌, ◌≤◌, ◌≡◌, refl, Some, List, [], ◌∷◌, ◌++◌, length, drop}
 use Rattle.std.proofs.Common.{sym, ap, ◌∙◌, append_assoc, arith, mod-lt, length-append, drop_at, lit<, lit≤}
 use Rattle.codec_fields.proofs.Stores.{room_is}
 use Rattle.codec_fields.specs.Fields.{put_of, load_of, bytes_of}
 use Rattle.codec_fields.proofs.Laws.{be_bytes}
 use Rattle.codec_answers.specs.declared.Answer.{Answer}
-use Rattle.codec_answers.specs.declared.Unpacked.TheVariants.{Is}
 use Rattle.codec_answers.specs.Answers.{answer_word, unpack_of, Fits}
 use Rattle.codec_answers.specs.Laws.{answer_unpacks}
-use Rattle.station.specs.Whole.{Station}
+use Rattle.station.specs.declared.station.Station.{Station}
 use Rattle.trace.specs.Entries.{entry_of}
 use Rattle.trace.specs.Trace.{Accepted, start_of, written}
 use Rattle.trace.proofs.Laws.{written_append}
@@ -42,7 +41,7 @@ EveryAnswerReads =
     → start_of trace ≡ Accepted fresh
     → (run : Answered fresh trace before returned left)
     → (i : ℕ) (at : Place run.entries i)
-    → unpack_of (word_at left i) ≡ Is (entry_of (along fresh at.earlier).station at.entry.kind at.entry.bytes).answer
+    → unpack_of (word_at left i) ≡ Some (entry_of (along fresh at.earlier).station at.entry.kind at.entry.bytes).answer
 
 -- Its proof.
 

@@ -1,20 +1,20 @@
 -- From a header to the theorems: the station that a trace's header starts is what `new` gives for settings that `build` made of the
 -- header's fields, and the station after any entries is one that calls make. So what the theorems say of such stations holds inside
 -- every trace.
-use Rattle.std.specs.Prelude.{ℕ, ◌≡◌, refl, Bool, true, false, cond, List, [], ◌∷◌, eqb}
+use Rattle.std.specs.Prelude.{ℕ, ◌≡◌, refl, Bool, true, false, cond, List, [], ◌∷◌, eqb, Result, Ok, Err}
 use Rattle.std.proofs.Common.{sym, ap, ◌∙◌, subst, arith, eqb-true}
 use borrow.Table.Steps.{cases}
-use Rattle.settings.specs.declared.Parameters.{Parameters}
-use Rattle.settings.specs.declared.Created.{Created}
-use Rattle.settings.specs.declared.Created.TheVariants as created
+use Rattle.settings.specs.declared.parameters.Parameters.{Parameters}
+use Rattle.refusals.specs.declared.refusal.Refusal.{Refusal}
+use Rattle.refusals.specs.declared.refusal.Refusal.TheVariants.{TraceLength}
 use Rattle.settings_rules.specs.Rules.{factors_refusal, applications_refusal}
 use Rattle.settings_rules.proofs.Laws.{none_refuses}
 use Rattle.settings_build.specs.Build.{early_refusal, first_refusal, build_of, plain_of}
 use Rattle.codec_fields.specs.Fields.{zero_or14}
 use Rattle.codec_records.specs.Records.{record_refusal}
-use Rattle.station.specs.declared.PassTokenAttempt.TheVariants.{First}
-use Rattle.station.specs.declared.State.TheVariants.{PassToken}
-use Rattle.station.specs.Whole.{Station}
+use Rattle.station.specs.declared.state.PassTokenAttempt.TheVariants.{First}
+use Rattle.station.specs.declared.state.State.TheVariants.{PassToken}
+use Rattle.station.specs.declared.station.Station.{Station}
 use Rattle.station.specs.Parts.{fresh_station}
 use Rattle.station_answer.specs.Answer.{polled_of, refused_poll}
 use Rattle.station_command.specs.Command.{connect_of, online_of, offline_of, passive_of}
@@ -40,7 +40,7 @@ use Rattle.settings_build.proofs.Built.{build_accepts, built_passes}
 -- number of applications, which is accepted
 pub record StartedByHeader (trace : List ℕ) (fresh : Station) : Type 0 where
   pub settings : Parameters
-  pub is_built : build_of (header_of trace).settings ≡ created.Accepted settings
+  pub is_built : build_of (header_of trace).settings ≡ Ok settings
   pub applied : applications_refusal (header_of trace).applications ≡ 0
   pub is_new : fresh_station settings (header_of trace).applications ≡ fresh
 
@@ -65,9 +65,9 @@ entry_calls (e ∷ es) = call_of e ∷ entry_calls es
 -- Its proof.
 
 -- settings that are not refused
-chosen : (test : Bool) (x : Created) (n : ℕ) (p : Parameters) → cond test x (created.Refused n) ≡ created.Accepted p → (test ≡ true) × (x ≡ created.Accepted p)
-chosen true x n p e = (refl, e)
-chosen false x n p e = let z : ◌≡◌ {A = ℕ} 0 1 = cc in absurd (omega arith)
+chosen : (test : Bool) (x : Result Parameters Refusal) (refusal : Refusal) (p : Parameters) → cond test x (Err refusal) ≡ Ok p → (test ≡ true) × (x ≡ Ok p)
+chosen true x refusal p e = (refl, e)
+chosen false x refusal p e = let z : ◌≡◌ {A = ℕ} 0 1 = cc in absurd (omega arith)
 
 -- a header that is not refused has an accepted number of applications
 header_applies : (h : Header) → header_refusal h ≡ 0 → applications_refusal h.applications ≡ 0
@@ -77,10 +77,10 @@ header_applies h e =
     let factors = factors_refusal h.settings.factor_1 h.settings.factor_2 ∷ zero_bits in
     (none_refuses (applications_refusal h.applications) factors (none_refuses (early_refusal h.settings) (applications_refusal h.applications ∷ factors) e).1).0
 
-started_by : (trace : List ℕ) (fresh : Station) (x : Created) → settings_at trace ≡ x → started_with x (header_of trace).applications ≡ Accepted fresh → StartedByHeader trace fresh
+started_by : (trace : List ℕ) (fresh : Station) (x : Result Parameters Refusal) → settings_at trace ≡ x → started_with x (header_of trace).applications ≡ Accepted fresh → StartedByHeader trace fresh
 unfolding settings_at settings_of started_with
-started_by trace fresh (created.Accepted p) b e =
-    let long = chosen (has_header trace) _ 17 p b in
+started_by trace fresh (Ok p) b e =
+    let long = chosen (has_header trace) _ TraceLength p b in
     let good = chosen (eqb (header_refusal (header_of trace)) 0) _ _ p long.1 in
     record {
       settings = p;
@@ -91,7 +91,7 @@ started_by trace fresh (created.Accepted p) b e =
   where
     same : Accepted (fresh_station p (header_of trace).applications) ≡ Accepted fresh → fresh_station p (header_of trace).applications ≡ fresh
     same h = cc
-started_by trace fresh (created.Refused n) b e = let z : ◌≡◌ {A = ℕ} 0 1 = cc in absurd (omega arith)
+started_by trace fresh (Err refusal) b e = let z : ◌≡◌ {A = ℕ} 0 1 = cc in absurd (omega arith)
 
 -- the station that a trace starts is what `new` gives for accepted settings
 pub header_starts : (trace : List ℕ) (fresh : Station) → start_of trace ≡ Accepted fresh → StartedByHeader trace fresh

@@ -1,12 +1,11 @@
 -- A trace that meets all premises of SilentTrace, byte by byte: document 01's example 10 from a header on. The station 5 hears a token
 -- from 9, claims the lost token and passes it to 9, which never answers: the answers in the buffer say tokens to 9, 9, 9 and 5.
-use Rattle.std.specs.Prelude.{ℕ, true, false, ◌≡◌, refl, List, [], ◌∷◌, ◌++◌, length, replicate}
+use Rattle.std.specs.Prelude.{ℕ, true, false, ◌≡◌, refl, List, [], ◌∷◌, ◌++◌, length, replicate, None}
 use Rattle.std.proofs.Common.{sym, ap, ◌∙◌, append-nil, lit<, arith}
 use Rattle.codec_fields.specs.Fields.{field_of, zeros_or14, be_from, load_of}
-use Rattle.bit_times.specs.declared.Baud.TheVariants.{B500000}
+use Rattle.bit_times.specs.declared.baud.Baud.TheVariants.{B500000}
 use Rattle.bit_times.specs.Times.{baud_of, rounded, time_of}
-use Rattle.settings_watchdog.specs.declared.WatchdogFactors.TheVariants as wf
-use Rattle.settings.specs.declared.Parameters.{Parameters}
+use Rattle.settings.specs.declared.parameters.Parameters.{Parameters}
 use Rattle.settings_rules.specs.Rules as rules
 use Rattle.settings.specs.Settings.{slot_time_of, token_lost_of, rotation_time_of}
 use Rattle.settings_build.specs.Build.{early_refusal, first_refusal, pair_of, built_at, build_of}
@@ -19,9 +18,9 @@ use Rattle.codec_decisions.specs.Decisions as decisions
 use Rattle.codec_records.specs.Records as records
 use Rattle.codec_answers.specs.declared.Sent.{Sent}
 use Rattle.codec_answers.specs.declared.Sent.TheVariants.{Token}
-use Rattle.station.specs.declared.PassTokenAttempt.TheVariants.{First}
-use Rattle.station.specs.declared.State.TheVariants.{PassToken}
-use Rattle.station.specs.Whole.{Station}
+use Rattle.station.specs.declared.state.PassTokenAttempt.TheVariants.{First}
+use Rattle.station.specs.declared.state.State.TheVariants.{PassToken}
+use Rattle.station.specs.declared.station.Station.{Station}
 use Rattle.station.specs.Parts.{fresh_station, fresh_core, with_activity, with_gap, with_pending, with_token_times, with_next_application, with_connectivity, is_offline}
 use Rattle.station.specs.Steps as steps
 use Rattle.station_hear_listen.specs.HearListen as hear
@@ -82,7 +81,7 @@ settings =
       highest_station_address = 126;
       max_retry_limit = 1;
       min_tsdr_bits = 11;
-      watchdog_factors = wf.None;
+      watchdog_factors = None;
     }
 
 starts : start_of trace ≡ Accepted (fresh_station settings 1)

@@ -10,15 +10,14 @@
 --
 -- What follows the silent polls in the trace changes nothing of this. The words `Quiet`, `counted_in`, `until`, `gap_due`, `tokens` are
 -- those of theorem_silence; `others` are the other stations in a ring, in ring order.
-use Rattle.std.specs.Prelude.{ℕ, zero, suc, ◌+◌, ◌-◌, ◌*◌, ◌/◌, ◌≤◌, Bool, true, false, cond, ◌≡◌, List, [], ◌∷◌, ◌++◌, length, drop, eqb}
+use Rattle.std.specs.Prelude.{ℕ, zero, suc, ◌+◌, ◌-◌, ◌*◌, ◌/◌, ◌≤◌, Bool, true, false, Option, Some, None, cond, ◌≡◌, List, [], ◌∷◌, ◌++◌, length, drop, eqb}
 use Rattle.ring.specs.Ring.{others, first_of, next_of, next_number}
+use Rattle.codec_answers.specs.declared.Answer.{Answer}
 use Rattle.codec_answers.specs.declared.Sent.{Sent}
-use Rattle.codec_answers.specs.declared.Unpacked.{Unpacked}
-use Rattle.codec_answers.specs.declared.Unpacked.TheVariants.{NoAnswer, Is}
 use Rattle.codec_answers.specs.Answers.{unpack_of}
-use Rattle.station.specs.declared.PassTokenAttempt.TheVariants.{First}
-use Rattle.station.specs.declared.State.TheVariants.{PassToken}
-use Rattle.station.specs.Whole.{Station}
+use Rattle.station.specs.declared.state.PassTokenAttempt.TheVariants.{First}
+use Rattle.station.specs.declared.state.State.TheVariants.{PassToken}
+use Rattle.station.specs.declared.station.Station.{Station}
 use Rattle.trace_headers.specs.Headers.{header_length, header_of}
 use Rattle.trace.specs.Trace.{Accepted, start_of, replay_of, buffer_of}
 use Rattle.theorem_silence.specs.Silence.{Online, gap_due, AllQuiet, until, told, counted_in, tokens}
@@ -28,37 +27,37 @@ use Rattle.theorem_from_header.specs.AnswersRead.{word_at}
 -- What is read off the buffer.
 
 -- n answers of a buffer, from place i on: each word unpacked
-abbrev pub answers_from : List ℕ → ℕ → ℕ → List Unpacked
+abbrev pub answers_from : List ℕ → ℕ → ℕ → List (Option Answer)
 answers_from buffer i zero = []
 answers_from buffer i (suc n) = unpack_of (word_at buffer i) ∷ answers_from buffer (suc i) n
 
 -- what an answer says was sent, as a list: nothing, or one telegram of any kind
-abbrev pub sent_by : Unpacked → List Sent
-sent_by (Is answer) = told answer.sent
-sent_by NoAnswer = []
+abbrev pub sent_by : Option Answer → List Sent
+sent_by (Some answer) = told answer.sent
+sent_by None = []
 
 -- whether an answer says that the station holds the token: state 3, UseToken
-abbrev pub says_held : Unpacked → Bool
-says_held (Is answer) = eqb answer.state 3
-says_held NoAnswer = false
+abbrev pub says_held : Option Answer → Bool
+says_held (Some answer) = eqb answer.state 3
+says_held None = false
 
 -- all that answers say was sent, in order, up to the first that says that the token is held
-abbrev pub sent_by_answers : List Unpacked → List Sent
+abbrev pub sent_by_answers : List (Option Answer) → List Sent
 sent_by_answers [] = []
 sent_by_answers (u ∷ later) = sent_by u ++ cond (says_held u) [] (sent_by_answers later)
 
 -- whether one of them says that the token is held
-abbrev pub held_by_answers : List Unpacked → Bool
+abbrev pub held_by_answers : List (Option Answer) → Bool
 held_by_answers [] = false
 held_by_answers (u ∷ later) = cond (says_held u) true (held_by_answers later)
 
 -- the next station that an answer names, by its number; `last` where there is no answer
-abbrev pub next_by : ℕ → Unpacked → ℕ
-next_by last (Is answer) = answer.next_station
-next_by last NoAnswer = last
+abbrev pub next_by : ℕ → Option Answer → ℕ
+next_by last (Some answer) = answer.next_station
+next_by last None = last
 
 -- the next station that the last of them names, up to the first that says that the token is held
-abbrev pub next_by_answers : ℕ → List Unpacked → ℕ
+abbrev pub next_by_answers : ℕ → List (Option Answer) → ℕ
 next_by_answers last [] = last
 next_by_answers last (u ∷ later) = cond (says_held u) (next_by last u) (next_by_answers (next_by last u) later)
 
@@ -97,7 +96,7 @@ abbrev pub passing_station : {trace before : List ℕ} → SilentTrace trace bef
 passing_station t = (along t.fresh t.earlier).station
 
 -- the answers to the silent polls, read from a buffer
-abbrev pub silent_answers : {trace before : List ℕ} → SilentTrace trace before → List ℕ → List Unpacked
+abbrev pub silent_answers : {trace before : List ℕ} → SilentTrace trace before → List ℕ → List (Option Answer)
 silent_answers t left = answers_from left (length t.earlier) (length t.records)
 
 -- What is claimed of the buffer that the call leaves: the four parts of theorem_silence's `Silence`, of the answers in it.

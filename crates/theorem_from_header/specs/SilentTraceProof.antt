@@ -1,24 +1,22 @@
 -- The proof of SilentTrace: the answers to the silent polls stand in the buffer, read back, and say what theorem_silence says of the polls.
-use Rattle.std.specs.Prelude.{ℕ, suc, ◌-◌, ◌*◌, ◌≤◌, Bool, true, false, cond, ◌≡◌, refl, length, drop}
+use Rattle.std.specs.Prelude.{ℕ, suc, ◌-◌, ◌*◌, ◌≤◌, Bool, true, false, Option, Some, cond, ◌≡◌, refl, length, drop}
 use Rattle.std.proofs.Common.{sym, ◌∙◌, arith, add-one, ne_eqb, le-ltb, length-append, drop_at}
 use Rattle.std.proofs.Math.Path.{ap}
 use mathlib.Core.List.{List, [], ◌∷◌, ◌++◌, map, append_assoc}
 use borrow.Table.Steps.{cases}
 use Rattle.std.proofs.Math.Dec.{eqb}
-use Rattle.settings_build.specs.declared.PlainSettings.{PlainSettings}
+use Rattle.settings_build.specs.declared.plain.PlainSettings.{PlainSettings}
 use Rattle.settings_build.specs.Build.{plain_of}
 use Rattle.codec_records.specs.Records.{record_refusal}
 use Rattle.codec_records.specs.Laws.{good}
 use Rattle.codec_answers.specs.declared.Answer.{Answer}
 use Rattle.codec_answers.specs.declared.Sent.{Sent}
-use Rattle.codec_answers.specs.declared.Unpacked.{Unpacked}
-use Rattle.codec_answers.specs.declared.Unpacked.TheVariants.{Is}
 use Rattle.codec_answers.specs.Answers.{refused_answer, unpack_of, Fits}
 use Rattle.codec_answers.specs.Laws.{answer_unpacks}
 use Rattle.ring.specs.Ring.{others, first_of, next_number}
 use Rattle.ring.proofs.Laws.{next_first}
-use Rattle.station.specs.Whole.{Station}
-use Rattle.station.specs.declared.State.{State}
+use Rattle.station.specs.declared.station.Station.{Station}
+use Rattle.station.specs.declared.state.State.{State}
 use Rattle.station.specs.Parts.{state_number}
 use Rattle.station_answer.specs.Answer.{Polled, step_answer, polled_of, refused_poll}
 use Rattle.station_poll.specs.Poll.{accepted_after, accepted_poll, poll_of}
@@ -107,12 +105,12 @@ many_more given a = sym (length-append given (a ∷ []) ∙ add-one (length give
 read_back :
     (here given more : List Answer) (old : List ℕ)
     → AllFit here
-    → answers_from (written (given ++ (here ++ more)) ++ old) (length given) (length here) ≡ map Is here
+    → answers_from (written (given ++ (here ++ more)) ++ old) (length given) (length here) ≡ map Some here
 read_back [] given more old f = refl
 read_back (a ∷ here) given more old f =
-    ap (λ (u : Unpacked). u ∷ answers_from (written (given ++ (a ∷ (here ++ more))) ++ old) (suc (length given)) (length here))
+    ap (λ (u : Option Answer). u ∷ answers_from (written (given ++ (a ∷ (here ++ more))) ++ old) (suc (length given)) (length here))
     (ap (λ (w : ℕ). unpack_of w) (word_here given a (here ++ more) old) ∙ answer_unpacks a f.0)
-    ∙ ap (λ (us : List Unpacked). Is a ∷ us)
+    ∙ ap (λ (us : List (Option Answer)). Some a ∷ us)
     (ap (λ (l : List Answer). answers_from (written l ++ old) (suc (length given)) (length here)) (one_more_lem given a (here ++ more))
     ∙ ap (λ (k : ℕ). answers_from (written ((given ++ (a ∷ [])) ++ (here ++ more)) ++ old) k (length here)) (many_more given a)
     ∙ read_back here (given ++ (a ∷ [])) more old f.1)
@@ -179,24 +177,24 @@ unfolding until
 on_until s bytes later e = rw e
 
 -- what the answers say was sent is what was sent until the token was held
-said_sent : (records : List (List ℕ)) (s : Station) → holds_token s ≡ false → sent_by_answers (map Is (answers_to s records)) ≡ sent_until s records
+said_sent : (records : List (List ℕ)) (s : Station) → holds_token s ≡ false → sent_by_answers (map Some (answers_to s records)) ≡ sent_until s records
 unfolding sent_until
 said_sent [] s e = refl
 said_sent (bytes ∷ later) s e =
     rw (on_sends s bytes later e)
     (ap (λ (l : List Sent). told (poll_of s bytes).answer.sent ++ l)
-    (ap (λ (b : Bool). cond b [] (sent_by_answers (map Is (answers_to (poll_of s bytes).station later)))) (says_held_lem s bytes)
+    (ap (λ (b : Bool). cond b [] (sent_by_answers (map Some (answers_to (poll_of s bytes).station later)))) (says_held_lem s bytes)
     ∙ cases (holds_token (poll_of s bytes).station)
     (λ h. rw h (sym (held_sends (poll_of s bytes).station later h)))
     (λ h. rw h (said_sent later (poll_of s bytes).station h))))
 
 -- an answer says that the token is held exactly where the station then holds it
-said_held : (records : List (List ℕ)) (s : Station) → holds_token s ≡ false → held_by_answers (map Is (answers_to s records)) ≡ holds_token (until s records)
+said_held : (records : List (List ℕ)) (s : Station) → holds_token s ≡ false → held_by_answers (map Some (answers_to s records)) ≡ holds_token (until s records)
 unfolding until
 said_held [] s e = sym e
 said_held (bytes ∷ later) s e =
     rw (on_until s bytes later e)
-    (ap (λ (b : Bool). cond b true (held_by_answers (map Is (answers_to (poll_of s bytes).station later)))) (says_held_lem s bytes)
+    (ap (λ (b : Bool). cond b true (held_by_answers (map Some (answers_to (poll_of s bytes).station later)))) (says_held_lem s bytes)
     ∙ cases (holds_token (poll_of s bytes).station)
     (λ h. rw h (sym (ap holds_token (held_until (poll_of s bytes).station later h) ∙ h)))
     (λ h. rw h (said_held later (poll_of s bytes).station h)))
@@ -205,14 +203,14 @@ said_held (bytes ∷ later) s e =
 said_next :
     (records : List (List ℕ)) (s : Station)
     → holds_token s ≡ false
-    → next_by_answers (next_in s) (map Is (answers_to s records)) ≡ next_in (until s records)
+    → next_by_answers (next_in s) (map Some (answers_to s records)) ≡ next_in (until s records)
 unfolding until
 said_next [] s e = refl
 said_next (bytes ∷ later) s e =
     let after = (poll_of s bytes).station in
     rw (on_until s bytes later e)
-    (ap (λ (n : ℕ). cond (eqb (poll_of s bytes).answer.state 3) n (next_by_answers n (map Is (answers_to after later)))) (poll_names s bytes)
-    ∙ ap (λ (b : Bool). cond b (next_in after) (next_by_answers (next_in after) (map Is (answers_to after later)))) (says_held_lem s bytes)
+    (ap (λ (n : ℕ). cond (eqb (poll_of s bytes).answer.state 3) n (next_by_answers n (map Some (answers_to after later)))) (poll_names s bytes)
+    ∙ ap (λ (b : Bool). cond b (next_in after) (next_by_answers (next_in after) (map Some (answers_to after later)))) (says_held_lem s bytes)
     ∙ cases (holds_token after)
     (λ h. rw h (ap next_in (sym (held_until after later h))))
     (λ h. rw h (said_next later after h)))
@@ -280,7 +278,7 @@ module _ (trace before : List ℕ) (t : SilentTrace trace before) where
       ∙ ap (λ (l : List Answer). (along t.fresh t.earlier).answers ++ (l ++ begins.later)) (polls_answered (header_of trace).applications t.records station t.quiet)))
 
   -- so the answers read are those of the station to the polls
-  answers_are : silent_answers t left ≡ map Is (answers_to station t.records)
+  answers_are : silent_answers t left ≡ map Some (answers_to station t.records)
   answers_are =
       ap (λ (l : List ℕ). answers_from l (length t.earlier) (length t.records)) buffer_is
       ∙ ap (λ (k : ℕ). answers_from (written ((along t.fresh t.earlier).answers ++ (answers_to station t.records ++ begins.later)) ++ old) k (length t.records)) (sym (along_length t.fresh t.earlier))

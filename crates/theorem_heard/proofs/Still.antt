@@ -1,16 +1,15 @@
 -- Nothing clears what was heard, going offline neither: what follows only adds. Assumes nothing.
-use Rattle.std.specs.Prelude.{ℕ, suc, ◌+◌, ◌≤◌, ◌≡◌, refl, List, [], ◌∷◌, ◌++◌, length, ltb}
+use Rattle.std.specs.Prelude.{ℕ, suc, ◌+◌, ◌≤◌, ◌≡◌, refl, List, [], ◌∷◌, ◌++◌, Option, None, Some, Ok, Err, length, ltb}
 use Rattle.std.proofs.Common.{sym, ap, ◌∙◌, subst, append-nil, append_assoc, arith, suc-add, ltb-true, ltb-false, le-ltb, length-append}
 use borrow.Table.Steps.{cases}
 use Rattle.codec_fields.specs.Fields.{up_to}
-use Rattle.station.specs.Whole.{Station}
+use Rattle.station.specs.declared.station.Station.{Station}
 use Rattle.station.specs.Steps.{done_of}
 use Rattle.station_answer.specs.Answer.{step_answer, polled_of}
 use Rattle.station_command.specs.Command.{connect_of, online_of, offline_of, passive_of}
 use Rattle.heard.specs.declared.AddressEntry.{AddressEntry}
-use Rattle.heard.specs.declared.Found.{Found}
-use Rattle.heard.specs.declared.Found.TheVariants.{Heard, Never, Refused}
-use Rattle.heard.specs.Heard.{last_address, most_times, heard_refusal, Hearing, consumed_in}
+use Rattle.refusals.specs.Refusals.{answered}
+use Rattle.heard.specs.Heard.{Found, last_address, most_times, heard_refusal, Hearing, consumed_in}
 use Rattle.heard.specs.Afresh.{sent_by, of_address, found_in, afresh_of}
 use Rattle.trace.specs.Entries.{entry_of}
 use Rattle.theorem_every_trace.specs.Statement.{Entry, along}
@@ -32,27 +31,31 @@ up_more m k =
     (λ s. cases (ltb most_times (m + k)) (λ t. rw (s, t) (ltb-false most_times m s)) (λ t. rw (s, t) (omega arith)))
 
 -- telegrams of an address, and more of it
-found_more : (l more : List Hearing) (e : AddressEntry) → found_in l ≡ Heard e → StillHeard e (found_in (l ++ more))
+found_more : (l more : List Hearing) (e : AddressEntry) → found_in l ≡ Some e → StillHeard e (Ok (found_in (l ++ more)))
 unfolding found_in
-found_more [] more e is = absurd (subst heard_at_all (sym is) tt)
+found_more [] more e is = absurd (subst heard_at_all is tt)
   where
-    heard_at_all : Found → Type 0
-    heard_at_all (Heard f) = Unit {0}
-    heard_at_all Never = ⊥
-    heard_at_all (Refused n) = ⊥
+    heard_at_all : Option AddressEntry → Type 0
+    heard_at_all None = Unit {0}
+    heard_at_all (Some f) = ⊥
 found_more (h ∷ hs) more e is =
-    subst (λ (f : Found). Still f) is (refl, rw (length-append hs more, ← suc-add (length hs) (length more)) (up_more (suc (length hs)) (length more)))
+    subst Still is (refl, rw (length-append hs more, ← suc-add (length hs) (length more)) (up_more (suc (length hs)) (length more)))
   where
-    Still : Found → Type 0
-    Still (Heard f) = StillHeard f (found_in ((h ∷ hs) ++ more))
-    Still Never = ⊥
-    Still (Refused n) = ⊥
+    Still : Option AddressEntry → Type 0
+    Still (Some f) = StillHeard f (Ok (found_in ((h ∷ hs) ++ more)))
+    Still None = ⊥
+
+-- what an answer says, where it is no refusal
+abbrev said : Found → Option AddressEntry
+said (Ok found) = found
+said (Err refusal) = None
 
 -- what was heard of an address stays, whatever is heard after it
-pub heard_stays : (hs more : List Hearing) (address : ℕ) (e : AddressEntry) → address ≤ last_address → afresh_of hs address ≡ Heard e → StillHeard e (afresh_of (hs ++ more) address)
-unfolding afresh_of heard_refusal
+pub heard_stays : (hs more : List Hearing) (address : ℕ) (e : AddressEntry) → address ≤ last_address → afresh_of hs address ≡ Ok (Some e) → StillHeard e (afresh_of (hs ++ more) address)
+unfolding afresh_of heard_refusal answered
 heard_stays hs more address e known is =
-    rw (le-ltb last_address address known, of_append address hs more) (found_more (of_address address hs) (of_address address more) e (rw (le-ltb last_address address known) at is))
+    rw (le-ltb last_address address known, of_append address hs more)
+    (found_more (of_address address hs) (of_address address more) e (ap said (rw (le-ltb last_address address known) at is)))
 
 -- a command consumes nothing, so it changes nothing of what was heard: online, offline, passive
 pub command_unheard : (s : Station) (bytes : List ℕ) (n : ℕ) → (consumed_in bytes n (entry_of s 0 bytes).answer.consumed ≡ []) × (consumed_in bytes n (entry_of s 1 bytes).answer.consumed ≡ []) × (consumed_in bytes n (entry_of s 2 bytes).answer.consumed ≡ [])
@@ -88,7 +91,7 @@ module _ (n : ℕ) (s : Station) (es : List Entry) where
   pub still_heard :
       (more : List Entry) (address : ℕ) (e : AddressEntry)
       → address ≤ last_address
-      → afresh_of (consumed_by n es (along s es).answers) address ≡ Heard e
+      → afresh_of (consumed_by n es (along s es).answers) address ≡ Ok (Some e)
       → StillHeard e (afresh_of (consumed_by n (es ++ more) (along s (es ++ more)).answers) address)
   still_heard more address e known is =
       rw (consumed_append n s es more) (heard_stays (consumed_by n es (along s es).answers) (consumed_by n more (along (along s es).station more).answers) address e known is)

@@ -6,10 +6,10 @@ use mathlib.Core.List.{List, [], ◌∷◌, ◌++◌, append_assoc}
 use borrow.Author.Tests.{le-ltb}
 use Rattle.std.proofs.Math.ListN.{drop}
 use Rattle.codec_answers.specs.declared.Answer.{Answer}
-use Rattle.station.specs.Whole.{Station}
-use Rattle.heard.specs.declared.Found.{Found}
-use Rattle.heard.specs.Heard.{last_address, entry_length, heard_refusal, entry_bytes, entry_into, Hearing, consumed_in, lookup_number, shown_of, summary_number, summary_into}
-use Rattle.heard.specs.Afresh.{of_address, found_in, afresh_of}
+use Rattle.station.specs.declared.station.Station.{Station}
+use Rattle.refusals.specs.Refusals.{answered}
+use Rattle.heard.specs.Heard.{Found, last_address, entry_length, heard_refusal, entry_bytes, entry_into, Hearing, consumed_in, lookup_number, shown_of, summary_number, summary_into}
+use Rattle.heard.specs.Afresh.{afresh_of}
 use Rattle.trace_headers.specs.Headers.{header_length, header_of}
 use Rattle.trace.specs.Entries.{record_length}
 use Rattle.trace.specs.Trace.{Accepted, start_of, run_of, ran_of, number_of, room_for, whole_replay, whole_number, whole_number_on}
@@ -54,12 +54,8 @@ summary_shown found before known room = rw (known, le-ltb (length before) entry_
 
 -- an address to 125 is not refused
 pub known_number : (hs : List Hearing) (address : ℕ) → address ≤ last_address → lookup_number (afresh_of hs address) ≡ 0
-unfolding afresh_of heard_refusal lookup_number found_in
-known_number hs address known = rw (le-ltb last_address address known) (go (of_address address hs))
-  where
-    go : (l : List Hearing) → lookup_number (found_in l) ≡ 0
-    go [] = refl
-    go (h ∷ hs) = refl
+unfolding afresh_of heard_refusal lookup_number answered
+known_number hs address known = rw (le-ltb last_address address known) refl
 
 -- The run over a whole trace that starts a station, taken apart into entries.
 module _ (trace : List ℕ) (fresh : Station) where

@@ -2,7 +2,7 @@
 -- `every_summary` in proofs/Theorem.antt. Bytes are numbers here, and any list of them is meant.
 use Rattle.std.specs.Prelude.{ℕ, ◌+◌, ◌*◌, ◌≤◌, ◌≡◌, List, [], ◌∷◌, ◌++◌, ◌⊎◌, length, take, drop}
 use Rattle.codec_answers.specs.declared.Answer.{Answer}
-use Rattle.station.specs.Whole.{Station}
+use Rattle.station.specs.declared.station.Station.{Station}
 use Rattle.heard.specs.Heard.{last_address, entry_length, entry_bytes, Hearing, consumed_in, shown_of}
 use Rattle.heard.specs.Afresh.{afresh_of}
 use Rattle.trace_headers.specs.Headers.{header_length, header_of}

@@ -1,15 +1,15 @@
 -- Bytes that are accepted are a station that is kept, so it goes on as if it had never been bytes; and what a refusal leaves.
-use Rattle.std.specs.Prelude.{ℕ, Bool, cond, ◌≡◌, refl, List, ◌++◌, length, take, drop}
+use Rattle.std.specs.Prelude.{ℕ, Bool, cond, ◌≡◌, refl, List, ◌++◌, length, drop, Some}
 use Rattle.std.proofs.Common.{sym, ap, subst, ◌∙◌, le-ltb, take-append-drop}
-use Rattle.codec_fields.specs.Fields.{field_of, Bytes}
+use Rattle.codec_fields.specs.Fields.{Bytes}
 use Rattle.codec_fields.proofs.Widths.{field_below}
-use Rattle.station.specs.Whole.{Station}
+use Rattle.station.specs.declared.station.Station.{Station}
 use Rattle.trace.specs.Trace.{settings_of}
 use Rattle.trace.specs.Entries.{entry_of}
 use Rattle.station_words.specs.declared.Words.{Words}
 use Rattle.station_words.specs.Words.{counts_in, header_in}
 use Rattle.station_words.specs.Laws.{CountsFit, PlainFits}
-use Rattle.station_bytes.specs.Bytes.{words_in, set_in, head_station, Taken, read_of, station_bytes, station_into}
+use Rattle.station_bytes.specs.Bytes.{words_in, set_in, station_from, read_of, station_bytes, station_into}
 use Rattle.live.specs.Live.{Stepped, Refusal, Answers, step_of, step_into, step_answer}
 use Rattle.theorem_sound.specs.Sound.{SoundStation}
 use Rattle.theorem_every_trace.specs.EveryTrace.{refused_entry_changes_nothing}
@@ -41,7 +41,7 @@ counts_in_lem w = record { claims_fit = field_below w.counts 32 32; removals_fit
 
 -- What was found is kept.
 found_kept : (w : Words) (set : List ℕ) (s : Station) → Found w set s → Kept s
-unfolding head_station
+unfolding station_from
 found_kept w set s k =
     let a = header_accepts (header_in w) k.p k.settings in
     subst Kept k.is
@@ -53,14 +53,14 @@ found_kept w set s k =
     })
 
 -- The theorem: bytes that are accepted are a station that is kept: it is sound, and every theorem on such a station speaks of it.
-pub accepted_kept : (bytes : List ℕ) (s : Station) → read_of bytes ≡ Taken s → Kept s
+pub accepted_kept : (bytes : List ℕ) (s : Station) → read_of bytes ≡ Some s → Kept s
 accepted_kept bytes s e = found_kept (words_in bytes) (set_in bytes) s (found bytes s e).1
 
 -- A refused entry leaves the bytes of the station as they were, and the call's own refusals leave all bytes.
 pub refused_leaves :
     (station entry : List ℕ) (room : ℕ) (s : Station) (kind : ℕ) (bytes : List ℕ) (size : ℕ)
     → Bytes station
-    → read_of station ≡ Taken s
+    → read_of station ≡ Some s
     → step_of station entry room ≡ Answers (entry_of s kind bytes) size
     → ((entry_of s kind bytes).answer.refusal ≡ 0 → ⊥)
     → step_into (step_of station entry room) station ≡ station

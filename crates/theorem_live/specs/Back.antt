@@ -1,22 +1,20 @@
 -- The round trip: every sound station is read back from its bytes.
-use Rattle.std.specs.Prelude.{ℕ, ◌+◌, ◌≤◌, ◌<◌, ◌^◌, Bool, true, false, ◌≡◌, drop}
+use Rattle.std.specs.Prelude.{ℕ, ◌+◌, ◌≤◌, ◌<◌, ◌^◌, Bool, true, false, ◌≡◌, drop, Option, Some, None, Result, Ok}
 use Rattle.std.proofs.Math.Bool.{cond}
 use Rattle.std.proofs.Math.Path.{refl, ap}
 use Rattle.std.proofs.Common.{sym, subst, ◌∙◌, arith, le-ltb, drop_at, lit<}
 use mathlib.Core.List.{List, ◌++◌, append_assoc}
 use Rattle.std.proofs.Math.ListN.{length, take, length-append}
 use Rattle.std.proofs.Math.Seq.{take_at}
-use Rattle.settings.specs.declared.Parameters.{Parameters}
-use Rattle.settings.specs.declared.Created.{Created}
-use Rattle.settings.specs.declared.Created.TheVariants as created
+use Rattle.bit_times.specs.declared.micros.Micros.{Micros}
+use Rattle.settings.specs.declared.parameters.Parameters.{Parameters}
+use Rattle.refusals.specs.declared.refusal.Refusal.{Refusal}
 use Rattle.bit_times.specs.Times.{least_slot_bits}
 use Rattle.bit_times.proofs.Laws.{listed}
 use Rattle.settings_rules.specs.Rules.{slot_bits_refusal, gap_wait_refusal}
 use Rattle.settings_rules.proofs.Laws.{below_in, outside_in}
 use Rattle.settings_build.specs.Build.{first_refusal, plain_of}
-use Rattle.settings_build.proofs.Built.{built_passes}
-use Rattle.settings_build.proofs.Passes.{passes, rotation_top, rotation_room}
-use Rattle.ring.specs.declared.Head.{Head}
+use Rattle.settings_build.proofs.Passes.{passes, rotation_top}
 use Rattle.ring.specs.declared.GapState.{GapState}
 use Rattle.ring.specs.declared.GapState.TheVariants.{Waiting, DoPoll}
 use Rattle.ring_addresses.specs.Set.{only}
@@ -25,33 +23,24 @@ use Rattle.ring.specs.Laws.{SoundRing}
 use Rattle.ring.proofs.Laws.{has_out}
 use Rattle.ring_members.specs.Members.{in_set, set_added, set_bytes}
 use Rattle.ring_members.proofs.Back.{set_is, in_bytes, members_back}
-use Rattle.station.specs.declared.Activity.{Activity}
-use Rattle.station.specs.declared.Activity.TheVariants as activity
-use Rattle.station.specs.declared.OptionAddress.{OptionAddress}
-use Rattle.station.specs.declared.OptionAddress.TheVariants as optionAddress
-use Rattle.station.specs.declared.OptionApplication.{OptionApplication}
-use Rattle.station.specs.declared.OptionApplication.TheVariants as optionApplication
-use Rattle.station.specs.declared.State.{State}
-use Rattle.station.specs.declared.State.TheVariants.{Offline, ListenToken, ActiveIdle, UseToken, ClaimToken, AwaitDataResponse, PassToken, CheckTokenPass, AwaitStatusResponse, PassiveIdle}
-use Rattle.station.specs.declared.Core.{Core}
-use Rattle.station.specs.declared.Counts.{Counts}
-use Rattle.station.specs.declared.Station.{Station as StationHead}
-use Rattle.station.specs.Whole.{Station}
+use Rattle.station.specs.declared.state.State.{State}
+use Rattle.station.specs.declared.state.State.TheVariants.{Offline, ListenToken, ActiveIdle, UseToken, ClaimToken, AwaitDataResponse, PassToken, CheckTokenPass, AwaitStatusResponse, PassiveIdle}
+use Rattle.station.specs.declared.parts.Core.{Core}
+use Rattle.station.specs.declared.parts.Counts.{Counts}
+use Rattle.station.specs.declared.station.Station.{Station}
 use Rattle.trace_headers.specs.declared.Header.{Header}
 use Rattle.trace_headers.specs.Finished.{header_with}
 use Rattle.trace.specs.Trace.{settings_of}
 use Rattle.station_numbers.specs.Numbers.{plain_numbers, held_numbers, state_numbers}
-use Rattle.station_numbers.specs.Laws.{AddressFits, ApplicationFits, StateFits}
+use Rattle.station_numbers.specs.Laws.{NumberFits, StateFits}
 use Rattle.station_words.specs.declared.Words.{Words}
-use Rattle.station_words.specs.Words.{activity_time, gap_number, words_of, state_in, core_in, counts_in, head_in, header_in}
-use Rattle.station_words.specs.Laws.{CoreFits, CountsFit, PlainFits, StationFits, state_is, core_is, counts_are, head_is, header_is, words_below, words_self}
-use Rattle.station_bytes.specs.declared.Reading.{Reading}
-use Rattle.station_bytes.specs.declared.Reading.TheVariants.{Is, Nothing}
-use Rattle.station_bytes.specs.Bytes.{words_in, set_in, head_station, words_fit, set_fits, checked_in, found_with, found_on, found_in, found_at, ring_in, Taken, ringed, read_on, read_of, word_list, all_bytes, station_words, station_bytes}
+use Rattle.station_words.specs.Words.{activity_time, gap_number, core_in, counts_in, laps_in, ready_in}
+use Rattle.station_words.specs.Laws.{CountsFit, PlainFits, StationFits, state_is, core_is, counts_are, laps_is, ready_is, header_is, words_below, words_self}
+use Rattle.station_bytes.specs.Bytes.{words_in, set_in, station_from, words_fit, set_fits, checked_in, found_with, found_on, found_in, ring_in, read_of, word_list, all_bytes, station_words, station_bytes}
 use Rattle.station_bytes.specs.Laws.{all_length, set_length}
 use Rattle.theorem_sound.specs.Moves.{Low, Other, OneOf, GapAddressed, GapCounted}
 use Rattle.theorem_sound.proofs.Kept.{other_low}
-use Rattle.theorem_sound.specs.Lines.{Addressed, AskedInGap, CollidedOnce, HeldIn, SoundCore}
+use Rattle.theorem_sound.specs.Lines.{Addressed, AskedInGap, CollidedOnce, HeldIn}
 use Rattle.theorem_sound.specs.Sizes.{Below, activity_below, hold_below}
 use Rattle.theorem_sound.specs.Follows.{SlotCoversPause, slot_covers_pause}
 use Rattle.theorem_sound.specs.Sound.{SoundStation}
@@ -63,22 +52,22 @@ use Rattle.theorem_live.specs.Accepted.{HeaderAccepts, header_accepts}
 -- them.
 pub record Kept (s : Station) : Type 0 where
   pub sound : SoundStation s
-  pub given : settings_of (header_with s.p s.applications) ≡ created.Accepted s.p
+  pub given : settings_of (header_with s.p s.applications) ≡ Ok s.p
   pub settings_fit : PlainFits (plain_of s.p)
   pub counts_fit : CountsFit s.counts
 
 -- What it keeps fits its fields.
 
-low_fits : (q : OptionAddress) → Low q → AddressFits q
-low_fits optionAddress.None l = tt
-low_fits (optionAddress.Some a) l = omega (arith, l)
+low_fits : (q : Option ℕ) → Low q → NumberFits q
+low_fits None l = tt
+low_fits (Some a) l = omega (arith, l)
 
-other_fits : (q : OptionAddress) (own : ℕ) → Other own q → AddressFits q
+other_fits : (q : Option ℕ) (own : ℕ) → Other own q → NumberFits q
 other_fits q own o = low_fits q (other_low own q o)
 
-one_fits : (q : OptionApplication) (n : ℕ) → n ≤ 8 → OneOf n q → ApplicationFits q
-one_fits optionApplication.None n e l = tt
-one_fits (optionApplication.Some a) n e l = omega (arith, e, l)
+one_fits : (q : Option ℕ) (n : ℕ) → n ≤ 8 → OneOf n q → NumberFits q
+one_fits None n e l = tt
+one_fits (Some a) n e l = omega (arith, e, l)
 
 state_fits : (p : Parameters) (x : State) (g : GapState) (n : ℕ) → n ≤ 8 → Addressed p.address x → GapAddressed p g → AskedInGap x g → CollidedOnce x → HeldIn n x → StateFits x
 state_fits p Offline g n e a l i c h = tt
@@ -105,9 +94,9 @@ time_fits (CheckTokenPass t) n h = lit< tt
 time_fits (AwaitStatusResponse b) n h = lit< tt
 time_fits (PassiveIdle q) n h = lit< tt
 
-activity_fits : (a : Activity) → Below (2 ^ 49) a → activity_time a < 2 ^ 64
-activity_fits activity.Unknown b = lit< tt
-activity_fits (activity.At last) b = omega (arith, b)
+activity_fits : (a : Option Micros) → Below (2 ^ 49) a → activity_time a < 2 ^ 64
+activity_fits None b = lit< tt
+activity_fits (Some last) b = omega (arith, b)
 
 gap_fits : (p : Parameters) (g : GapState) → p.gap_wait_rotations ≤ 100 → GapAddressed p g → GapCounted p g → gap_number g < 2 ^ 8
 gap_fits p (Waiting count) l a c = omega (arith, l, c)
@@ -179,10 +168,6 @@ module _ (s : Station) (k : Kept s) where
   abbrev set_of : List ℕ
   set_of = set_bytes (has ring)
 
-  -- its head, with the settings' address for own
-  abbrev head : StationHead
-  head = record { state = s.state; core = s.core; token_ring = record { laps = ring.laps; own = s.p.address; ready = ring.ready }; p = s.p; counts = s.counts; applications = s.applications }
-
   words_there : (rest : List ℕ) → words_in (station_bytes s ++ rest) ≡ station_words s
   unfolding station_bytes
   words_there rest =
@@ -204,55 +189,58 @@ module _ (s : Station) (k : Kept s) where
       let b : length (station_bytes s ++ rest) ≡ length (station_bytes s) + length rest = length-append (station_bytes s) rest in
       omega (arith, a, b)
 
-  head_there : head_station s.p s.applications (station_words s) ≡ head
-  unfolding head_station
-  head_there =
-      let w = station_words s in
-      let f = fits s k in
-      ap (λ (x : State). record { state = x; core = core_in w; token_ring = head_in w s.p.address; p = s.p; counts = counts_in w; applications = s.applications })
-      (state_is s.state s.core ring.laps ring.ready s.p s.applications s.counts f)
-      ∙ ap (λ (c : Core). record { state = s.state; core = c; token_ring = head_in w s.p.address; p = s.p; counts = counts_in w; applications = s.applications })
-      (core_is s.state s.core ring.laps ring.ready s.p s.applications s.counts f)
-      ∙ ap (λ (h : Head). record { state = s.state; core = s.core; token_ring = h; p = s.p; counts = counts_in w; applications = s.applications })
-      (head_is s.state s.core ring.laps ring.ready s.p s.applications s.counts f s.p.address)
-      ∙ ap (λ (c : Counts). record { state = s.state; core = s.core; token_ring = record { laps = ring.laps; own = s.p.address; ready = ring.ready }; p = s.p; counts = c; applications = s.applications })
-      (counts_are s.state s.core ring.laps ring.ready s.p s.applications s.counts f)
-
-  covers : SlotCoversPause s.p
-  covers = slot_covers_pause s.p (slot_wide s.p (passed s k))
-
-  head_fits : words_fit head (station_words s) ≡ true
-  unfolding words_fit
-  head_fits =
-      and_both _ _
-      (sound_lines s.p s.applications s.state s.core ring.laps (passed s k)
-      (record { laps_two = k.sound.ring_sound.laps_two; core_sound = k.sound.core_sound; first_attempt = k.sound.first_attempt covers }))
-      (words_self (station_words s))
-
-  found_there : found_in (station_words s) set_of ≡ Is head
-  unfolding found_in found_on found_with checked_in
-  found_there =
-      let w = station_words s in
-      ap (λ (h : Header). found_on (settings_of h) h.applications w set_of) (header_is s.state s.core ring.laps ring.ready s.p s.applications s.counts (fits s k))
-      ∙ ap (λ (c : Created). found_on c s.applications w set_of) k.given
-      ∙ ap (λ (b : Bool). cond b (checked_in (head_station s.p s.applications w) w) Nothing) (set_taken ring s.p.address k.sound.ring_sound k.sound.own_is)
-      ∙ ap (λ (h : StationHead). checked_in h w) head_there
-      ∙ ap (λ (b : Bool). cond b (Is head) Nothing) head_fits
-
-  ring_there : ring_in head.token_ring set_of ≡ ring
+  ring_there : ring_in s.p.address ring.laps ring.ready set_of ≡ ring
   unfolding ring_in
   ring_there =
       ap (λ (a : ℕ). set_added (make a (only a) ring.laps ring.ready) set_of 16) (sym k.sound.own_is)
       ∙ ap (λ (l : List ℕ). set_added (make ring.own (only ring.own) ring.laps ring.ready) l 16) (sym (set_is set_of (has ring) (set_length (has ring))))
       ∙ members_back ring set_of k.sound.ring_sound (omega (arith, set_length (has ring)))
 
+  station_there : station_from s.p s.applications (station_words s) set_of ≡ s
+  unfolding station_from
+  station_there =
+      let w = station_words s in
+      let f = fits s k in
+      ap (λ (x : State). record { state = x; core = core_in w; token_ring = ring_in s.p.address (laps_in w) (ready_in w) set_of; p = s.p; counts = counts_in w; applications = s.applications })
+      (state_is s.state s.core ring.laps ring.ready s.p s.applications s.counts f)
+      ∙ ap (λ (c : Core). record { state = s.state; core = c; token_ring = ring_in s.p.address (laps_in w) (ready_in w) set_of; p = s.p; counts = counts_in w; applications = s.applications })
+      (core_is s.state s.core ring.laps ring.ready s.p s.applications s.counts f)
+      ∙ ap (λ (l : ℕ). record { state = s.state; core = s.core; token_ring = ring_in s.p.address l (ready_in w) set_of; p = s.p; counts = counts_in w; applications = s.applications })
+      (laps_is s.state s.core ring.laps ring.ready s.p s.applications s.counts f)
+      ∙ ap (λ (b : Bool). record { state = s.state; core = s.core; token_ring = ring_in s.p.address ring.laps b set_of; p = s.p; counts = counts_in w; applications = s.applications })
+      (ready_is s.state s.core ring.laps ring.ready s.p s.applications s.counts f)
+      ∙ ap (λ (r : Ring). record { state = s.state; core = s.core; token_ring = r; p = s.p; counts = counts_in w; applications = s.applications })
+      ring_there
+      ∙ ap (λ (c : Counts). record { state = s.state; core = s.core; token_ring = ring; p = s.p; counts = c; applications = s.applications })
+      (counts_are s.state s.core ring.laps ring.ready s.p s.applications s.counts f)
+
+  covers : SlotCoversPause s.p
+  covers = slot_covers_pause s.p (slot_wide s.p (passed s k))
+
+  words_there_fit : words_fit s (station_words s) ≡ true
+  unfolding words_fit
+  words_there_fit =
+      and_both _ _
+      (sound_lines s.p s.applications s.state s.core ring.laps (passed s k)
+      (record { laps_two = k.sound.ring_sound.laps_two; core_sound = k.sound.core_sound; first_attempt = k.sound.first_attempt covers }))
+      (words_self (station_words s))
+
+  found_there : found_in (station_words s) set_of ≡ Some s
+  unfolding found_in found_on found_with checked_in
+  found_there =
+      let w = station_words s in
+      ap (λ (h : Header). found_on (settings_of h) h.applications w set_of) (header_is s.state s.core ring.laps ring.ready s.p s.applications s.counts (fits s k))
+      ∙ ap (λ (c : Result Parameters Refusal). found_on c s.applications w set_of) k.given
+      ∙ ap (λ (b : Bool). cond b (checked_in (station_from s.p s.applications w set_of) w) None) (set_taken ring s.p.address k.sound.ring_sound k.sound.own_is)
+      ∙ ap (λ (x : Station). checked_in x w) station_there
+      ∙ ap (λ (b : Bool). cond b (Some s) None) words_there_fit
+
   -- The theorem: a station that is kept is read back from its bytes, whatever follows them.
-  pub station_back : (rest : List ℕ) → read_of (station_bytes s ++ rest) ≡ Taken s
-  unfolding read_of read_on found_at
+  pub station_back : (rest : List ℕ) → read_of (station_bytes s ++ rest) ≡ Some s
+  unfolding read_of
   station_back rest =
       let bytes = station_bytes s ++ rest in
-      ap (λ (b : Bool). read_on (cond b Nothing (found_in (words_in bytes) (set_in bytes))) (set_in bytes)) (le-ltb (length bytes) 96 (long rest))
-      ∙ ap (λ (w : Words). read_on (found_in w (set_in bytes)) (set_in bytes)) (words_there rest)
-      ∙ ap (λ (l : List ℕ). read_on (found_in (station_words s) l) l) (set_there rest)
-      ∙ ap (λ (r : Reading). read_on r set_of) found_there
-      ∙ ap (λ (r : Ring). Taken (ringed head r)) ring_there
+      ap (λ (b : Bool). cond b None (found_in (words_in bytes) (set_in bytes))) (le-ltb (length bytes) 96 (long rest))
+      ∙ ap (λ (w : Words). found_in w (set_in bytes)) (words_there rest)
+      ∙ ap (λ (l : List ℕ). found_in (station_words s) l) (set_there rest)
+      ∙ found_there

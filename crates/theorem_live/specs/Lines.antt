@@ -1,12 +1,12 @@
 -- The lines that are asked of a station read from bytes are those of a sound station, both ways, where its settings are accepted.
-use Rattle.std.specs.Prelude.{ℕ, suc, ◌+◌, ◌-◌, ◌*◌, ◌≤◌, ◌<◌, Bool, true, false, cond, ◌≡◌, refl, ◌⊎◌, eqb, ltb, leb}
-use Rattle.std.proofs.Common.{sym, ap, ◌∙◌, inl, inr, arith, eq-eqb, ne_eqb, lt-ltb, le-ltb, le-leb, eqb-true, ltb-true, ltb-false, leb-true, lit<}
+use Rattle.std.specs.Prelude.{ℕ, suc, ◌+◌, ◌-◌, ◌≤◌, ◌<◌, Bool, true, false, cond, ◌≡◌, refl, ◌⊎◌, eqb, ltb, leb, Option, Some, None}
+use Rattle.std.proofs.Common.{sym, ap, ◌∙◌, inl, inr, arith, eq-eqb, ne_eqb, lt-ltb, le-ltb, le-leb, eqb-true, ltb-true, ltb-false, leb-true}
 use Rattle.std.proofs.lemmas.Bool.{eqb-false}
 use borrow.Table.Steps.{cases}
-use Rattle.bit_times.specs.declared.Micros.{Micros}
-use Rattle.bit_times.specs.Times.{clock_end, time_of}
+use Rattle.bit_times.specs.declared.micros.Micros.{Micros}
+use Rattle.bit_times.specs.Times.{clock_end}
 use Rattle.bit_times.proofs.Laws.{time_bound}
-use Rattle.settings.specs.declared.Parameters.{Parameters}
+use Rattle.settings.specs.declared.parameters.Parameters.{Parameters}
 use Rattle.settings.specs.Settings.{rotation_time_of}
 use Rattle.settings_rules.specs.Rules.{hsa_refusal}
 use Rattle.settings_rules.proofs.Laws.{outside_in}
@@ -14,28 +14,22 @@ use Rattle.settings_build.specs.Build.{first_refusal, plain_of}
 use Rattle.settings_build.proofs.Passes.{passes, rotation_top}
 use Rattle.ring.specs.declared.GapState.{GapState}
 use Rattle.ring.specs.declared.GapState.TheVariants.{Waiting, DoPoll}
-use Rattle.station.specs.declared.Activity.{Activity}
-use Rattle.station.specs.declared.Activity.TheVariants as activity
-use Rattle.station.specs.declared.OptionAddress.{OptionAddress}
-use Rattle.station.specs.declared.OptionAddress.TheVariants as optionAddress
-use Rattle.station.specs.declared.OptionApplication.{OptionApplication}
-use Rattle.station.specs.declared.OptionApplication.TheVariants as optionApplication
-use Rattle.station.specs.declared.PassTokenAttempt.{PassTokenAttempt}
-use Rattle.station.specs.declared.PassTokenAttempt.TheVariants.{First, Second, Third}
-use Rattle.station.specs.declared.UseTokenData.{UseTokenData}
-use Rattle.station.specs.declared.ConnectivityState.{ConnectivityState}
-use Rattle.station.specs.declared.ConnectivityState.TheVariants as connectivity
-use Rattle.station.specs.declared.State.{State}
-use Rattle.station.specs.declared.State.TheVariants.{Offline, ListenToken, ActiveIdle, UseToken, ClaimToken, AwaitDataResponse, PassToken, CheckTokenPass, AwaitStatusResponse, PassiveIdle}
-use Rattle.station.specs.declared.Core.{Core}
+use Rattle.station.specs.declared.state.PassTokenAttempt.{PassTokenAttempt}
+use Rattle.station.specs.declared.state.PassTokenAttempt.TheVariants.{First, Second, Third}
+use Rattle.station.specs.declared.state.UseTokenData.{UseTokenData}
+use Rattle.station.specs.declared.state.ConnectivityState.{ConnectivityState}
+use Rattle.station.specs.declared.state.ConnectivityState.TheVariants as connectivity
+use Rattle.station.specs.declared.state.State.{State}
+use Rattle.station.specs.declared.state.State.TheVariants.{Offline, ListenToken, ActiveIdle, UseToken, ClaimToken, AwaitDataResponse, PassToken, CheckTokenPass, AwaitStatusResponse, PassiveIdle}
+use Rattle.station.specs.declared.parts.Core.{Core}
 use Rattle.station.specs.Parts.{state_number}
-use Rattle.station_hold.specs.Hold.{hold_less, end_of, largest}
+use Rattle.station_hold.specs.Hold.{hold_less, end_of}
 use Rattle.station_hold.specs.Laws.{capped_fits}
 use Rattle.station_numbers.specs.Numbers.{attempt_number}
 use Rattle.station_words.specs.Words.{activity_known}
 use Rattle.station_words.specs.Laws.{both}
 use Rattle.station_lines.specs.Lines.{low_line, apart_line, other_line, one_line, held_line, listens_line, idles_line, unasked_line, uses_line, claims_line, awaits_line, passes_line, polled_line, asks_line, noted_line, rests_line, state_line, pending_end, in_gap_line, gap_line, within_line, activity_line, no_token, counts_from, gap_time, hold_line, core_line, offline_line, resting_line, fresh_line, starts_line, sound_line}
-use Rattle.theorem_sound.specs.Moves.{Known, KnownWith, Low, Other, OneOf, Clock, HeldFits, GapAsked, GapAddressed, GapCounted}
+use Rattle.theorem_sound.specs.Moves.{Known, Low, Other, OneOf, HeldFits, GapAsked, GapAddressed, GapCounted}
 use Rattle.theorem_sound.proofs.Kept.{not-true, not_passive, not_online}
 use Rattle.theorem_sound.specs.Follows.{FirstAttempt}
 use Rattle.theorem_sound.proofs.Room.{less_within, hold_roomy}
@@ -47,15 +41,15 @@ and_both a b e f = rw e f
 
 -- What a state holds.
 
-low_from : (q : OptionAddress) → low_line q ≡ true → Low q
+low_from : (q : Option ℕ) → low_line q ≡ true → Low q
 unfolding low_line
-low_from optionAddress.None e = tt
-low_from (optionAddress.Some a) e = ltb-true a 128 e
+low_from None e = tt
+low_from (Some a) e = ltb-true a 128 e
 
-low_to : (q : OptionAddress) → Low q → low_line q ≡ true
+low_to : (q : Option ℕ) → Low q → low_line q ≡ true
 unfolding low_line
-low_to optionAddress.None l = refl
-low_to (optionAddress.Some a) l = lt-ltb a 128 l
+low_to None l = refl
+low_to (Some a) l = lt-ltb a 128 l
 
 apart_from : (a own : ℕ) → apart_line a own ≡ true → (a < 128) × (a ≡ own → ⊥)
 unfolding apart_line
@@ -65,15 +59,15 @@ apart_to : (a own : ℕ) → a < 128 → (a ≡ own → ⊥) → apart_line a ow
 unfolding apart_line
 apart_to a own l n = rw (ne_eqb a own n) (lt-ltb a 128 l)
 
-other_from : (q : OptionAddress) (own : ℕ) → other_line q own ≡ true → Other own q
+other_from : (q : Option ℕ) (own : ℕ) → other_line q own ≡ true → Other own q
 unfolding other_line
-other_from optionAddress.None own e = tt
-other_from (optionAddress.Some a) own e = apart_from a own e
+other_from None own e = tt
+other_from (Some a) own e = apart_from a own e
 
-other_to : (q : OptionAddress) (own : ℕ) → Other own q → other_line q own ≡ true
+other_to : (q : Option ℕ) (own : ℕ) → Other own q → other_line q own ≡ true
 unfolding other_line
-other_to optionAddress.None own o = refl
-other_to (optionAddress.Some a) own o = apart_to a own o.0 o.1
+other_to None own o = refl
+other_to (Some a) own o = apart_to a own o.0 o.1
 
 polled_from : (g : GapState) (a : ℕ) → polled_line g a ≡ true → g ≡ DoPoll a
 unfolding polled_line
@@ -84,15 +78,15 @@ polled_to : (g : GapState) (a : ℕ) → g ≡ DoPoll a → polled_line g a ≡ 
 unfolding polled_line
 polled_to g a e = rw e (eq-eqb a a refl)
 
-one_from : (q : OptionApplication) (n : ℕ) → one_line q n ≡ true → OneOf n q
+one_from : (q : Option ℕ) (n : ℕ) → one_line q n ≡ true → OneOf n q
 unfolding one_line
-one_from optionApplication.None n e = tt
-one_from (optionApplication.Some a) n e = ltb-true a n e
+one_from None n e = tt
+one_from (Some a) n e = ltb-true a n e
 
-one_to : (q : OptionApplication) (n : ℕ) → OneOf n q → one_line q n ≡ true
+one_to : (q : Option ℕ) (n : ℕ) → OneOf n q → one_line q n ≡ true
 unfolding one_line
-one_to optionApplication.None n l = refl
-one_to (optionApplication.Some a) n l = lt-ltb a n l
+one_to None n l = refl
+one_to (Some a) n l = lt-ltb a n l
 
 held_from : (held : UseTokenData) (n : ℕ) → held_line held n ≡ true → HeldFits n held
 unfolding held_line
@@ -104,25 +98,25 @@ held_to : (held : UseTokenData) (n : ℕ) → HeldFits n held → held_line held
 unfolding held_line
 held_to held n h = and_both _ _ (lt-ltb held.token_time.0 clock_end h.token_time) (one_to held.first_app n h.first_one)
 
-unasked_from : (q : OptionApplication) → unasked_line q ≡ true → q ≡ optionApplication.None
+unasked_from : (q : Option ℕ) → unasked_line q ≡ true → q ≡ None
 unfolding unasked_line
-unasked_from optionApplication.None e = refl
-unasked_from (optionApplication.Some a) e = not-true e
+unasked_from None e = refl
+unasked_from (Some a) e = not-true e
 
-unasked_to : (q : OptionApplication) → q ≡ optionApplication.None → unasked_line q ≡ true
+unasked_to : (q : Option ℕ) → q ≡ None → unasked_line q ≡ true
 unfolding unasked_line
 unasked_to q e = rw e refl
 
-known_from : (a : Activity) → activity_known a ≡ true → Known a
-known_from activity.Unknown e = not-true e
-known_from (activity.At last) e = tt
+known_from : (a : Option Micros) → activity_known a ≡ true → Known a
+known_from None e = not-true e
+known_from (Some last) e = tt
 
-known_to : (a : Activity) → Known a → activity_known a ≡ true
-known_to (activity.At last) k = refl
-known_to activity.Unknown k = elim k [ ]
+known_to : (a : Option Micros) → Known a → activity_known a ≡ true
+known_to (Some last) k = refl
+known_to None k = elim k [ ]
 
 -- what is asked of a state, line by line
-record StateSound (own n : ℕ) (x : State) (g : GapState) (a : Activity) (last : Micros) : Type 0 where
+record StateSound (own n : ℕ) (x : State) (g : GapState) (a : Option Micros) (last : Micros) : Type 0 where
   addresses : Addressed own x
   asked_in_gap : AskedInGap x g
   collided_once : CollidedOnce x
@@ -132,7 +126,7 @@ record StateSound (own n : ℕ) (x : State) (g : GapState) (a : Activity) (last 
   last_token : LastToken x last
   first_attempt : FirstAttempt x
 
-state_from_lem : (x : State) (own n : ℕ) (g : GapState) (a : Activity) (last : Micros) → state_line x own n g (activity_known a) last ≡ true → StateSound own n x g a last
+state_from_lem : (x : State) (own n : ℕ) (g : GapState) (a : Option Micros) (last : Micros) → state_line x own n g (activity_known a) last ≡ true → StateSound own n x g a last
 unfolding state_line listens_line idles_line uses_line claims_line awaits_line passes_line asks_line noted_line rests_line
 state_from_lem Offline own n g a last e = record { addresses = tt; asked_in_gap = tt; collided_once = tt; activity_known_lem = tt; token_held = tt; token_unasked = tt; last_token = tt; first_attempt = tt }
 state_from_lem (ListenToken q k) own n g a last e =
@@ -165,15 +159,15 @@ state_from_lem (CheckTokenPass t) own n g a last e = record { addresses = tt; as
 state_from_lem (AwaitStatusResponse b) own n g a last e =
     let h = both (activity_known a) _ e in
     record { addresses = tt; asked_in_gap = polled_from g b h.1; collided_once = tt; activity_known_lem = known_from a h.0; token_held = tt; token_unasked = tt; last_token = tt; first_attempt = tt }
-state_from_lem (PassiveIdle optionAddress.None) own n g a last e = record { addresses = tt; asked_in_gap = tt; collided_once = tt; activity_known_lem = tt; token_held = tt; token_unasked = tt; last_token = tt; first_attempt = tt }
-state_from_lem (PassiveIdle (optionAddress.Some b)) own n g a last e =
+state_from_lem (PassiveIdle None) own n g a last e = record { addresses = tt; asked_in_gap = tt; collided_once = tt; activity_known_lem = tt; token_held = tt; token_unasked = tt; last_token = tt; first_attempt = tt }
+state_from_lem (PassiveIdle (Some b)) own n g a last e =
     let h = both (activity_known a) _ e in
     record { addresses = apart_from b own h.1; asked_in_gap = tt; collided_once = tt; activity_known_lem = known_from a h.0; token_held = tt; token_unasked = tt; last_token = tt; first_attempt = tt }
 
 not_first : (t : PassTokenAttempt) (n : ℕ) → attempt_number t ≡ suc n → t ≡ First → ⊥
 not_first t n e f = let z : suc n ≡ 0 = sym e ∙ ap attempt_number f in omega (arith, z)
 
-state_to : (x : State) (own n : ℕ) (g : GapState) (a : Activity) (last : Micros) → StateSound own n x g a last → state_line x own n g (activity_known a) last ≡ true
+state_to : (x : State) (own n : ℕ) (g : GapState) (a : Option Micros) (last : Micros) → StateSound own n x g a last → state_line x own n g (activity_known a) last ≡ true
 unfolding state_line listens_line idles_line uses_line claims_line awaits_line passes_line asks_line noted_line rests_line
 state_to Offline own n g a last w = refl
 state_to (ListenToken q k) own n g a last w = and_both _ _ (other_to q own w.addresses) (le-leb k 1 w.collided_once)
@@ -190,8 +184,8 @@ state_to (PassToken t Second) own n g a last w = absurd (not_first Second 0 refl
 state_to (PassToken t Third) own n g a last w = absurd (not_first Third 1 refl w.first_attempt)
 state_to (CheckTokenPass t) own n g a last w = known_to a w.activity_known_lem
 state_to (AwaitStatusResponse b) own n g a last w = and_both _ _ (known_to a w.activity_known_lem) (polled_to g b w.asked_in_gap)
-state_to (PassiveIdle optionAddress.None) own n g a last w = refl
-state_to (PassiveIdle (optionAddress.Some b)) own n g a last w = and_both _ _ (known_to a w.activity_known_lem) (apart_to b own w.addresses.0 w.addresses.1)
+state_to (PassiveIdle None) own n g a last w = refl
+state_to (PassiveIdle (Some b)) own n g a last w = and_both _ _ (known_to a w.activity_known_lem) (apart_to b own w.addresses.0 w.addresses.1)
 
 -- The core.
 
@@ -226,15 +220,15 @@ unfolding gap_line
 gap_to p (Waiting count) r a c = le-leb count _ c
 gap_to p (DoPoll b) r a c = in_gap_to p b r a
 
-activity_from : (p : Parameters) (a : Activity) → activity_line p a ≡ true → ActivityFits p.baudrate a
+activity_from : (p : Parameters) (a : Option Micros) → activity_line p a ≡ true → ActivityFits p.baudrate a
 unfolding activity_line within_line
-activity_from p activity.Unknown e = tt
-activity_from p (activity.At last) e = ltb-true last.0 _ e
+activity_from p None e = tt
+activity_from p (Some last) e = ltb-true last.0 _ e
 
-activity_to : (p : Parameters) (a : Activity) → ActivityFits p.baudrate a → activity_line p a ≡ true
+activity_to : (p : Parameters) (a : Option Micros) → ActivityFits p.baudrate a → activity_line p a ≡ true
 unfolding activity_line within_line
-activity_to p activity.Unknown f = refl
-activity_to p (activity.At last) f = lt-ltb last.0 _ f
+activity_to p None f = refl
+activity_to p (Some last) f = lt-ltb last.0 _ f
 
 -- an end that counts from a time of a clock, which is not the last token time
 record Counts (end more last : ℕ) : Type 0 where

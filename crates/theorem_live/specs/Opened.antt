@@ -1,18 +1,17 @@
 -- A station that a header opens is kept; and the trace theorem, from the header on.
-use Rattle.std.specs.Prelude.{ℕ, ◌+◌, ◌≤◌, ◌<◌, ◌^◌, Bool, true, false, cond, ◌&&◌, ◌≡◌, refl, List, [], ◌∷◌, length, get_or, take, ltb, leb}
+use Rattle.std.specs.Prelude.{ℕ, ◌^◌, ◌≡◌, refl, List, [], ◌∷◌, length, get_or, take, ltb, leb, Result, Ok, Err}
 use Rattle.std.proofs.Common.{sym, ap, subst, ◌∙◌, arith, le-leb, ltb-true, ltb-false, lit<}
 use Rattle.std.proofs.lemmas.Bool.{lt-leb}
 use borrow.Table.Steps.{cases}
-use Rattle.codec_fields.specs.Fields.{be, zero_or14}
+use Rattle.codec_fields.specs.Fields.{be}
 use Rattle.codec_fields.proofs.Laws.{unpacked_within, zero_fields}
-use Rattle.settings.specs.declared.Parameters.{Parameters}
-use Rattle.settings.specs.declared.Created.{Created}
-use Rattle.settings.specs.declared.Created.TheVariants as created
-use Rattle.settings_build.specs.declared.PlainSettings.{PlainSettings}
-use Rattle.settings_build.specs.Build.{first_refusal, plain_of}
+use Rattle.settings.specs.declared.parameters.Parameters.{Parameters}
+use Rattle.refusals.specs.declared.refusal.Refusal.{Refusal}
+use Rattle.refusals.specs.Refusals.{number_of}
+use Rattle.settings_build.specs.declared.plain.PlainSettings.{PlainSettings}
 use Rattle.settings_build.proofs.Built.{built_passes}
 use Rattle.settings_build.proofs.Passes.{address_low}
-use Rattle.station.specs.Whole.{Station}
+use Rattle.station.specs.declared.station.Station.{Station}
 use Rattle.station.specs.Parts.{fresh_station}
 use Rattle.trace_headers.specs.declared.Header.{Header}
 use Rattle.trace_headers.specs.declared.Edition.{Edition}
@@ -20,8 +19,8 @@ use Rattle.trace_headers.specs.declared.Edition.TheVariants.{First, Second}
 use Rattle.trace_headers.specs.Headers.{widths_of, edition_of, header_length, header_in, no_header, header_of}
 use Rattle.trace_headers.specs.Finished.{header_with}
 use Rattle.trace.specs.Trace.{settings_of, settings_at, TraceStart, Accepted, Refused, started_with, start_of, written}
-use Rattle.station_words.specs.Laws.{CountsFit, PlainFits}
-use Rattle.station_bytes.specs.Bytes.{station_bytes, station_into}
+use Rattle.station_words.specs.Laws.{PlainFits}
+use Rattle.station_bytes.specs.Bytes.{station_bytes}
 use Rattle.live.specs.Live.{open_start, open_into_on, open_into}
 use Rattle.theorem_sound.proofs.Sound.{new_sound}
 use Rattle.theorem_every_trace.specs.Statement.{Entry, Whole, along}
@@ -93,7 +92,7 @@ header_with_lem h p a =
 
 -- A station that a header opens.
 
-fresh_kept : (header : List ℕ) (p : Parameters) → settings_of (header_of header) ≡ created.Accepted p → Kept (fresh_station p (header_of header).applications)
+fresh_kept : (header : List ℕ) (p : Parameters) → settings_of (header_of header) ≡ Ok p → Kept (fresh_station p (header_of header).applications)
 unfolding fresh_station
 fresh_kept header p r =
     let h = header_of header in
@@ -123,9 +122,9 @@ opened_kept header s e =
     cases (ltb (length header) (header_length header)) (λ t. not_started 17 s (rw t at e))
     (λ f. go (settings_of (header_of header)) refl (rw f at e))
   where
-    go : (c : Created) → settings_of (header_of header) ≡ c → started_with c (header_of header).applications ≡ Accepted s → Kept s
-    go (created.Accepted p) r z = subst Kept (ap (start_or s) z) (fresh_kept header p r)
-    go (created.Refused n) r z = not_started n s z
+    go : (c : Result Parameters Refusal) → settings_of (header_of header) ≡ c → started_with c (header_of header).applications ≡ Accepted s → Kept s
+    go (Ok p) r z = subst Kept (ap (start_or s) z) (fresh_kept header p r)
+    go (Err refusal) r z = not_started (number_of refusal) s z
 
 -- what a trace starts its header opens
 pub started_opens : (trace : List ℕ) (s : Station) → start_of trace ≡ Accepted s → open_start trace ≡ Accepted s

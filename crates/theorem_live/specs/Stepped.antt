@@ -1,19 +1,19 @@
 -- A trace is its header's station stepped along its entries: what is said of the bytes, entry by entry. Its proof is `stepped_along`.
-use Rattle.std.specs.Prelude.{ℕ, suc, ◌+◌, ◌-◌, ◌*◌, ◌≤◌, ◌<◌, ◌^◌, Bool, true, false, cond, ◌≡◌, refl, List, [], ◌∷◌, ◌++◌, length, get_or, take, drop, replicate, eqb, ltb}
-use Rattle.std.proofs.Common.{sym, ap, subst, ◌∙◌, append-nil, append_assoc, arith, le-ltb, length-append, take_all, drop_at, lit≤}
+use Rattle.std.specs.Prelude.{ℕ, ◌+◌, ◌-◌, ◌≤◌, Bool, cond, ◌≡◌, refl, List, [], ◌∷◌, ◌++◌, length, get_or, take, drop, replicate, eqb, Option, Some, Ok}
+use Rattle.std.proofs.Common.{sym, ap, subst, ◌∙◌, append-nil, arith, le-ltb, length-append, take_all, drop_at, lit≤}
 use Rattle.std.proofs.Math.Nat.{min-le_left}
+use borrow.Author.Tests.{ne_eqb}
 use Rattle.codec_fields.specs.Fields.{bytes_of, stored_of}
 use Rattle.codec_fields.proofs.Stores.{stored_room}
 use Rattle.codec_answers.specs.Answers.{answer_word}
-use Rattle.settings.specs.declared.Parameters.{Parameters}
-use Rattle.settings.specs.declared.Created.TheVariants as created
+use Rattle.settings.specs.declared.parameters.Parameters.{Parameters}
 use Rattle.settings_build.specs.Build.{plain_of}
 use Rattle.ring.specs.Ring.{has}
 use Rattle.ring_members.specs.Members.{set_bytes}
-use Rattle.station.specs.Whole.{Station}
-use Rattle.station.specs.declared.Counts.{Counts}
-use Rattle.station.specs.declared.Event.{Event}
-use Rattle.station.specs.declared.Event.TheVariants.{Nothing, Claim, Removal, Meetings}
+use Rattle.station.specs.declared.station.Station.{Station}
+use Rattle.station.specs.declared.parts.Counts.{Counts}
+use Rattle.station.specs.declared.done.Event.{Event}
+use Rattle.station.specs.declared.done.Event.TheVariants.{Nothing, Claim, Removal, Meetings}
 use Rattle.station_answer.specs.Answer.{Polled, polled_of, refused_poll}
 use Rattle.station_answer.specs.Counted.{largest_count, raised_by, counted_of}
 use Rattle.codec_records.specs.Records.{record_refusal}
@@ -23,12 +23,11 @@ use Rattle.trace_headers.specs.Finished.{header_with}
 use Rattle.trace.specs.Trace.{settings_of, written}
 use Rattle.trace.specs.Entries.{record_length, entry_of}
 use Rattle.station_words.specs.Laws.{CountsFit, PlainFits}
-use Rattle.station_bytes.specs.Bytes.{Read, Taken, read_of, word_list, all_bytes, station_words, station_bytes, station_into}
+use Rattle.station_bytes.specs.Bytes.{read_of, word_list, all_bytes, station_words, station_bytes, station_into}
 use Rattle.station_bytes.specs.Laws.{all_length, set_length}
-use Rattle.live.specs.Live.{Stepped, Answers, step_found, step_on, step_of, step_number, step_into, step_answer}
-use Rattle.live.specs.Laws.{found_answered}
+use Rattle.live.specs.Live.{Stepped, Answers, step_found, step_on, step_of, step_into, step_answer}
 use Rattle.theorem_sound.specs.Keeps.{either}
-use Rattle.theorem_sound.specs.Sound.{SoundStation, Call, poll, online, offline, passive, after}
+use Rattle.theorem_sound.specs.Sound.{Call, poll, online, offline, passive, after}
 use Rattle.theorem_sound.proofs.Sound.{call_made, call_sound}
 use Rattle.theorem_every_trace.specs.Statement.{Entry, Whole, along}
 use Rattle.theorem_live.specs.Back.{Kept, station_back}
@@ -74,19 +73,28 @@ said_whole : (word : ℕ) → stored_of (replicate 8 0) 0 8 word ≡ bytes_of wo
 said_whole word = stored_room (replicate 8 0) 0 8 word (lit≤ tt) (lit≤ tt) ∙ append-nil (bytes_of word)
 
 -- a station that is kept is what its bytes are
-pub kept_back : (s : Station) → Kept s → read_of (station_bytes s) ≡ Taken s
+pub kept_back : (s : Station) → Kept s → read_of (station_bytes s) ≡ Some s
 kept_back s k = ap read_of (sym (append-nil (station_bytes s))) ∙ station_back s k []
+
+-- a step by a whole entry, with room for its answer
+found_answered :
+    (s : Station) (entry : List ℕ) (room : ℕ)
+    → (length entry ≡ 0 → ⊥)
+    → record_length (get_or entry 0 0) ≤ length entry - 1
+    → 8 ≤ room
+    → step_found s entry room ≡ Answers (entry_of s (get_or entry 0 0) (take (record_length (get_or entry 0 0)) (drop 1 entry))) (1 + record_length (get_or entry 0 0))
+unfolding step_found
+found_answered s entry room some l f =
+    rw (ne_eqb (length entry) 0 some, le-ltb (length entry - 1) (record_length (get_or entry 0 0)) l, le-ltb room 8 f) refl
 
 -- a step of a station that is kept, by a whole entry
 pub step_is : (s : Station) (e : Entry) → Kept s → length e.bytes ≡ record_length e.kind → step_of (station_bytes s) (entry_bytes e) 8 ≡ Answers (entry_of s e.kind e.bytes) (1 + record_length e.kind)
 unfolding step_of step_on
 step_is s e k w =
     let n = record_length e.kind in
-    let size : 1 + n - 1 ≡ n = omega arith in
     let all : take n e.bytes ≡ e.bytes = take_all n e.bytes (omega (arith, w)) in
-    ap (λ (r : Read). step_on r (entry_bytes e) 8) (kept_back s k)
-    ∙ found_answered s (entry_bytes e) 8 (λ z. omega (arith, z)) n refl (omega (arith, w)) (lit≤ tt)
-    ∙ ap (λ (m : ℕ). Answers (entry_of s e.kind (take m e.bytes)) (1 + n)) size
+    ap (λ (r : Option Station). step_on r (entry_bytes e) 8) (kept_back s k)
+    ∙ found_answered s (entry_bytes e) 8 (λ z. omega (arith, z)) (omega (arith, w)) (lit≤ tt)
     ∙ ap (λ (l : List ℕ). Answers (entry_of s e.kind l) (1 + n)) all
 
 -- counts stop at their largest value
@@ -115,7 +123,7 @@ call_kept s c k =
           ap (λ (q : Parameters). settings_of (header_with q (after s c).applications)) m.settings_stay
           ∙ ap (λ (n : ℕ). settings_of (header_with s.p n)) m.applications_stay
           ∙ k.given
-          ∙ ap created.Accepted (sym m.settings_stay);
+          ∙ ap Ok (sym m.settings_stay);
       settings_fit = subst (λ (q : Parameters). PlainFits (plain_of q)) (sym m.settings_stay) k.settings_fit;
       counts_fit = call_counts s c k.counts_fit;
     }

@@ -1,7 +1,7 @@
 -- A station that is kept has as many applications after an entry, and stays kept along entries. Assumes nothing.
 use Rattle.std.specs.Prelude.{◌≡◌, List, [], ◌∷◌}
 use Rattle.std.proofs.Common.{ap, ◌∙◌}
-use Rattle.station.specs.Whole.{Station}
+use Rattle.station.specs.declared.station.Station.{Station}
 use Rattle.theorem_sound.proofs.Sound.{call_made}
 use Rattle.theorem_every_trace.specs.Statement.{Entry, along}
 use Rattle.theorem_from_header.specs.FromHeader.{call_of, entry_leaves}

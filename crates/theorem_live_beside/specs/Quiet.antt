@@ -6,7 +6,7 @@ use borrow.Table.Steps.{cases}
 use Rattle.codec_answers.specs.Answers.{refused_answer}
 use Rattle.codec_records.specs.Records.{record_refusal}
 use Rattle.station.specs.Steps.{done_of}
-use Rattle.station.specs.Whole.{Station}
+use Rattle.station.specs.declared.station.Station.{Station}
 use Rattle.station_answer.specs.Answer.{step_answer, polled_of, refused_poll}
 use Rattle.station_command.specs.Command.{connect_of, online_of, offline_of, passive_of}
 use Rattle.station_poll.specs.Poll.{accepted_after, accepted_poll, poll_of}

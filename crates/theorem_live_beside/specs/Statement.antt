@@ -4,7 +4,7 @@
 use Rattle.std.specs.Prelude.{ℕ, ◌≤◌, ◌≡◌, List, [], ◌∷◌, ◌++◌, ◌⊎◌, length, take, replicate}
 use Rattle.heard.specs.Heard.{lookup_of, summary_into}
 use Rattle.heard.specs.Afresh.{fresh_table}
-use Rattle.station.specs.Whole.{Station}
+use Rattle.station.specs.declared.station.Station.{Station}
 use Rattle.station_bytes.specs.Bytes.{read_of}
 use Rattle.trace_headers.specs.Headers.{header_length}
 use Rattle.trace_counts.specs.TraceCounts.{counts_length, counts_into}

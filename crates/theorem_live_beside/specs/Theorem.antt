@@ -1,16 +1,15 @@
 -- The counts and the table at the end of a trace are what the calls on whole traces write. Assumes nothing.
-use Rattle.std.specs.Prelude.{ℕ, ◌+◌, ◌-◌, ◌≤◌, ◌≡◌, ◌⊎◌, length, take}
+use Rattle.std.specs.Prelude.{ℕ, ◌+◌, ◌-◌, ◌≤◌, ◌≡◌, length, take, Option, Some}
 use Rattle.std.proofs.Math.Path.{refl, ap}
 use Rattle.std.proofs.Common.{sym, ◌∙◌, inl, inr, ⊎_elim, arith, le_refl, le-ltb, take_all}
 use mathlib.Core.List.{List, [], ◌∷◌}
 use Rattle.std.proofs.lemmas.List.{length-replicate}
-use Rattle.heard.specs.declared.Found.{Found}
-use Rattle.heard.specs.Heard.{Hearing, hear_all, consumed_in, lookup_of, summary_into}
+use Rattle.heard.specs.Heard.{Found, Hearing, hear_all, consumed_in, lookup_of, summary_into}
 use Rattle.heard.specs.Afresh.{table_length, fresh_table}
 use Rattle.heard.specs.Steps.{hear_append}
 use Rattle.heard.specs.Laws.{Long, lookup_afresh}
-use Rattle.station.specs.Whole.{Station}
-use Rattle.station_bytes.specs.Bytes.{Read, Taken, read_of, station_bytes}
+use Rattle.station.specs.declared.station.Station.{Station}
+use Rattle.station_bytes.specs.Bytes.{read_of, station_bytes}
 use Rattle.trace_headers.specs.Headers.{header_of}
 use Rattle.trace.specs.Entries.{record_length, entry_of}
 use Rattle.trace.specs.Trace.{TraceStart, Accepted, start_of}
@@ -86,18 +85,18 @@ module _ (trace : List ℕ) (fresh : Station) (out : List ℕ) (e : start_of tra
   station_is : (lent_along (opened trace out) es).station ≡ station_bytes (along fresh es).station
   station_is = (same_along (opened trace out) es zeros_long).same_stations ∙ (trace_stepped trace fresh es out e long (parts trace fresh).whole).left
 
-  read_is : read_of (lent_along (opened trace out) es).station ≡ Taken (along fresh es).station
+  read_is : read_of (lent_along (opened trace out) es).station ≡ Some (along fresh es).station
   read_is = ap read_of station_is ∙ kept_back (along fresh es).station (along_kept fresh es kept)
 
   -- its counts
   told : (room : ℕ) → counts_length ≤ room → read_counts_number (read_of (lent_along (opened trace out) es).station) room ≡ 0
   unfolding read_counts_number
-  told room enough = ap (λ (r : Read). read_counts_number r room) read_is ∙ rw (le-ltb room counts_length enough) refl
+  told room enough = ap (λ (r : Option Station). read_counts_number r room) read_is ∙ rw (le-ltb room counts_length enough) refl
 
   counts_are : (before : List ℕ) → read_counts_into (read_of (lent_along (opened trace out) es).station) before ≡ counts_into trace before
   unfolding read_counts_into counts_into counts_into_on counted_after
   counts_are before =
-      ap (λ (r : Read). read_counts_into r before) read_is
+      ap (λ (r : Option Station). read_counts_into r before) read_is
       ∙ ap (λ (t : Station). counts_over before t.counts) (sym (parts trace fresh).reached)
       ∙ ap (λ (x : TraceStart). counts_into_on x trace before) (sym e)
 

@@ -1,20 +1,18 @@
 -- PassiveIdle: one telegram, all of a poll's telegrams, the response, the poll.
-use Rattle.std.specs.Prelude.{ℕ, zero, suc, Bool, true, ◌≡◌, refl, List, ltb, eqb}
+use Rattle.std.specs.Prelude.{ℕ, zero, suc, Bool, true, ◌≡◌, refl, List, ltb, eqb, Option, Some, None}
 use Rattle.std.proofs.Common.{◌∙◌}
-use Rattle.bit_times.specs.declared.Micros.{Micros}
-use Rattle.settings.specs.declared.Parameters.{Parameters}
+use Rattle.bit_times.specs.declared.micros.Micros.{Micros}
+use Rattle.settings.specs.declared.parameters.Parameters.{Parameters}
 use Rattle.ring.specs.Ring.{Ring}
 use Rattle.ring.proofs.Laws.{witness_own}
 use Rattle.codec_telegrams.specs.declared.Telegram.{Telegram}
 use Rattle.codec_telegrams.specs.declared.Telegram.TheVariants as telegram
 use Rattle.codec_answers.specs.declared.Outcome.{Outcome}
 use Rattle.codec_answers.specs.declared.Outcome.TheVariants as outcome
-use Rattle.station.specs.declared.OptionAddress.{OptionAddress}
-use Rattle.station.specs.declared.OptionAddress.TheVariants as optionAddress
-use Rattle.station.specs.declared.State.{State}
-use Rattle.station.specs.declared.State.TheVariants.{PassiveIdle}
-use Rattle.station.specs.declared.Core.{Core}
-use Rattle.station.specs.declared.Event.TheVariants as event
+use Rattle.station.specs.declared.state.State.{State}
+use Rattle.station.specs.declared.state.State.TheVariants.{PassiveIdle}
+use Rattle.station.specs.declared.parts.Core.{Core}
+use Rattle.station.specs.declared.done.Event.TheVariants as event
 use Rattle.station.specs.Whole.{Heard}
 use Rattle.station.specs.Parts.{with_activity, with_pending}
 use Rattle.station.specs.Steps.{ongoing_of, waited_of, pause_of, rx_of, bus_activity_of, done_of, transmit_of, heard_of}
@@ -59,7 +57,7 @@ bus_stays c now pending =
     either (CoreStays c) (ltb c.pending_bytes pending) _ _ (record { token_time = refl; hold_end = refl; gap = refl; application = refl; connected = refl }) (core_same c)
 
 -- a telegram that leaves the ring alone, and one that is witnessed
-quiet : (q : OptionAddress) (c : Core) (r : Ring) (o : Outcome) → HeardIdle c r (heard_of (PassiveIdle q) c r o)
+quiet : (q : Option ℕ) (c : Core) (r : Ring) (o : Outcome) → HeardIdle c r (heard_of (PassiveIdle q) c r o)
 unfolding heard_of
 quiet q c r o = record { idle = (q, refl); parts = core_same c; same_own = refl; none_met = refl }
 
@@ -72,7 +70,7 @@ witnessed_own r (telegram.Request destination source asks) = refl
 witnessed_own r (telegram.Response destination source state status) = refl
 
 -- one telegram
-telegram_idle : (p : Parameters) (q : OptionAddress) (c : Core) (r : Ring) (t : Telegram) (last : Bool) → HeardIdle c r (passive_heard p c r q t last)
+telegram_idle : (p : Parameters) (q : Option ℕ) (c : Core) (r : Ring) (t : Telegram) (last : Bool) → HeardIdle c r (passive_heard p c r q t last)
 unfolding passive_heard heard_of
 telegram_idle p q c r t last =
     either (HeardIdle c r) (sent_by_us p.address t) _ _ (quiet q c r _)
@@ -92,7 +90,7 @@ unfolding meetings_of
 none_counted met e = rw e refl
 
 -- all telegrams of a poll
-all_idle : (p : Parameters) (q : OptionAddress) (c : Core) (r : Ring) (now : Micros) (bytes : List ℕ) (n count i : ℕ) → HeardIdle c r (heard_all p (heard_of (PassiveIdle q) c r outcome.Bus) now true bytes n count i)
+all_idle : (p : Parameters) (q : Option ℕ) (c : Core) (r : Ring) (now : Micros) (bytes : List ℕ) (n count i : ℕ) → HeardIdle c r (heard_all p (heard_of (PassiveIdle q) c r outcome.Bus) now true bytes n count i)
 unfolding heard_all heard_telegram
 all_idle p q c r now bytes n count zero = quiet q c r _
 all_idle p q c r now bytes n count (suc i) =
@@ -106,25 +104,25 @@ all_idle p q c r now bytes n count (suc i) =
       none_met = here.none_met;
     }
 
-met_idle : (p : Parameters) (q : OptionAddress) (c : Core) (r : Ring) (now : Micros) (bytes : List ℕ) (n count i : ℕ) → met_in p (heard_of (PassiveIdle q) c r outcome.Bus) now true bytes n count i ≡ 0
+met_idle : (p : Parameters) (q : Option ℕ) (c : Core) (r : Ring) (now : Micros) (bytes : List ℕ) (n count i : ℕ) → met_in p (heard_of (PassiveIdle q) c r outcome.Bus) now true bytes n count i ≡ 0
 unfolding met_in
 met_idle p q c r now bytes n count zero = refl
 met_idle p q c r now bytes n count (suc i) =
     none_together _ _ (met_idle p q c r now bytes n count i) (all_idle p q c r now bytes n count (suc i)).none_met
 
 -- do_passive_idle
-step_idle : (p : Parameters) (c : Core) (r : Ring) (now : Micros) (q : OptionAddress) (bytes : List ℕ) (n count : ℕ) → StepIdle c r (passive_idle_of p c r now q bytes n count)
+step_idle : (p : Parameters) (c : Core) (r : Ring) (now : Micros) (q : Option ℕ) (bytes : List ℕ) (n count : ℕ) → StepIdle c r (passive_idle_of p c r now q bytes n count)
 unfolding passive_idle_of consumed_all received_all respond_of pause_of waited_of with_activity transmit_of done_of
-step_idle p c r now optionAddress.None bytes n count =
-    let h = all_idle p optionAddress.None c r now bytes n count count in
-    record { idle = h.idle; parts = h.parts; same_own = h.same_own; sends = sends_nothing; tells = refl; uncounted = none_counted _ (met_idle p optionAddress.None c r now bytes n count count) }
-step_idle p c r now (optionAddress.Some source) bytes n count =
+step_idle p c r now None bytes n count =
+    let h = all_idle p None c r now bytes n count count in
+    record { idle = h.idle; parts = h.parts; same_own = h.same_own; sends = sends_nothing; tells = refl; uncounted = none_counted _ (met_idle p None c r now bytes n count count) }
+step_idle p c r now (Some source) bytes n count =
     either (StepIdle c r) (pause_of p c now).over _ _
-    (record { idle = (optionAddress.None, refl); parts = record { token_time = refl; hold_end = refl; gap = refl; application = refl; connected = refl }; same_own = refl; sends = answers source; tells = refl; uncounted = refl })
-    (record { idle = (optionAddress.Some source, refl); parts = record { token_time = refl; hold_end = refl; gap = refl; application = refl; connected = refl }; same_own = refl; sends = sends_nothing; tells = refl; uncounted = refl })
+    (record { idle = (None, refl); parts = record { token_time = refl; hold_end = refl; gap = refl; application = refl; connected = refl }; same_own = refl; sends = answers source; tells = refl; uncounted = refl })
+    (record { idle = (Some source, refl); parts = record { token_time = refl; hold_end = refl; gap = refl; application = refl; connected = refl }; same_own = refl; sends = sends_nothing; tells = refl; uncounted = refl })
 
 -- poll_inner, in PassiveIdle
-pub poll_idle : (p : Parameters) (q : OptionAddress) (c : Core) (r : Ring) (now : Micros) (t : Bool) (pending : ℕ) (bytes : List ℕ) (n count : ℕ) → StepIdle c r (poll_online p (PassiveIdle q) c r now t pending bytes n count)
+pub poll_idle : (p : Parameters) (q : Option ℕ) (c : Core) (r : Ring) (now : Micros) (t : Bool) (pending : ℕ) (bytes : List ℕ) (n count : ℕ) → StepIdle c r (poll_online p (PassiveIdle q) c r now t pending bytes n count)
 unfolding poll_online dispatch_of done_of with_activity
 poll_idle p q c r now t pending bytes n count =
     either (StepIdle c r) (ongoing_of c.last_bus_activity now t) _ _

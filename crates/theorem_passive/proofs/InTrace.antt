@@ -1,7 +1,7 @@
 -- The proof of the first theorem over a trace's entries: from PassiveIdle, through entries that are polls.
 use Rattle.std.specs.Prelude.{ℕ, ◌≤◌, ◌≡◌, List, [], ◌∷◌}
 use Rattle.std.proofs.Common.{sym, subst, ◌∙◌, arith, ne_eqb}
-use Rattle.station.specs.Whole.{Station}
+use Rattle.station.specs.declared.station.Station.{Station}
 use Rattle.station_answer.specs.Answer.{Polled}
 use Rattle.station_poll.specs.Poll.{poll_of}
 use Rattle.trace.specs.Entries.{entry_of}

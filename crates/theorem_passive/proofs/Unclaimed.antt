@@ -1,15 +1,13 @@
 -- The other states of a passive station: a poll leaves it passive, and enters ClaimToken from none of them. One law for each step of
 -- the states that a passive station goes on in.
 use Prim.Native.Nat.{ℕ, zero, suc}
-use Rattle.std.specs.Prelude.{Bool, ◌≡◌, refl, List, ltb, eqb}
+use Rattle.std.specs.Prelude.{Bool, ◌≡◌, refl, List, ltb, eqb, Option, None, Some}
 use Rattle.std.proofs.Math.Bool.{true, false}
 use Rattle.std.proofs.Common.{◌∙◌, arith}
-use Rattle.bit_times.specs.declared.Micros.{Micros}
-use Rattle.settings.specs.declared.Parameters.{Parameters}
+use Rattle.bit_times.specs.declared.micros.Micros.{Micros}
+use Rattle.settings.specs.declared.parameters.Parameters.{Parameters}
 use Rattle.ring.specs.declared.GapState.{GapState}
 use Rattle.ring.specs.declared.GapState.TheVariants.{Waiting, DoPoll}
-use Rattle.ring.specs.declared.NextStation.{NextStation}
-use Rattle.ring.specs.declared.NextStation.TheVariants.{Nobody, Neighbour}
 use Rattle.ring.specs.Ring.{Ring, prev_of}
 use Rattle.codec_telegrams.specs.declared.Telegram.{Telegram}
 use Rattle.codec_telegrams.specs.declared.Telegram.TheVariants as telegram
@@ -18,21 +16,19 @@ use Rattle.codec_decisions.specs.declared.Decision.TheVariants as decision
 use Rattle.codec_answers.specs.declared.Outcome.{Outcome}
 use Rattle.codec_answers.specs.declared.Outcome.TheVariants as outcome
 use Rattle.codec_answers.specs.declared.Sent.{Sent}
-use Rattle.station.specs.declared.ConnectivityState.{ConnectivityState}
-use Rattle.station.specs.declared.OptionAddress.{OptionAddress}
-use Rattle.station.specs.declared.PassTokenAttempt.{PassTokenAttempt}
-use Rattle.station.specs.declared.PassTokenAttempt.TheVariants.{First, Second, Third}
-use Rattle.station.specs.declared.UseTokenData.{UseTokenData}
-use Rattle.station.specs.declared.State.{State}
-use Rattle.station.specs.declared.State.TheVariants.{Offline, ListenToken, ActiveIdle, UseToken, ClaimToken, AwaitDataResponse, PassToken, CheckTokenPass, AwaitStatusResponse, PassiveIdle}
-use Rattle.station.specs.declared.Core.{Core}
-use Rattle.station.specs.declared.Event.{Event}
+use Rattle.station.specs.declared.state.ConnectivityState.{ConnectivityState}
+use Rattle.station.specs.declared.state.PassTokenAttempt.{PassTokenAttempt}
+use Rattle.station.specs.declared.state.PassTokenAttempt.TheVariants.{First, Second, Third}
+use Rattle.station.specs.declared.state.UseTokenData.{UseTokenData}
+use Rattle.station.specs.declared.state.State.{State}
+use Rattle.station.specs.declared.state.State.TheVariants.{Offline, ListenToken, ActiveIdle, UseToken, ClaimToken, AwaitDataResponse, PassToken, CheckTokenPass, AwaitStatusResponse, PassiveIdle}
+use Rattle.station.specs.declared.parts.Core.{Core}
+use Rattle.station.specs.declared.done.Event.{Event}
 use Rattle.station.specs.Whole.{RingStep, Heard}
 use Rattle.station.specs.Parts.{with_activity, with_pending, with_gap, with_next_application, state_number}
 use Rattle.station.specs.Steps.{ongoing_of, waited_of, pause_of, slot_expired_of, rx_of, bus_activity_of, done_of, transmit_of, with_event, heard_of, collision_of}
 use Rattle.station_claim.specs.Claim.{claim_next, claim_token_of}
-use Rattle.station_hold.specs.declared.Asked.{Asked}
-use Rattle.station_hold.specs.Hold.{use_pass_of, app_transmit_of, use_apps_after, use_apps_of, holds_of, use_token_timed, use_token_of, valid_response, received_of, with_notice, timeout_of, await_data_of}
+use Rattle.station_hold.specs.Hold.{Asked, use_pass_of, app_transmit_of, use_apps_after, use_apps_of, holds_of, use_token_timed, use_token_of, valid_response, received_of, with_notice, timeout_of, await_data_of}
 use Rattle.station_hear_active.specs.HearActive.{remembers, active_collided, accepted_of, token_to_us, token_witnessed, token_heard, active_requested, active_heard, handle_telegram}
 use Rattle.station_listen.specs.Listen.{heard_telegram, heard_all, with_met, received_all, meetings_of, consumed_all}
 use Rattle.station_pass.specs.Pass.{pass_sent_on, pass_send, pass_poll_on, pass_poll, pass_token_of}
@@ -125,10 +121,10 @@ module _ (p : Parameters) (now : Micros) (v : ConnectivityState) (K : Type 0) wh
       (either (Unclaimed v K) (slot_expired_of p c now).over _ _ (timeout_un _ a held bytes n e) (done_un _ _ _ e (λ z. absurd (omega arith))))
 
   -- do_pass_token
-  pass_sent_un : (x : NextStation) (c : Core) (a : PassTokenAttempt) (to : ℕ) (r : Ring) → On c → U (pass_sent_on x p c now a to r)
+  pass_sent_un : (x : Option ℕ) (c : Core) (a : PassTokenAttempt) (to : ℕ) (r : Ring) → On c → U (pass_sent_on x p c now a to r)
   unfolding pass_sent_on
-  pass_sent_un Nobody c a to r e = transmit_un _ c _ e (λ z. absurd (omega arith))
-  pass_sent_un (Neighbour next) c a to r e = transmit_un _ c _ e (λ z. absurd (omega arith))
+  pass_sent_un None c a to r e = transmit_un _ c _ e (λ z. absurd (omega arith))
+  pass_sent_un (Some next) c a to r e = transmit_un _ c _ e (λ z. absurd (omega arith))
 
   pass_send_un : (c : Core) (r : Ring) (a : PassTokenAttempt) → On c → U (pass_send p c r now a)
   unfolding pass_send
@@ -179,7 +175,7 @@ module _ (p : Parameters) (now : Micros) (v : ConnectivityState) (K : Type 0) wh
   unfolding collision_of
   collision_un x c r e k = record { heard_same = e; heard_claims = k }
 
-  collided_un : (c : Core) (r : Ring) (q m : OptionAddress) (k : ℕ) → On c → H (active_collided c r q m k)
+  collided_un : (c : Core) (r : Ring) (q m : Option ℕ) (k : ℕ) → On c → H (active_collided c r q m k)
   unfolding active_collided
   collided_un c r q m k e = either H (eqb k 0) _ _ (collision_un _ c r e (λ z. absurd (omega arith))) (collision_un _ c r e (λ z. absurd (omega arith)))
 
@@ -187,29 +183,29 @@ module _ (p : Parameters) (now : Micros) (v : ConnectivityState) (K : Type 0) wh
   unfolding accepted_of
   accepted_un c r e = heard_un _ c r _ e (λ z. absurd (omega arith))
 
-  to_us_un : (c : Core) (r : Ring) (q m : OptionAddress) (destination source : ℕ) → On c → H (token_to_us c r now q m destination source)
+  to_us_un : (c : Core) (r : Ring) (q m : Option ℕ) (destination source : ℕ) → On c → H (token_to_us c r now q m destination source)
   unfolding token_to_us
   to_us_un c r q m destination source e =
       either H (eqb source (prev_of r)) _ _ (accepted_un c r e)
       (either H (remembers m source) _ _ (accepted_un c _ e) (heard_un _ c _ _ e (λ z. absurd (omega arith))))
 
-  witnessed_un : (c : Core) (r : Ring) (q m : OptionAddress) (destination source : ℕ) → On c → H (token_witnessed c r q m destination source)
+  witnessed_un : (c : Core) (r : Ring) (q m : Option ℕ) (destination source : ℕ) → On c → H (token_witnessed c r q m destination source)
   unfolding token_witnessed
   witnessed_un c r q m destination source e = heard_un _ c _ _ e (λ z. absurd (omega arith))
 
-  token_un : (c : Core) (r : Ring) (q m : OptionAddress) (k destination source : ℕ) (last : Bool) → On c → H (token_heard p c r now q m k destination source last)
+  token_un : (c : Core) (r : Ring) (q m : Option ℕ) (k destination source : ℕ) (last : Bool) → On c → H (token_heard p c r now q m k destination source last)
   unfolding token_heard
   token_un c r q m k destination source last e =
       either H (eqb source p.address) _ _ (collided_un c r q m k e)
       (either H (eqb destination p.address) _ _ (either H last _ _ (to_us_un c r q m destination source e) (witnessed_un c r q m destination source e))
       (witnessed_un c r q m destination source e))
 
-  requested_un : (c : Core) (r : Ring) (q m : OptionAddress) (k source : ℕ) (noted : Bool) → On c → H (active_requested c r q m k source noted)
+  requested_un : (c : Core) (r : Ring) (q m : Option ℕ) (k source : ℕ) (noted : Bool) → On c → H (active_requested c r q m k source noted)
   unfolding active_requested
   requested_un c r q m k source noted e =
       either H noted _ _ (heard_un _ c r _ e (λ z. absurd (omega arith))) (heard_un _ c r _ e (λ z. absurd (omega arith)))
 
-  active_un : (c : Core) (r : Ring) (q m : OptionAddress) (k : ℕ) (t : Telegram) (last : Bool) → On c → H (active_heard p c r now q m k t last)
+  active_un : (c : Core) (r : Ring) (q m : Option ℕ) (k : ℕ) (t : Telegram) (last : Bool) → On c → H (active_heard p c r now q m k t last)
   unfolding active_heard
   active_un c r q m k (telegram.Token destination source) last e = token_un c r q m k destination source last e
   active_un c r q m k telegram.ShortConfirmation last e = heard_un _ c r _ e (λ z. absurd (omega arith))
@@ -247,10 +243,10 @@ module _ (p : Parameters) (now : Micros) (v : ConnectivityState) (K : Type 0) wh
   unfolding consumed_all
   consumed_un h count b = record { same = b.heard_same; claims = b.heard_claims; no_entry = meetings_un h.met }
 
-  removal_un : (x : NextStation) → NoClaim (removal_of x)
+  removal_un : (x : Option ℕ) → NoClaim (removal_of x)
   unfolding removal_of
-  removal_un Nobody = tt
-  removal_un (Neighbour a) = tt
+  removal_un None = tt
+  removal_un (Some a) = tt
 
   event_un : (x : RingStep) (k : Event) → NoClaim k → U x → U (with_event x k)
   unfolding with_event
@@ -277,12 +273,12 @@ module _ (p : Parameters) (now : Micros) (v : ConnectivityState) (K : Type 0) wh
       bus_on : On (bus_activity_of c now pending)
       bus_on = either On (ltb c.pending_bytes pending) _ _ e e
 
-  idle_un : (q : OptionAddress) (c : Core) (r : Ring) (t : Bool) (pending : ℕ) (bytes : List ℕ) (n count : ℕ) → On c → U (poll_online p (PassiveIdle q) c r now t pending bytes n count)
+  idle_un : (q : Option ℕ) (c : Core) (r : Ring) (t : Bool) (pending : ℕ) (bytes : List ℕ) (n count : ℕ) → On c → U (poll_online p (PassiveIdle q) c r now t pending bytes n count)
   idle_un q c r t pending bytes n count e =
       let s = poll_idle p q c r now t pending bytes n count in
       record { same = s.parts.connected ∙ e; claims = λ z. absurd (never s.idle.0 (rw s.idle.1 at z)); no_entry = rw s.uncounted tt }
     where
-      never : (q' : OptionAddress) → state_number (PassiveIdle q') ≡ 4 → ⊥
+      never : (q' : Option ℕ) → state_number (PassiveIdle q') ≡ 4 → ⊥
       never q' z = omega arith
 
   -- of a passive station, by the state before the poll

@@ -2,8 +2,8 @@
 use Rattle.std.specs.Prelude.{◌≡◌}
 use Rattle.ring.specs.Ring.{Ring}
 use Rattle.codec_answers.specs.declared.Notice.TheVariants as notice
-use Rattle.station.specs.declared.Core.{Core}
-use Rattle.station.specs.declared.Event.TheVariants as event
+use Rattle.station.specs.declared.parts.Core.{Core}
+use Rattle.station.specs.declared.done.Event.TheVariants as event
 use Rattle.station.specs.Whole.{RingStep}
 use Rattle.theorem_sound.specs.Listen.{Passive}
 use Rattle.theorem_passive.specs.Statement.{OnlyAnswers, CoreStays}

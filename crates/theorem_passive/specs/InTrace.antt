@@ -2,7 +2,7 @@
 -- proofs/InTrace.
 use Rattle.std.specs.Prelude.{◌≤◌, List, [], ◌∷◌}
 use Rattle.codec_answers.specs.declared.Answer.{Answer}
-use Rattle.station.specs.Whole.{Station}
+use Rattle.station.specs.declared.station.Station.{Station}
 use Rattle.trace.specs.Trace.{Run}
 use Rattle.theorem_every_trace.specs.Statement.{Entry, along}
 use Rattle.theorem_passive.specs.Statement.{IsPassive, In, StationStays, Answered}

@@ -1,9 +1,9 @@
 -- The premises are met, and what the theorems allow does happen: calls that make a station in PassiveIdle, and one that answers there.
 use Rattle.std.specs.Prelude.{ℕ, ◌≡◌, refl, List, [], ◌∷◌}
 use Rattle.codec_fields.specs.Fields.{field_of, zeros_or14, be_from, load_of}
-use Rattle.bit_times.specs.declared.Baud.TheVariants.{B500000}
+use Rattle.bit_times.specs.declared.baud.Baud.TheVariants.{B500000}
 use Rattle.bit_times.specs.Times.{rounded, time_of}
-use Rattle.settings.specs.declared.Parameters.{Parameters}
+use Rattle.settings.specs.declared.parameters.Parameters.{Parameters}
 use Rattle.settings.specs.Settings.{default_of}
 use Rattle.ring.specs.Ring.{fresh_of}
 use Rattle.codec_telegrams.specs.declared.ResponseState.TheVariants.{Slave}
@@ -11,7 +11,7 @@ use Rattle.codec_telegrams.specs.Words as words
 use Rattle.codec_decisions.specs.Decisions as decisions
 use Rattle.codec_records.specs.Records as records
 use Rattle.codec_answers.specs.declared.Sent.TheVariants.{StatusResponse}
-use Rattle.station.specs.Whole.{Station}
+use Rattle.station.specs.declared.station.Station.{Station}
 use Rattle.station.specs.Parts.{fresh_station, fresh_core, with_activity, with_pending, with_connectivity, is_offline}
 use Rattle.station.specs.Steps as steps
 use Rattle.station_hear_listen.specs.HearListen as hear

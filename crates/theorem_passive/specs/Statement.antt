@@ -11,9 +11,9 @@ use Rattle.codec_answers.specs.declared.Sent.{Sent}
 use Rattle.codec_answers.specs.declared.Sent.TheVariants as sent
 use Rattle.codec_answers.specs.declared.Notice.TheVariants as notice
 use Rattle.codec_answers.specs.declared.Answer.{Answer}
-use Rattle.station.specs.declared.ConnectivityState.TheVariants as connectivity
-use Rattle.station.specs.declared.Core.{Core}
-use Rattle.station.specs.Whole.{Station}
+use Rattle.station.specs.declared.state.ConnectivityState.TheVariants as connectivity
+use Rattle.station.specs.declared.parts.Core.{Core}
+use Rattle.station.specs.declared.station.Station.{Station}
 use Rattle.station.specs.Parts.{state_number}
 use Rattle.station_poll.specs.Poll.{poll_of}
 

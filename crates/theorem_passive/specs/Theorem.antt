@@ -1,6 +1,6 @@
 -- What a poll comes to in PassiveIdle. The proof, and those of the two theorems, are in proofs/Theorem.
 use Rattle.std.specs.Prelude.{◌≡◌}
-use Rattle.station.specs.Whole.{Station}
+use Rattle.station.specs.declared.station.Station.{Station}
 use Rattle.station.specs.Parts.{state_number}
 use Rattle.station_answer.specs.Answer.{Polled}
 use Rattle.theorem_passive.specs.Statement.{StationStays, Answered}

@@ -1,10 +1,10 @@
 -- What a step comes to in the other states of a passive station: it leaves it passive, and does not enter ClaimToken. The proof is in
 -- proofs/Unclaimed.
 use Rattle.std.specs.Prelude.{◌≡◌}
-use Rattle.station.specs.declared.ConnectivityState.{ConnectivityState}
-use Rattle.station.specs.declared.Event.{Event}
-use Rattle.station.specs.declared.Event.TheVariants as event
-use Rattle.station.specs.declared.Step.{Step}
+use Rattle.station.specs.declared.state.ConnectivityState.{ConnectivityState}
+use Rattle.station.specs.declared.done.Event.{Event}
+use Rattle.station.specs.declared.done.Event.TheVariants as event
+use Rattle.station.specs.Whole.{Step}
 use Rattle.station.specs.Parts.{state_number}
 
 -- what is counted of a step is no entry to ClaimToken

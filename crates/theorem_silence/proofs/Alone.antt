@@ -1,12 +1,12 @@
 -- Nobody next to us in a token pass (document 02, P5): the token goes to ourselves and is held. Whom a pass goes to, and that the question
 -- who is next is answered alike before and after the ring has witnessed the pass, are laws of station_pass.
 use Rattle.std.specs.Prelude.{ℕ, true, ◌≡◌, [], ◌∷◌}
-use Rattle.bit_times.specs.declared.Micros.{Micros}
-use Rattle.settings.specs.declared.Parameters.{Parameters}
+use Rattle.bit_times.specs.declared.micros.Micros.{Micros}
+use Rattle.settings.specs.declared.parameters.Parameters.{Parameters}
 use Rattle.ring.specs.Ring.{Ring}
 use Rattle.codec_answers.specs.declared.Sent.TheVariants.{Token}
-use Rattle.station.specs.declared.PassTokenAttempt.TheVariants.{Third}
-use Rattle.station.specs.declared.Core.{Core}
+use Rattle.station.specs.declared.state.PassTokenAttempt.TheVariants.{Third}
+use Rattle.station.specs.declared.parts.Core.{Core}
 use Rattle.station.specs.Steps.{pause_of}
 use Rattle.station_check_pass.specs.CheckPass.{resend_of}
 use Rattle.theorem_silence.specs.Phases.{holding}

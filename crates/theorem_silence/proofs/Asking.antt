@@ -3,8 +3,8 @@ use Rattle.std.specs.Prelude.{ℕ, zero, suc, ◌+◌, ◌<◌, ◌≤◌, Bool,
 use Rattle.std.proofs.Math.Path.{refl, ap}
 use Rattle.std.proofs.Common.{sym, subst, ◌∙◌, inl, inr, append-nil, arith}
 use borrow.Table.Steps.{cases}
-use Rattle.bit_times.specs.declared.Micros.{Micros}
-use Rattle.settings.specs.declared.Parameters.{Parameters}
+use Rattle.bit_times.specs.declared.micros.Micros.{Micros}
+use Rattle.settings.specs.declared.parameters.Parameters.{Parameters}
 use Rattle.settings.specs.Settings.{slot_time_of}
 use Rattle.ring_addresses.specs.SetLaws.{true≢false}
 use Rattle.ring.specs.Ring.{Ring, has, others}
@@ -15,17 +15,16 @@ use Rattle.codec_records.specs.Records.{head_of, decision_at}
 use Rattle.codec_answers.specs.declared.Sent.{Sent}
 use Rattle.codec_answers.specs.declared.Sent.TheVariants.{Nothing, Application}
 use Rattle.codec_answers.specs.declared.Outcome.TheVariants as outcome
-use Rattle.station.specs.declared.PassTokenAttempt.TheVariants.{First}
-use Rattle.station.specs.declared.UseTokenData.{UseTokenData}
-use Rattle.station.specs.declared.State.{State}
-use Rattle.station.specs.declared.Core.{Core}
-use Rattle.station.specs.declared.Counts.{Counts}
-use Rattle.station.specs.Whole.{Station, RingStep}
-use Rattle.station.specs.declared.Step.{Step}
+use Rattle.station.specs.declared.state.PassTokenAttempt.TheVariants.{First}
+use Rattle.station.specs.declared.state.UseTokenData.{UseTokenData}
+use Rattle.station.specs.declared.state.State.{State}
+use Rattle.station.specs.declared.parts.Core.{Core}
+use Rattle.station.specs.declared.parts.Counts.{Counts}
+use Rattle.station.specs.declared.station.Station.{Station}
+use Rattle.station.specs.Whole.{RingStep, Step}
 use Rattle.station.specs.Parts.{with_activity, with_token_times, with_next_application, state_number}
 use Rattle.station.specs.Steps.{with_token_time, to_use_token, marked_at, busy_of, waited_of, pause_of, done_of, transmit_of, ring_step_of}
-use Rattle.station_hold.specs.declared.Asked.{Asked}
-use Rattle.station_hold.specs.Hold.{declines_at, use_pass_of, app_transmit_of, asked_from, asked_of, hold_end_of, holds_of, use_apps_after, use_apps_of, use_token_timed, use_token_of}
+use Rattle.station_hold.specs.Hold.{Asked, declines_at, use_pass_of, app_transmit_of, asked_from, asked_of, hold_end_of, holds_of, use_apps_after, use_apps_of, use_token_timed, use_token_of}
 use Rattle.station_poll.specs.Poll.{dispatch_of, poll_of}
 use Rattle.station_answer.specs.Counted.{counted_of}
 use Rattle.station_answer.specs.Answer.{Polled, polled_of, step_answer}

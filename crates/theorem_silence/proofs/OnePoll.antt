@@ -1,10 +1,10 @@
 -- One silent poll at each place: the station stays where it is, or sends the one telegram that is next.
-use Rattle.std.specs.Prelude.{ℕ, Bool, true, false, ◌≡◌, List, [], ◌∷◌}
+use Rattle.std.specs.Prelude.{ℕ, Bool, true, false, ◌≡◌, List, [], ◌∷◌, Option}
 use Rattle.std.proofs.Math.Path.{refl, ap}
 use Rattle.std.proofs.Common.{sym, ◌∙◌}
 use borrow.Table.Steps.{cases}
-use Rattle.bit_times.specs.declared.Micros.{Micros}
-use Rattle.settings.specs.declared.Parameters.{Parameters}
+use Rattle.bit_times.specs.declared.micros.Micros.{Micros}
+use Rattle.settings.specs.declared.parameters.Parameters.{Parameters}
 use Rattle.settings.specs.Settings.{slot_time_of}
 use Rattle.ring_addresses.specs.Set.{head_or}
 use Rattle.ring_addresses.specs.SetLaws.{true≢false}
@@ -14,13 +14,12 @@ use Rattle.ring.specs.Ring.{Ring, others, next_of, witness_of, remove_of, claim_
 use Rattle.ring.proofs.Laws.{next_is, next_alone, others_witness, others_remove, others_claim}
 use Rattle.codec_answers.specs.declared.Sent.{Sent}
 use Rattle.codec_answers.specs.declared.Sent.TheVariants as sent
-use Rattle.station.specs.declared.Activity.{Activity}
-use Rattle.station.specs.declared.PassTokenAttempt.{PassTokenAttempt}
-use Rattle.station.specs.declared.PassTokenAttempt.TheVariants.{First, Second, Third}
-use Rattle.station.specs.declared.State.{State}
-use Rattle.station.specs.declared.State.TheVariants.{ClaimToken, PassToken, CheckTokenPass, AwaitStatusResponse}
-use Rattle.station.specs.declared.Core.{Core}
-use Rattle.station.specs.declared.Event.{Event}
+use Rattle.station.specs.declared.state.PassTokenAttempt.{PassTokenAttempt}
+use Rattle.station.specs.declared.state.PassTokenAttempt.TheVariants.{First, Second, Third}
+use Rattle.station.specs.declared.state.State.{State}
+use Rattle.station.specs.declared.state.State.TheVariants.{ClaimToken, PassToken, CheckTokenPass, AwaitStatusResponse}
+use Rattle.station.specs.declared.parts.Core.{Core}
+use Rattle.station.specs.declared.done.Event.{Event}
 use Rattle.station.specs.Whole.{RingStep}
 use Rattle.station.specs.Parts.{with_activity, with_gap}
 use Rattle.station.specs.Steps.{busy_of, waited_of, pause_of, slot_expired_of, done_of, transmit_of, with_event}
@@ -87,7 +86,7 @@ first_sent p c r now k [] w = held_now p c now k _ p.address _ (goes_to p c r []
 first_sent p c r now k (x ∷ more) w = checked_now p c now k _ x more _ (goes_to p c r (x ∷ more) w) (seen_ready p c r (x ∷ more) w)
 
 -- parts of the station that these places do not look at
-pub active_ready : (p : Parameters) (c : Core) (r : Ring) (os : List ℕ) (a : Activity) → Ready p c r os → Ready p (with_activity c a) r os
+pub active_ready : (p : Parameters) (c : Core) (r : Ring) (os : List ℕ) (a : Option Micros) → Ready p c r os → Ready p (with_activity c a) r os
 unfolding with_activity
 active_ready p c r os a w = record { on = w.on; ring_good = w.ring_good; are = w.are }
 
@@ -104,7 +103,7 @@ unfolding waited_of
 known_ready p c r os now time w = active_ready p c r os _ w
 
 -- a station at a place is there whatever its last activity
-pub active_at : (ph : Phase) (p : Parameters) (s : State) (c : Core) (r : Ring) (a : Activity) → At ph p s c r → At ph p s (with_activity c a) r
+pub active_at : (ph : Phase) (p : Parameters) (s : State) (c : Core) (r : Ring) (a : Option Micros) → At ph p s c r → At ph p s (with_activity c a) r
 unfolding with_activity gap_due
 active_at (asking x os) p s c r a g = (active_ready p c r os a g.0, record { attempt = g.1.attempt; passing = g.1.passing; question = g.1.question })
 active_at (awaiting os) p s c r a g = (active_ready p c r os a g.0, g.1)

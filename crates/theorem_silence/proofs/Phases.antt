@@ -4,8 +4,8 @@ use Rattle.std.proofs.Common.{sym, ◌∙◌, inl, inr, arith}
 use Rattle.ring_addresses.specs.Set.{head_or}
 use Rattle.codec_answers.specs.declared.Sent.TheVariants.{Token}
 use Rattle.codec_answers.specs.Answers.{sent_bytes}
-use Rattle.station.specs.declared.PassTokenAttempt.{PassTokenAttempt}
-use Rattle.station.specs.declared.PassTokenAttempt.TheVariants.{First, Second, Third}
+use Rattle.station.specs.declared.state.PassTokenAttempt.{PassTokenAttempt}
+use Rattle.station.specs.declared.state.PassTokenAttempt.TheVariants.{First, Second, Third}
 use Rattle.theorem_silence.specs.Silence.{told, tokens}
 use Rattle.theorem_silence.specs.Phases.{Phase, asking, awaiting, checking, claiming, holding, starting, sent_to, behind, next_attempt, still_tried, next, next_sent, longest, tried_before, tokens_from, todo, in_ring, end_ring, Under, advance}
 

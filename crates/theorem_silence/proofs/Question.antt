@@ -1,18 +1,19 @@
 -- Why Silence asks that no gap question is due: with one due, the token pass asks it in place of the first token.
 use Rattle.std.specs.Prelude.{ℕ, Bool, true, ◌≡◌, List}
 use Rattle.std.proofs.Common.{ap, ◌∙◌}
-use Rattle.bit_times.specs.declared.Micros.{Micros}
-use Rattle.settings.specs.declared.Parameters.{Parameters}
+use Rattle.bit_times.specs.declared.micros.Micros.{Micros}
+use Rattle.settings.specs.declared.parameters.Parameters.{Parameters}
 use Rattle.settings_build.specs.Build.{first_refusal, plain_of}
 use Rattle.settings.specs.Settings.{slot_time_of}
 use Rattle.ring.specs.Ring.{Ring}
 use Rattle.codec_answers.specs.declared.Sent.TheVariants.{StatusRequest}
-use Rattle.station.specs.declared.PassTokenAttempt.{PassTokenAttempt}
-use Rattle.station.specs.declared.PassTokenAttempt.TheVariants.{First}
-use Rattle.station.specs.declared.State.{State}
-use Rattle.station.specs.declared.State.TheVariants.{PassToken}
-use Rattle.station.specs.declared.Core.{Core}
-use Rattle.station.specs.Whole.{Station, RingStep}
+use Rattle.station.specs.declared.state.PassTokenAttempt.{PassTokenAttempt}
+use Rattle.station.specs.declared.state.PassTokenAttempt.TheVariants.{First}
+use Rattle.station.specs.declared.state.State.{State}
+use Rattle.station.specs.declared.state.State.TheVariants.{PassToken}
+use Rattle.station.specs.declared.parts.Core.{Core}
+use Rattle.station.specs.declared.station.Station.{Station}
+use Rattle.station.specs.Whole.{RingStep}
 use Rattle.station.specs.Steps.{pause_of, transmit_of}
 use Rattle.station_pass.specs.Pass.{pass_poll_on, pass_token_of}
 use Rattle.station_answer.specs.Answer.{Polled, polled_of, step_answer}

@@ -1,24 +1,23 @@
 -- The bound of Silence is sharp: 3k polls never lead to the token, and there is a run of 3k polls that are all counted.
-use Rattle.std.specs.Prelude.{ℕ, zero, suc, ◌+◌, ◌*◌, ◌^◌, ◌<◌, ◌≤◌, true, false, ◌≡◌, refl, List, [], ◌∷◌, length}
+use Rattle.std.specs.Prelude.{ℕ, zero, suc, ◌+◌, ◌*◌, ◌^◌, ◌<◌, ◌≤◌, true, false, ◌≡◌, refl, List, [], ◌∷◌, length, Option, Some}
 use Rattle.std.proofs.Common.{sym, ap, ◌∙◌, length-append, arith, suc-mul, add-one, one-add, le-leb}
 use Rattle.std.proofs.Math.Path.{subst}
 use borrow.Table.Steps.{cases}
-use Rattle.bit_times.specs.declared.Micros.{Micros}
+use Rattle.bit_times.specs.declared.micros.Micros.{Micros}
 use Rattle.bit_times.specs.Times.{byte_bits}
 use Rattle.bit_times.proofs.Laws.{time_grows}
-use Rattle.settings.specs.declared.Parameters.{Parameters}
+use Rattle.settings.specs.declared.parameters.Parameters.{Parameters}
 use Rattle.settings.specs.Settings.{slot_time_of}
 use Rattle.ring.specs.Ring.{Ring, others}
 use Rattle.codec_records.specs.Records.{head_of}
 use Rattle.codec_answers.specs.declared.Sent.{Sent}
 use Rattle.codec_answers.specs.declared.Sent.TheVariants.{Nothing, Token, StatusRequest, StatusResponse, Application}
-use Rattle.station.specs.declared.Activity.{Activity}
-use Rattle.station.specs.declared.Activity.TheVariants as activity
-use Rattle.station.specs.declared.PassTokenAttempt.TheVariants.{First}
-use Rattle.station.specs.declared.State.{State}
-use Rattle.station.specs.declared.Core.{Core}
-use Rattle.station.specs.declared.Counts.{Counts}
-use Rattle.station.specs.Whole.{Station, RingStep}
+use Rattle.station.specs.declared.state.PassTokenAttempt.TheVariants.{First}
+use Rattle.station.specs.declared.state.State.{State}
+use Rattle.station.specs.declared.parts.Core.{Core}
+use Rattle.station.specs.declared.parts.Counts.{Counts}
+use Rattle.station.specs.declared.station.Station.{Station}
+use Rattle.station.specs.Whole.{RingStep}
 use Rattle.station.specs.Steps.{sent_at}
 use Rattle.station_answer.specs.Counted.{counted_of}
 use Rattle.station_answer.specs.Answer.{Polled, polled_of}
@@ -87,7 +86,7 @@ evenly_quiet zero n step clock l = tt
 evenly_quiet (suc m) n step clock l = (silent_quiet n clock (room_here (suc m) step clock l), evenly_quiet m n step (clock + step) (room_on m step clock l))
 
 -- this long after a poll that sent, and the time of what it sent, the next poll comes
-next_after : (p : Parameters) (a : Activity) (now clock bytes most wait step : ℕ) → now ≡ clock → bytes ≤ most → a ≡ sent_at p (record { 0 = now }) bytes → bytes_time p most + wait ≤ step → slot_after a (clock + step) wait ≡ true
+next_after : (p : Parameters) (a : Option Micros) (now clock bytes most wait step : ℕ) → now ≡ clock → bytes ≤ most → a ≡ sent_at p (record { 0 = now }) bytes → bytes_time p most + wait ≤ step → slot_after a (clock + step) wait ≡ true
 unfolding sent_at slot_after
 next_after p a now clock bytes most wait step e l is room =
     let shorter = time_grows (byte_bits * bytes) (byte_bits * most) p.baudrate (omega arith) in
@@ -146,7 +145,7 @@ after_counted (bytes ∷ later) s a = rw (a.0, after_counted later (poll_of s by
 
 -- up to 3k + 1 there is a run of counted polls of every station that starts a token pass with known last bus activity, if the clock has
 -- room for as many turns
-counted_run : (s : Station) (last : Micros) (m : ℕ) → Start s → s.core.last_bus_activity ≡ activity.At last → m ≤ 3 * length (others s.token_ring) + 1 → last.0 + (slot_time_of s.p).0 + m * turn_time s.p < 2 ^ 48 → CountedRun s m
+counted_run : (s : Station) (last : Micros) (m : ℕ) → Start s → s.core.last_bus_activity ≡ Some last → m ≤ 3 * length (others s.token_ring) + 1 → last.0 + (slot_time_of s.p).0 + m * turn_time s.p < 2 ^ 48 → CountedRun s m
 unfolding slot_after
 counted_run s last m h a l room =
     let os = others s.token_ring in
@@ -162,7 +161,7 @@ counted_run s last m h a l room =
     }
 
 -- the bound is sharp for every station that starts a token pass so
-pub sharp : (s : Station) (last : Micros) → Start s → s.core.last_bus_activity ≡ activity.At last → last.0 + (slot_time_of s.p).0 + (3 * length (others s.token_ring) + 1) * turn_time s.p < 2 ^ 48 → Sharp s
+pub sharp : (s : Station) (last : Micros) → Start s → s.core.last_bus_activity ≡ Some last → last.0 + (slot_time_of s.p).0 + (3 * length (others s.token_ring) + 1) * turn_time s.p < 2 ^ 48 → Sharp s
 sharp s last h a room =
     let k = length (others s.token_ring) in
     let short = counted_run s last (3 * k) h a (omega arith) (room_less (3 * k) (turn_time s.p) _ room) in

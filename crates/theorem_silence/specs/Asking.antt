@@ -1,13 +1,13 @@
 -- What is found in the letter's case: among the polls one that asks the applications, and what the station sent and left before it. The
 -- proof is in proofs/Asking.
 use Rattle.std.specs.Prelude.{ℕ, suc, ◌≤◌, ◌≡◌, List, ◌∷◌, ◌++◌, length}
-use Rattle.settings.specs.declared.Parameters.{Parameters}
+use Rattle.settings.specs.declared.parameters.Parameters.{Parameters}
 use Rattle.ring.specs.Ring.{Ring}
 use Rattle.codec_answers.specs.declared.Sent.{Sent}
-use Rattle.station.specs.declared.State.{State}
-use Rattle.station.specs.declared.Core.{Core}
-use Rattle.station.specs.declared.Counts.{Counts}
-use Rattle.station.specs.Whole.{Station}
+use Rattle.station.specs.declared.state.State.{State}
+use Rattle.station.specs.declared.parts.Core.{Core}
+use Rattle.station.specs.declared.parts.Counts.{Counts}
+use Rattle.station.specs.declared.station.Station.{Station}
 use Rattle.theorem_silence.specs.Silence.{counted_in}
 use Rattle.theorem_silence.specs.Phases.{Phase, holding, todo, end_ring}
 use Rattle.theorem_silence.specs.OnePoll.{At}

@@ -1,13 +1,13 @@
 -- Every station that calls make meets the first two premises of Silence: accepted settings, and sound.
 use Rattle.std.specs.Prelude.{ℕ, Bool, false, ◌≡◌, List}
 use Rattle.std.proofs.Common.{sym, ap, subst, ◌∙◌}
-use Rattle.settings.specs.declared.Parameters.{Parameters}
+use Rattle.settings.specs.declared.parameters.Parameters.{Parameters}
 use Rattle.settings_rules.specs.Rules.{applications_refusal}
 use Rattle.settings_build.specs.Build.{first_refusal, plain_of}
 use Rattle.settings_build.proofs.Passes.{address_low}
-use Rattle.station.specs.declared.PassTokenAttempt.TheVariants.{First}
-use Rattle.station.specs.declared.State.TheVariants.{PassToken}
-use Rattle.station.specs.Whole.{Station}
+use Rattle.station.specs.declared.state.PassTokenAttempt.TheVariants.{First}
+use Rattle.station.specs.declared.state.State.TheVariants.{PassToken}
+use Rattle.station.specs.declared.station.Station.{Station}
 use Rattle.station.specs.Parts.{fresh_station}
 use Rattle.theorem_sound.specs.Sound.{Call, run, SoundStation}
 use Rattle.theorem_sound.proofs.Sound.{every_station_sound}

@@ -4,16 +4,15 @@
 -- words: the station has one other in its ring and starts a token pass; the bus stays silent. By the fourth counted poll it has sent
 -- three tokens to the neighbour and one to itself, the neighbour is out of the ring, and the station holds the token. By the fifth
 -- it has asked its applications, which are the cabinets.
-use Rattle.std.specs.Prelude.{ℕ, ◌≤◌, Bool, true, false, cond, not, ◌≡◌, List, [], ◌∷◌, ◌++◌}
-use Rattle.bit_times.specs.declared.Micros.{Micros}
+use Rattle.std.specs.Prelude.{ℕ, ◌≤◌, Bool, true, false, cond, not, ◌≡◌, List, [], ◌∷◌, ◌++◌, None}
+use Rattle.bit_times.specs.declared.micros.Micros.{Micros}
 use Rattle.ring.specs.Ring.{has, others}
 use Rattle.codec_decisions.specs.declared.Decision.{Decision}
 use Rattle.codec_decisions.specs.declared.Decision.TheVariants as decision
 use Rattle.codec_records.specs.Records.{head_of, decision_at}
 use Rattle.codec_answers.specs.declared.Sent.{Sent}
 use Rattle.codec_answers.specs.declared.Sent.TheVariants.{Nothing, Token, Application}
-use Rattle.station.specs.declared.OptionApplication.TheVariants as optionApplication
-use Rattle.station.specs.Whole.{Station}
+use Rattle.station.specs.declared.station.Station.{Station}
 use Rattle.station.specs.Parts.{state_number}
 use Rattle.station.specs.Steps.{to_use_token}
 use Rattle.station_hold.specs.Hold.{asked_of, holds_of}
@@ -40,7 +39,7 @@ wanted (decision.SendExpectReply address length) a high = Application address a 
 -- that does not decline, nothing if all decline.
 unfoldable pub asked_sent : List ℕ → ℕ → ℕ → Bool → Sent
 asked_sent bytes n turn high =
-    let asked = asked_of bytes n turn optionApplication.None high in
+    let asked = asked_of bytes n turn None high in
     cond asked.sends (wanted (decision_at bytes n asked.application high) asked.application high) Nothing
 
 -- The poll comes within the hold time. do_use_token first sets the end of hold, if the token's time is not that of the last token, and

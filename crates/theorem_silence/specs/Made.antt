@@ -1,17 +1,16 @@
 -- The stations that the calls of Scripts make, stage by stage, and their rings. That they make them is proved in proofs/Made.
-use Rattle.std.specs.Prelude.{ℕ, ◌<◌, true, false, not, ◌≡◌, List, [], ◌∷◌, eqb}
+use Rattle.std.specs.Prelude.{ℕ, ◌<◌, true, false, not, ◌≡◌, List, [], ◌∷◌, eqb, Some}
 use Rattle.ring.specs.declared.GapState.{GapState}
 use Rattle.ring.specs.declared.GapState.TheVariants.{Waiting, DoPoll}
 use Rattle.ring.specs.Ring.{Ring, has, fresh_of, claim_of, add_of}
 use Rattle.codec_telegrams.specs.declared.Telegram.TheVariants as telegram
 use Rattle.codec_records.specs.Records as records
-use Rattle.station.specs.declared.ConnectivityState.TheVariants as connectivity
-use Rattle.station.specs.declared.Activity.TheVariants as activity
-use Rattle.station.specs.declared.PassTokenAttempt.TheVariants.{First}
-use Rattle.station.specs.declared.State.{State}
-use Rattle.station.specs.declared.State.TheVariants.{PassToken, AwaitStatusResponse}
-use Rattle.station.specs.declared.Core.{Core}
-use Rattle.station.specs.Whole.{Station}
+use Rattle.station.specs.declared.state.ConnectivityState.TheVariants as connectivity
+use Rattle.station.specs.declared.state.PassTokenAttempt.TheVariants.{First}
+use Rattle.station.specs.declared.state.State.{State}
+use Rattle.station.specs.declared.state.State.TheVariants.{PassToken, AwaitStatusResponse}
+use Rattle.station.specs.declared.parts.Core.{Core}
+use Rattle.station.specs.declared.station.Station.{Station}
 use Rattle.station.specs.Parts.{fresh_station}
 use Rattle.station.specs.Steps as steps
 use Rattle.theorem_sound.specs.Sound.{run}
@@ -25,7 +24,7 @@ lowest_with claimed met s c r = station_of lowest 1 (record { claims = claimed; 
 -- an online core: the last token time, the end of hold, last activity, gap state
 abbrev pub core_at : ℕ → ℕ → ℕ → GapState → Core
 core_at token hold last gap =
-    record { last_token_time = record { 0 = token }; end_token_hold_time = record { 0 = hold }; last_bus_activity = activity.At (record { 0 = last }); gap_state = gap; pending_bytes = 0; next_application = 0; connectivity_state = connectivity.Online }
+    record { last_token_time = record { 0 = token }; end_token_hold_time = record { 0 = hold }; last_bus_activity = Some (record { 0 = last }); gap_state = gap; pending_bytes = 0; next_application = 0; connectivity_state = connectivity.Online }
 
 -- The stations on the way, each with any ring.
 

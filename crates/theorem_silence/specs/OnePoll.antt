@@ -1,19 +1,19 @@
 -- What one silent poll comes to at each place: the station stays where it is, or sends the one telegram that is next. That it does is
 -- proved in proofs/OnePoll.
 use Rattle.std.specs.Prelude.{ℕ, Bool, true, false, cond, ◌≡◌, List}
-use Rattle.bit_times.specs.declared.Micros.{Micros}
-use Rattle.settings.specs.declared.Parameters.{Parameters}
+use Rattle.bit_times.specs.declared.micros.Micros.{Micros}
+use Rattle.settings.specs.declared.parameters.Parameters.{Parameters}
 use Rattle.ring.specs.declared.GapState.TheVariants.{DoPoll}
 use Rattle.ring.specs.Ring.{Ring, others}
 use Rattle.codec_answers.specs.declared.Outcome.TheVariants as outcome
 use Rattle.codec_answers.specs.declared.Sent.{Sent}
 use Rattle.codec_answers.specs.declared.Sent.TheVariants as sent
 use Rattle.codec_answers.specs.Answers.{sent_bytes}
-use Rattle.station.specs.declared.ConnectivityState.TheVariants as connectivity
-use Rattle.station.specs.declared.PassTokenAttempt.{PassTokenAttempt}
-use Rattle.station.specs.declared.State.{State}
-use Rattle.station.specs.declared.State.TheVariants.{ClaimToken, PassToken, CheckTokenPass, AwaitStatusResponse}
-use Rattle.station.specs.declared.Core.{Core}
+use Rattle.station.specs.declared.state.ConnectivityState.TheVariants as connectivity
+use Rattle.station.specs.declared.state.PassTokenAttempt.{PassTokenAttempt}
+use Rattle.station.specs.declared.state.State.{State}
+use Rattle.station.specs.declared.state.State.TheVariants.{ClaimToken, PassToken, CheckTokenPass, AwaitStatusResponse}
+use Rattle.station.specs.declared.parts.Core.{Core}
 use Rattle.station.specs.Whole.{RingStep}
 use Rattle.station.specs.Parts.{with_activity}
 use Rattle.station.specs.Steps.{to_use_token, marked_at, sent_at, busy_of, done_of, ring_step_of}

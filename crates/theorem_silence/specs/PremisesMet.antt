@@ -2,9 +2,9 @@
 -- proofs/Shown.
 use Rattle.std.specs.Prelude.{ℕ, ◌≤◌, Bool, ◌≡◌, length}
 use Rattle.ring.specs.Ring.{others}
-use Rattle.station.specs.declared.PassTokenAttempt.TheVariants.{First}
-use Rattle.station.specs.declared.State.TheVariants.{PassToken}
-use Rattle.station.specs.Whole.{Station}
+use Rattle.station.specs.declared.state.PassTokenAttempt.TheVariants.{First}
+use Rattle.station.specs.declared.state.State.TheVariants.{PassToken}
+use Rattle.station.specs.declared.station.Station.{Station}
 use Rattle.theorem_silence.specs.Silence.{Start}
 use Rattle.theorem_silence.specs.Calls.{ByCalls}
 use Rattle.theorem_silence.specs.Sharp.{Sharp}

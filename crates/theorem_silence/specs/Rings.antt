@@ -1,11 +1,10 @@
 -- Rings of station 0 whose members are 0, 1, .. k.
-use Rattle.std.specs.Prelude.{ℕ, zero, suc, ◌+◌, ◌≤◌, ◌<◌, Bool, true, false, cond, not, ◌||◌, ◌≡◌, refl, List, [], ◌∷◌, length, eqb, leb, ltb}
+use Rattle.std.specs.Prelude.{ℕ, zero, suc, ◌+◌, ◌≤◌, ◌<◌, Bool, true, false, cond, not, ◌||◌, ◌≡◌, refl, List, [], ◌∷◌, length, eqb, leb, ltb, Option}
 use Rattle.std.proofs.Common.{sym, ap, ◌∙◌, arith, le-leb, le-ltb, lt-ltb, ne_eqb, leb-true, leb-false, eqb-true}
 use Rattle.std.proofs.lemmas.Bool.{lt-leb}
 use borrow.Table.Steps.{cases}
 use Rattle.ring_addresses.specs.Set.{up, walk, between_of, keeps, same_set}
 use Rattle.ring_addresses.specs.SetLaws.{true≢false, walk_ext, walk_nobody, same_then}
-use Rattle.ring.specs.declared.NextStation.{NextStation}
 use Rattle.ring.specs.Ring.{Ring, has, others, first_of, next_of, polls_on, polls, witness_of}
 use Rattle.ring.specs.Laws.{SoundRing}
 use Rattle.ring.proofs.Laws.{next_first, next_other, witness_has}
@@ -118,7 +117,7 @@ above_one (suc (suc n)) a b = omega arith
 pub one_asked : (r : Ring) → SoundRing r → r.own ≡ 0 → has r 1 ≡ false → polls r 1 ≡ true
 unfolding polls
 one_asked r s own out =
-    ap (λ (o : ℕ). polls_on (next_of r) o 1) own ∙ ap (λ (n : NextStation). polls_on n 0 1) (next_first r s) ∙ go (others r) refl
+    ap (λ (o : ℕ). polls_on (next_of r) o 1) own ∙ ap (λ (n : Option ℕ). polls_on n 0 1) (next_first r s) ∙ go (others r) refl
   where
     go : (os : List ℕ) → others r ≡ os → polls_on (first_of os) 0 1 ≡ true
     go [] e = refl

@@ -1,7 +1,7 @@
 -- Calls, written down: poll records as bytes, and lists of calls that lead a new station to a token pass.
 use Rattle.std.specs.Prelude.{ℕ, zero, suc, ◌+◌, ◌*◌, ◌/◌, ◌%◌, Bool, true, false, List, [], ◌∷◌, ◌++◌, length}
-use Rattle.bit_times.specs.declared.Baud.TheVariants.{B500000}
-use Rattle.settings.specs.declared.Parameters.{Parameters}
+use Rattle.bit_times.specs.declared.baud.Baud.TheVariants.{B500000}
+use Rattle.settings.specs.declared.parameters.Parameters.{Parameters}
 use Rattle.settings.specs.Settings.{default_of}
 use Rattle.theorem_sound.specs.Sound.{Call, poll}
 use Rattle.theorem_sound.specs.Sound as call

@@ -1,13 +1,13 @@
 -- What it is that the bound of Silence is sharp: 3k polls that do not lead to the token, and a run of 3k + 1 polls that are all counted and
 -- do. The proof is in proofs/Sharp.
 use Rattle.std.specs.Prelude.{ℕ, zero, suc, ◌+◌, ◌*◌, true, false, ◌≡◌, List, [], ◌∷◌, length}
-use Rattle.bit_times.specs.declared.Micros.{Micros}
+use Rattle.bit_times.specs.declared.micros.Micros.{Micros}
 use Rattle.bit_times.specs.Times.{byte_bits, time_of}
-use Rattle.settings.specs.declared.Parameters.{Parameters}
+use Rattle.settings.specs.declared.parameters.Parameters.{Parameters}
 use Rattle.settings.specs.Settings.{slot_time_of}
 use Rattle.ring.specs.Ring.{others}
 use Rattle.codec_records.specs.Records.{head_of}
-use Rattle.station.specs.Whole.{Station}
+use Rattle.station.specs.declared.station.Station.{Station}
 use Rattle.station_poll.specs.Poll.{poll_of}
 use Rattle.theorem_silence.specs.Silence.{AllQuiet, holds_token, until, counted_in, slot_after}
 use Rattle.theorem_silence.specs.Times.{pause_time}

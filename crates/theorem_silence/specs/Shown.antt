@@ -1,13 +1,13 @@
 -- The rings and the stations by which the premises of Silence are shown met; and the letter's case by the clock. The proofs are in
 -- proofs/Shown.
 use Rattle.std.specs.Prelude.{ℕ, zero, suc, true, false, ◌≡◌, List, [], ◌∷◌}
-use Rattle.bit_times.specs.declared.Baud.TheVariants.{B500000}
-use Rattle.settings.specs.declared.Parameters.{Parameters}
+use Rattle.bit_times.specs.declared.baud.Baud.TheVariants.{B500000}
+use Rattle.settings.specs.declared.parameters.Parameters.{Parameters}
 use Rattle.settings.specs.Settings.{default_of}
 use Rattle.ring.specs.Ring.{Ring, make, others, fresh_of, witness_of}
 use Rattle.ring.specs.Worked.{among}
 use Rattle.codec_answers.specs.declared.Sent.TheVariants.{Token, Application}
-use Rattle.station.specs.Whole.{Station}
+use Rattle.station.specs.declared.station.Station.{Station}
 use Rattle.station.specs.Parts.{fresh_station}
 use Rattle.theorem_sound.specs.Sound.{Call, run}
 use Rattle.theorem_sound.specs.Sound as call

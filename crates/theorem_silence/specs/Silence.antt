@@ -10,8 +10,9 @@
 --
 -- Document 01: "holds the token" is the state UseToken, "start a token pass" the state PassToken; a poll with unknown activity is
 -- not counted. Document 02 (P5): with no others left nobody is next in the ring, and the last token goes to the station itself.
-use Rattle.std.specs.Prelude.{ℕ, ◌+◌, ◌-◌, ◌*◌, ◌/◌, ◌≤◌, Bool, true, false, cond, ◌≡◌, List, [], ◌∷◌, ◌++◌, length, drop, leb, eqb}
-use Rattle.settings.specs.declared.Parameters.{Parameters}
+use Rattle.std.specs.Prelude.{ℕ, ◌+◌, ◌-◌, ◌*◌, ◌/◌, ◌≤◌, Bool, true, false, cond, ◌≡◌, List, [], ◌∷◌, ◌++◌, length, drop, leb, eqb, Option, Some, None}
+use Rattle.bit_times.specs.declared.micros.Micros.{Micros}
+use Rattle.settings.specs.declared.parameters.Parameters.{Parameters}
 use Rattle.settings.specs.Settings.{slot_time_of}
 use Rattle.settings_build.specs.Build.{first_refusal, plain_of}
 use Rattle.ring.specs.declared.GapState.{GapState}
@@ -20,13 +21,11 @@ use Rattle.ring.specs.Ring.{Ring, others}
 use Rattle.codec_records.specs.Records.{head_of, record_refusal}
 use Rattle.codec_answers.specs.declared.Sent.{Sent}
 use Rattle.codec_answers.specs.declared.Sent.TheVariants.{Nothing, Token, StatusRequest, StatusResponse, Application}
-use Rattle.station.specs.declared.ConnectivityState.TheVariants as connectivity
-use Rattle.station.specs.declared.Activity.{Activity}
-use Rattle.station.specs.declared.Activity.TheVariants as activity
-use Rattle.station.specs.declared.PassTokenAttempt.TheVariants.{First}
-use Rattle.station.specs.declared.State.TheVariants.{PassToken}
-use Rattle.station.specs.declared.Core.{Core}
-use Rattle.station.specs.Whole.{Station}
+use Rattle.station.specs.declared.state.ConnectivityState.TheVariants as connectivity
+use Rattle.station.specs.declared.state.PassTokenAttempt.TheVariants.{First}
+use Rattle.station.specs.declared.state.State.TheVariants.{PassToken}
+use Rattle.station.specs.declared.parts.Core.{Core}
+use Rattle.station.specs.declared.station.Station.{Station}
 use Rattle.station.specs.Parts.{state_number}
 use Rattle.station_pass.specs.Pass.{gap_advanced}
 use Rattle.station_poll.specs.Poll.{poll_of}
@@ -102,9 +101,9 @@ sent_until s [] = []
 sent_until s (bytes ∷ later) = cond (holds_token s) [] (told (poll_of s bytes).answer.sent ++ sent_until (poll_of s bytes).station later)
 
 -- a time comes at least one slot time after known last bus activity
-unfoldable pub slot_after : Activity → ℕ → ℕ → Bool
-slot_after activity.Unknown now slot = false
-slot_after (activity.At last) now slot = leb (last.0 + slot) now
+unfoldable pub slot_after : Option Micros → ℕ → ℕ → Bool
+slot_after None now slot = false
+slot_after (Some last) now slot = leb (last.0 + slot) now
 
 -- a poll is counted: its clock comes at least one slot time after the last bus activity, which is known before the poll
 unfoldable pub counted : Station → List ℕ → Bool

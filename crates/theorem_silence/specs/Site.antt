@@ -13,7 +13,7 @@ use Rattle.codec_telegrams.specs.Words as words
 use Rattle.codec_decisions.specs.Decisions as decisions
 use Rattle.codec_records.specs.Records as records
 use Rattle.codec_answers.specs.declared.Sent.TheVariants.{Application}
-use Rattle.station.specs.Whole.{Station}
+use Rattle.station.specs.declared.station.Station.{Station}
 use Rattle.station.specs.Parts.{fresh_station, fresh_core, with_activity, with_gap, with_pending, with_token_times, with_next_application, with_connectivity, is_offline}
 use Rattle.station.specs.Steps as steps
 use Rattle.station_hear_listen.specs.HearListen as hear

@@ -1,14 +1,14 @@
 -- What a run of silent polls from any place comes to. That it does, and Silence with it, is proved in proofs/Theorem.
 use Rattle.std.specs.Prelude.{ℕ, ◌≤◌, true, false, ◌≡◌, List, [], ◌++◌, length}
-use Rattle.bit_times.specs.declared.Micros.{Micros}
-use Rattle.settings.specs.declared.Parameters.{Parameters}
+use Rattle.bit_times.specs.declared.micros.Micros.{Micros}
+use Rattle.settings.specs.declared.parameters.Parameters.{Parameters}
 use Rattle.ring.specs.Ring.{Ring, others}
 use Rattle.codec_records.specs.Records.{head_of}
 use Rattle.codec_answers.specs.declared.Sent.{Sent}
-use Rattle.station.specs.declared.State.{State}
-use Rattle.station.specs.declared.Core.{Core}
-use Rattle.station.specs.declared.Counts.{Counts}
-use Rattle.station.specs.Whole.{Station}
+use Rattle.station.specs.declared.state.State.{State}
+use Rattle.station.specs.declared.parts.Core.{Core}
+use Rattle.station.specs.declared.parts.Counts.{Counts}
+use Rattle.station.specs.declared.station.Station.{Station}
 use Rattle.theorem_silence.specs.Silence.{holds_token, until, sent_until, counted_in}
 use Rattle.theorem_silence.specs.Phases.{Phase, holding, todo, in_ring, end_ring, advance}
 use Rattle.theorem_silence.specs.OnePoll.{At}

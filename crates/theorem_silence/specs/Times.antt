@@ -1,17 +1,15 @@
 -- What accepted settings give: a slot time that is not zero and not shorter than the pause; and what a counted poll then knows.
-use Rattle.std.specs.Prelude.{ℕ, ◌+◌, ◌≤◌, ◌≡◌}
+use Rattle.std.specs.Prelude.{ℕ, ◌+◌, ◌≤◌, ◌≡◌, Option, Some, None}
 use Rattle.std.proofs.Math.Bool.{true, false}
 use Rattle.std.proofs.Math.Path.{refl}
 use Rattle.std.proofs.Common.{sym, arith}
 use borrow.Author.Tests.{le-leb, lt-leb, leb-true}
-use Rattle.bit_times.specs.declared.Micros.{Micros}
+use Rattle.bit_times.specs.declared.micros.Micros.{Micros}
 use Rattle.bit_times.specs.Times.{pause_bits, least_slot_bits, time_of}
 use Rattle.bit_times.proofs.Laws.{listed, time_some, time_grows}
-use Rattle.settings.specs.declared.Parameters.{Parameters}
+use Rattle.settings.specs.declared.parameters.Parameters.{Parameters}
 use Rattle.ring_addresses.specs.SetLaws.{true≢false}
-use Rattle.station.specs.declared.Activity.{Activity}
-use Rattle.station.specs.declared.Activity.TheVariants as activity
-use Rattle.station.specs.declared.Core.{Core}
+use Rattle.station.specs.declared.parts.Core.{Core}
 use Rattle.station.specs.Parts.{with_activity}
 use Rattle.station.specs.Steps.{known_at, elapsed_of, busy_of, waited_of, pause_of, slot_expired_of}
 use Rattle.theorem_silence.specs.Silence.{slot_after}
@@ -43,10 +41,10 @@ slotted p e =
     record { some = time_some _ p.baudrate (omega arith); pause = time_grows 33 _ p.baudrate (omega arith) }
 
 -- what comes after a longer time comes after a shorter one
-pub after_shorter : (a : Activity) (now short long : ℕ) → short ≤ long → slot_after a now long ≡ true → slot_after a now short ≡ true
+pub after_shorter : (a : Option Micros) (now short long : ℕ) → short ≤ long → slot_after a now long ≡ true → slot_after a now short ≡ true
 unfolding slot_after
-after_shorter activity.Unknown now short long l e = absurd (true≢false (sym e))
-after_shorter (activity.At last) now short long l e = le-leb (last.0 + short) now (omega (arith, leb-true (last.0 + long) now e))
+after_shorter None now short long l e = absurd (true≢false (sym e))
+after_shorter (Some last) now short long l e = le-leb (last.0 + short) now (omega (arith, leb-true (last.0 + long) now e))
 
 -- What the poll's tests say of a counted poll, and what a counted poll's tests say.
 module _ (p : Parameters) (w : Slotted p) (c : Core) (now : Micros) where
@@ -55,18 +53,18 @@ module _ (p : Parameters) (w : Slotted p) (c : Core) (now : Micros) where
   unfolding slot_after busy_of
   counted_free = go c.last_bus_activity
     where
-      go : (a : Activity) → slot_after a now.0 (slot_time_of p).0 ≡ true → busy_of a now ≡ false
-      go activity.Unknown e = refl
-      go (activity.At last) e = lt-leb now.0 last.0 (omega (arith, leb-true (last.0 + (slot_time_of p).0) now.0 e, w.some))
+      go : (a : Option Micros) → slot_after a now.0 (slot_time_of p).0 ≡ true → busy_of a now ≡ false
+      go None e = refl
+      go (Some last) e = lt-leb now.0 last.0 (omega (arith, leb-true (last.0 + (slot_time_of p).0) now.0 e, w.some))
 
   -- a time that has passed since known last activity is found over
   pub after_over : (time : Micros) → slot_after c.last_bus_activity now.0 time.0 ≡ true → (waited_of c now time).over ≡ true
   unfolding slot_after waited_of elapsed_of known_at
   after_over time = go c.last_bus_activity
     where
-      go : (a : Activity) → slot_after a now.0 time.0 ≡ true → elapsed_of now (known_at a now) time ≡ true
-      go activity.Unknown e = absurd (true≢false (sym e))
-      go (activity.At last) e = e
+      go : (a : Option Micros) → slot_after a now.0 time.0 ≡ true → elapsed_of now (known_at a now) time ≡ true
+      go None e = absurd (true≢false (sym e))
+      go (Some last) e = e
 
   -- a counted poll finds the pause over
   pub counted_paused : slot_after c.last_bus_activity now.0 (slot_time_of p).0 ≡ true → (pause_of p c now).over ≡ true

@@ -1,19 +1,17 @@
 -- An answer fits its 64 bits: every answer of a sound station lies within document 01's ranges (Fits), so `pack` cuts nothing off, and
 -- what `unpack` reads from the answer's word is the answer.
-use Rattle.std.specs.Prelude.{ℕ, zero, suc, ◌^◌, ◌*◌, ◌<◌, ◌≤◌, Bool, cond, List, [], ◌∷◌, ◌≡◌, length, ltb, leb, eqb}
+use Rattle.std.specs.Prelude.{ℕ, zero, suc, ◌^◌, ◌*◌, ◌<◌, ◌≤◌, Bool, cond, List, [], ◌∷◌, ◌≡◌, length, ltb, leb, eqb, Option, Some, None}
 use Rattle.std.proofs.Math.Bool.{true, false}
 use Rattle.std.proofs.Math.Path.{refl}
 use Rattle.std.proofs.Common.{arith, eqb-true, lit<}
 use borrow.Table.Steps.{cases}
 use Rattle.std.proofs.Math.Dec.{lit≤}
 use Rattle.codec_fields.specs.Fields.{field_of, bit_at, zeros_or14}
-use Rattle.bit_times.specs.declared.Micros.{Micros}
-use Rattle.settings.specs.declared.Parameters.{Parameters}
+use Rattle.bit_times.specs.declared.micros.Micros.{Micros}
+use Rattle.settings.specs.declared.parameters.Parameters.{Parameters}
 use Rattle.ring.specs.Ring.{Ring}
 use Rattle.ring.specs.declared.GapState.{GapState}
 use Rattle.ring.specs.declared.GapState.TheVariants.{Waiting, DoPoll}
-use Rattle.ring.specs.declared.NextStation.{NextStation}
-use Rattle.ring.specs.declared.NextStation.TheVariants.{Nobody, Neighbour}
 use Rattle.ring.proofs.Laws.{next_number_low}
 use Rattle.codec_decisions.specs.declared.Decision.{Decision}
 use Rattle.codec_decisions.specs.declared.Decision.TheVariants as decision
@@ -28,28 +26,24 @@ use Rattle.codec_answers.specs.declared.Outcome.{Outcome}
 use Rattle.codec_answers.specs.declared.Outcome.TheVariants as outcome
 use Rattle.codec_answers.specs.declared.Sent.{Sent}
 use Rattle.codec_answers.specs.declared.Notice.{Notice}
-use Rattle.codec_answers.specs.declared.Unpacked.TheVariants.{Is}
 use Rattle.codec_answers.specs.Answers.{last_state, answer_word, refusal_known, unpack_of, SentFits, NoticeFits, Fits}
 use Rattle.codec_answers.specs.Laws.{refused_fits, answer_unpacks}
-use Rattle.station.specs.declared.OptionAddress.{OptionAddress}
-use Rattle.station.specs.declared.OptionAddress.TheVariants as optionAddress
-use Rattle.station.specs.declared.PassTokenAttempt.{PassTokenAttempt}
-use Rattle.station.specs.declared.PassTokenAttempt.TheVariants.{First, Second, Third}
-use Rattle.station.specs.declared.UseTokenData.{UseTokenData}
-use Rattle.station.specs.declared.ConnectivityState.{ConnectivityState}
-use Rattle.station.specs.declared.ConnectivityState.TheVariants as connectivity
-use Rattle.station.specs.declared.State.{State}
-use Rattle.station.specs.declared.State.TheVariants.{Offline, ListenToken, ActiveIdle, UseToken, ClaimToken, AwaitDataResponse, PassToken, CheckTokenPass, AwaitStatusResponse, PassiveIdle}
-use Rattle.station.specs.declared.Core.{Core}
-use Rattle.station.specs.declared.Counts.{Counts}
-use Rattle.station.specs.declared.Event.{Event}
-use Rattle.station.specs.Whole.{Station, RingStep, Heard}
-use Rattle.station.specs.declared.Step.{Step}
+use Rattle.station.specs.declared.state.PassTokenAttempt.{PassTokenAttempt}
+use Rattle.station.specs.declared.state.PassTokenAttempt.TheVariants.{First, Second, Third}
+use Rattle.station.specs.declared.state.UseTokenData.{UseTokenData}
+use Rattle.station.specs.declared.state.ConnectivityState.{ConnectivityState}
+use Rattle.station.specs.declared.state.ConnectivityState.TheVariants as connectivity
+use Rattle.station.specs.declared.state.State.{State}
+use Rattle.station.specs.declared.state.State.TheVariants.{Offline, ListenToken, ActiveIdle, UseToken, ClaimToken, AwaitDataResponse, PassToken, CheckTokenPass, AwaitStatusResponse, PassiveIdle}
+use Rattle.station.specs.declared.parts.Core.{Core}
+use Rattle.station.specs.declared.parts.Counts.{Counts}
+use Rattle.station.specs.declared.done.Event.{Event}
+use Rattle.station.specs.declared.station.Station.{Station}
+use Rattle.station.specs.Whole.{RingStep, Heard, Step}
 use Rattle.station.specs.Parts.{with_activity, with_gap, with_next_application, with_connectivity, fresh_core, is_offline, state_number}
 use Rattle.station.specs.Steps.{ongoing_of, bus_activity_of, waited_of, pause_of, slot_expired_of, token_lost_wait_of, done_of, transmit_of, with_event, ring_step_of}
 use Rattle.station_claim.specs.Claim.{claim_token_of}
-use Rattle.station_hold.specs.declared.Asked.{Asked}
-use Rattle.station_hold.specs.Hold.{valid_response, holds_of, asked_of, app_transmit_of, use_pass_of, use_apps_after, use_apps_of, use_token_timed, use_token_of, received_of, with_notice, timeout_of, await_data_of}
+use Rattle.station_hold.specs.Hold.{Asked, valid_response, holds_of, asked_of, app_transmit_of, use_pass_of, use_apps_after, use_apps_of, use_token_timed, use_token_of, received_of, with_notice, timeout_of, await_data_of}
 use Rattle.station_listen.specs.Listen.{handle_lost_token, respond_of, listen_response, consumed_all, listen_token_on, listen_token_of, active_response, active_idle_on, active_idle_of}
 use Rattle.station_passive.specs.Passive.{passive_idle_of}
 use Rattle.station_pass.specs.Pass.{pass_sent_on, pass_send, pass_poll_on, pass_poll, pass_token_of}
@@ -182,36 +176,36 @@ module _ (p : Parameters) (n : ℕ) (bytes : List ℕ) (count : ℕ) (now : Micr
   respond_fits x y c r source type l =
       either Fit (pause_of p c now).over _ _ (record { step_fits = transmit_fits p _ _ now _ l }) (record { step_fits = done_fits _ _ _ })
 
-  listen_on_fits : (q : OptionAddress) (c : Core) (r : Ring) (collisions : ℕ) → Low q → Fit (listen_token_on q p c r now collisions bytes n count)
+  listen_on_fits : (q : Option ℕ) (c : Core) (r : Ring) (collisions : ℕ) → Low q → Fit (listen_token_on q p c r now collisions bytes n count)
   unfolding listen_token_on listen_response
-  listen_on_fits optionAddress.None c r collisions l = all_fits _
-  listen_on_fits (optionAddress.Some source) c r collisions l = respond_fits _ _ c r source _ l
+  listen_on_fits None c r collisions l = all_fits _
+  listen_on_fits (Some source) c r collisions l = respond_fits _ _ c r source _ l
 
-  listen_fits : (c : Core) (r : Ring) (q : OptionAddress) (collisions : ℕ) → Low q → Fit (listen_token_of p c r now q collisions bytes n count)
+  listen_fits : (c : Core) (r : Ring) (q : Option ℕ) (collisions : ℕ) → Low q → Fit (listen_token_of p c r now q collisions bytes n count)
   unfolding listen_token_of
   listen_fits c r q collisions l = lost_fits c r _ (λ d. listen_on_fits q d r collisions l)
 
   -- do_active_idle
-  active_on_fits : (q : OptionAddress) (c : Core) (r : Ring) (m : OptionAddress) (collisions : ℕ) → Low q → Fit (active_idle_on q p c r now m collisions bytes n count)
+  active_on_fits : (q : Option ℕ) (c : Core) (r : Ring) (m : Option ℕ) (collisions : ℕ) → Low q → Fit (active_idle_on q p c r now m collisions bytes n count)
   unfolding active_idle_on active_response
-  active_on_fits optionAddress.None c r m collisions l = all_fits _
-  active_on_fits (optionAddress.Some source) c r m collisions l = respond_fits _ _ c r source _ l
+  active_on_fits None c r m collisions l = all_fits _
+  active_on_fits (Some source) c r m collisions l = respond_fits _ _ c r source _ l
 
-  active_fits : (c : Core) (r : Ring) (q m : OptionAddress) (collisions : ℕ) → Low q → Fit (active_idle_of p c r now q m collisions bytes n count)
+  active_fits : (c : Core) (r : Ring) (q m : Option ℕ) (collisions : ℕ) → Low q → Fit (active_idle_of p c r now q m collisions bytes n count)
   unfolding active_idle_of
   active_fits c r q m collisions l = lost_fits c r _ (λ d. active_on_fits q d r m collisions l)
 
   -- do_passive_idle
-  passive_fits_on : (q : OptionAddress) (c : Core) (r : Ring) → Low q → Fit (passive_idle_of p c r now q bytes n count)
+  passive_fits_on : (q : Option ℕ) (c : Core) (r : Ring) → Low q → Fit (passive_idle_of p c r now q bytes n count)
   unfolding passive_idle_of
-  passive_fits_on optionAddress.None c r l = all_fits _
-  passive_fits_on (optionAddress.Some source) c r l = respond_fits _ _ c r source _ l
+  passive_fits_on None c r l = all_fits _
+  passive_fits_on (Some source) c r l = respond_fits _ _ c r source _ l
 
   -- do_pass_token
-  pass_sent_fits : (x : NextStation) (c : Core) (a : PassTokenAttempt) (to : ℕ) (r : Ring) → to < 126 → Fit (pass_sent_on x p c now a to r)
+  pass_sent_fits : (x : Option ℕ) (c : Core) (a : PassTokenAttempt) (to : ℕ) (r : Ring) → to < 126 → Fit (pass_sent_on x p c now a to r)
   unfolding pass_sent_on
-  pass_sent_fits Nobody c a to r l = record { step_fits = transmit_fits p _ _ now _ (omega arith) }
-  pass_sent_fits (Neighbour next) c a to r l = record { step_fits = transmit_fits p _ _ now _ (omega arith) }
+  pass_sent_fits None c a to r l = record { step_fits = transmit_fits p _ _ now _ (omega arith) }
+  pass_sent_fits (Some next) c a to r l = record { step_fits = transmit_fits p _ _ now _ (omega arith) }
 
   pass_send_fits : (c : Core) (r : Ring) (a : PassTokenAttempt) → RingGood p r → Fit (pass_send p c r now a)
   unfolding pass_send
@@ -448,5 +442,5 @@ every_answer_fits s offline w = offline_fits s w
 every_answer_fits s passive w = passive_fits s w
 
 -- so what is read from its 64 bits is the answer itself
-pub every_answer_reads_back : (s : Station) (c : Call) → SoundStation s → unpack_of (answer_word (answer_to s c)) ≡ Is (answer_to s c)
+pub every_answer_reads_back : (s : Station) (c : Call) → SoundStation s → unpack_of (answer_word (answer_to s c)) ≡ Some (answer_to s c)
 every_answer_reads_back s c w = answer_unpacks (answer_to s c) (every_answer_fits s c w)

@@ -1,30 +1,26 @@
 -- What guards a send: a step that asks whether a time is over sends only where it is, and so it is with a timeout that is told (`Guarded`
 -- and `Told` of specs/Guarded).
-use Rattle.std.specs.Prelude.{ℕ, Bool, cond, ◌≡◌, refl, List, ltb, eqb}
+use Rattle.std.specs.Prelude.{ℕ, Bool, cond, ◌≡◌, refl, List, ltb, eqb, Option, Some, None}
 use Rattle.std.proofs.Math.Bool.{true, false}
 use Rattle.std.proofs.Common.{sym, ◌∙◌}
 use Rattle.std.proofs.Math.Path.{ap}
-use Rattle.bit_times.specs.declared.Micros.{Micros}
+use Rattle.bit_times.specs.declared.micros.Micros.{Micros}
 use Rattle.bit_times.specs.Times.{pause_bits, time_of}
-use Rattle.settings.specs.declared.Parameters.{Parameters}
+use Rattle.settings.specs.declared.parameters.Parameters.{Parameters}
 use Rattle.ring.specs.Ring.{Ring}
 use Rattle.codec_telegrams.specs.declared.ResponseState.{ResponseState}
 use Rattle.codec_telegrams.specs.declared.Telegram.{Telegram}
 use Rattle.codec_telegrams.specs.declared.Telegram.TheVariants as telegram
 use Rattle.codec_answers.specs.declared.Outcome.{Outcome}
 use Rattle.codec_answers.specs.declared.Notice.{Notice}
-use Rattle.station.specs.declared.Activity.{Activity}
-use Rattle.station.specs.declared.OptionAddress.{OptionAddress}
-use Rattle.station.specs.declared.OptionAddress.TheVariants as optionAddress
-use Rattle.station.specs.declared.PassTokenAttempt.{PassTokenAttempt}
-use Rattle.station.specs.declared.PassTokenAttempt.TheVariants.{First, Second, Third}
-use Rattle.station.specs.declared.UseTokenData.{UseTokenData}
-use Rattle.station.specs.declared.State.{State}
-use Rattle.station.specs.declared.State.TheVariants.{Offline, ListenToken, ActiveIdle, UseToken, ClaimToken, AwaitDataResponse, PassToken, CheckTokenPass, AwaitStatusResponse, PassiveIdle}
-use Rattle.station.specs.declared.Core.{Core}
-use Rattle.station.specs.declared.Event.{Event}
-use Rattle.station.specs.declared.Step.{Step}
-use Rattle.station.specs.Whole.{RingStep, Heard}
+use Rattle.station.specs.declared.state.PassTokenAttempt.{PassTokenAttempt}
+use Rattle.station.specs.declared.state.PassTokenAttempt.TheVariants.{First, Second, Third}
+use Rattle.station.specs.declared.state.UseTokenData.{UseTokenData}
+use Rattle.station.specs.declared.state.State.{State}
+use Rattle.station.specs.declared.state.State.TheVariants.{Offline, ListenToken, ActiveIdle, UseToken, ClaimToken, AwaitDataResponse, PassToken, CheckTokenPass, AwaitStatusResponse, PassiveIdle}
+use Rattle.station.specs.declared.parts.Core.{Core}
+use Rattle.station.specs.declared.done.Event.{Event}
+use Rattle.station.specs.Whole.{Step, RingStep, Heard}
 use Rattle.station.specs.Parts.{with_activity, state_number}
 use Rattle.station.specs.Steps.{known_at, elapsed_of, waited_of, pause_of, slot_expired_of, token_lost_wait_of, done_of, with_event}
 use Rattle.station_claim.specs.Claim.{claim_token_of}
@@ -108,30 +104,30 @@ module _ (p : Parameters) (now : Micros) where
   respond_guarded x y c r source type = tested_ring _ _ _ (done_guarded _ _ _ _)
 
   -- do_listen_token
-  listen_on_guarded : (q : OptionAddress) (c : Core) (r : Ring) (k : ℕ) (bytes : List ℕ) (n count : ℕ) → Guarded (Pause c) (listen_token_on q p c r now k bytes n count).step
+  listen_on_guarded : (q : Option ℕ) (c : Core) (r : Ring) (k : ℕ) (bytes : List ℕ) (n count : ℕ) → Guarded (Pause c) (listen_token_on q p c r now k bytes n count).step
   unfolding listen_token_on listen_response
-  listen_on_guarded optionAddress.None c r k bytes n count = consumed_guarded _ _ count
-  listen_on_guarded (optionAddress.Some source) c r k bytes n count = respond_guarded _ _ c r source _
+  listen_on_guarded None c r k bytes n count = consumed_guarded _ _ count
+  listen_on_guarded (Some source) c r k bytes n count = respond_guarded _ _ c r source _
 
-  listen_guarded : (c : Core) (r : Ring) (q : OptionAddress) (k : ℕ) (bytes : List ℕ) (n count : ℕ) → Guarded (Pause c) (listen_token_of p c r now q k bytes n count).step
+  listen_guarded : (c : Core) (r : Ring) (q : Option ℕ) (k : ℕ) (bytes : List ℕ) (n count : ℕ) → Guarded (Pause c) (listen_token_of p c r now q k bytes n count).step
   unfolding listen_token_of
   listen_guarded c r q k bytes n count = lost_guarded c r _ (λ d. listen_on_guarded q d r k bytes n count)
 
   -- do_active_idle
-  active_on_guarded : (q : OptionAddress) (c : Core) (r : Ring) (m : OptionAddress) (k : ℕ) (bytes : List ℕ) (n count : ℕ) → Guarded (Pause c) (active_idle_on q p c r now m k bytes n count).step
+  active_on_guarded : (q : Option ℕ) (c : Core) (r : Ring) (m : Option ℕ) (k : ℕ) (bytes : List ℕ) (n count : ℕ) → Guarded (Pause c) (active_idle_on q p c r now m k bytes n count).step
   unfolding active_idle_on active_response
-  active_on_guarded optionAddress.None c r m k bytes n count = consumed_guarded _ _ count
-  active_on_guarded (optionAddress.Some source) c r m k bytes n count = respond_guarded _ _ c r source _
+  active_on_guarded None c r m k bytes n count = consumed_guarded _ _ count
+  active_on_guarded (Some source) c r m k bytes n count = respond_guarded _ _ c r source _
 
-  active_guarded : (c : Core) (r : Ring) (q m : OptionAddress) (k : ℕ) (bytes : List ℕ) (n count : ℕ) → Guarded (Pause c) (active_idle_of p c r now q m k bytes n count).step
+  active_guarded : (c : Core) (r : Ring) (q m : Option ℕ) (k : ℕ) (bytes : List ℕ) (n count : ℕ) → Guarded (Pause c) (active_idle_of p c r now q m k bytes n count).step
   unfolding active_idle_of
   active_guarded c r q m k bytes n count = lost_guarded c r _ (λ d. active_on_guarded q d r m k bytes n count)
 
   -- do_passive_idle
-  passive_guarded : (q : OptionAddress) (c : Core) (r : Ring) (bytes : List ℕ) (n count : ℕ) → Guarded (Pause c) (passive_idle_of p c r now q bytes n count).step
+  passive_guarded : (q : Option ℕ) (c : Core) (r : Ring) (bytes : List ℕ) (n count : ℕ) → Guarded (Pause c) (passive_idle_of p c r now q bytes n count).step
   unfolding passive_idle_of
-  passive_guarded optionAddress.None c r bytes n count = consumed_guarded _ _ count
-  passive_guarded (optionAddress.Some source) c r bytes n count = respond_guarded _ _ c r source _
+  passive_guarded None c r bytes n count = consumed_guarded _ _ count
+  passive_guarded (Some source) c r bytes n count = respond_guarded _ _ c r source _
 
   -- do_use_token
   use_timed_guarded : (c : Core) (held : UseTokenData) (cycled : Bool) (bytes : List ℕ) (n : ℕ) → Guarded (Pause c) (use_token_timed p c now held cycled bytes n)
@@ -141,7 +137,7 @@ module _ (p : Parameters) (now : Micros) where
   -- the end of hold leaves the pause as it is
   hold_pause : (c : Core) (t : Micros) → Pause (hold_end_of p c t) → Pause c
   unfolding pause_of waited_of
-  hold_pause c t e = ap (λ (a : Activity). elapsed_of now (known_at a now) (time_of (record { 0 = pause_bits }) p.baudrate)) (sym (hold_activity p c t)) ∙ e
+  hold_pause c t e = ap (λ (a : Option Micros). elapsed_of now (known_at a now) (time_of (record { 0 = pause_bits }) p.baudrate)) (sym (hold_activity p c t)) ∙ e
 
   use_guarded : (c : Core) (held : UseTokenData) (cycled : Bool) (bytes : List ℕ) (n : ℕ) → Guarded (Pause c) (use_token_of p c now held cycled bytes n)
   unfolding use_token_of

@@ -1,27 +1,24 @@
 -- What the steps of station_hold come to. Where they may end is said in specs/Hold.
-use Rattle.std.specs.Prelude.{ℕ, zero, suc, ◌+◌, ◌<◌, Bool, ◌≡◌, List, ltb, eqb}
+use Rattle.std.specs.Prelude.{ℕ, zero, suc, ◌+◌, ◌<◌, Bool, ◌≡◌, List, ltb, eqb, Option, Some, None}
 use Rattle.std.proofs.Math.Bool.{true, false}
 use Rattle.std.proofs.Math.Path.{refl}
 use Rattle.std.proofs.Common.{arith, ltb-true}
 use borrow.Table.Steps.{cases}
-use Rattle.bit_times.specs.declared.Micros.{Micros}
-use Rattle.settings.specs.declared.Parameters.{Parameters}
+use Rattle.bit_times.specs.declared.micros.Micros.{Micros}
+use Rattle.settings.specs.declared.parameters.Parameters.{Parameters}
 use Rattle.codec_decisions.specs.declared.Decision.{Decision}
 use Rattle.codec_decisions.specs.declared.Decision.TheVariants as decision
 use Rattle.codec_telegrams.specs.declared.Telegram.{Telegram}
 use Rattle.codec_answers.specs.declared.Notice.{Notice}
-use Rattle.station.specs.declared.PassTokenAttempt.TheVariants.{First}
-use Rattle.station.specs.declared.OptionApplication.{OptionApplication}
-use Rattle.station.specs.declared.OptionApplication.TheVariants as optionApplication
-use Rattle.station.specs.declared.UseTokenData.{UseTokenData}
-use Rattle.station.specs.declared.State.{State}
-use Rattle.station.specs.declared.State.TheVariants.{UseToken, AwaitDataResponse}
-use Rattle.station.specs.declared.Core.{Core}
-use Rattle.station.specs.declared.Step.{Step}
+use Rattle.station.specs.declared.state.PassTokenAttempt.TheVariants.{First}
+use Rattle.station.specs.declared.state.UseTokenData.{UseTokenData}
+use Rattle.station.specs.declared.state.State.{State}
+use Rattle.station.specs.declared.state.State.TheVariants.{UseToken, AwaitDataResponse}
+use Rattle.station.specs.declared.parts.Core.{Core}
+use Rattle.station.specs.Whole.{Step}
 use Rattle.station.specs.Parts.{with_activity, with_next_application}
 use Rattle.station.specs.Steps.{to_active_idle, waited_of, pause_of, slot_expired_of}
-use Rattle.station_hold.specs.declared.Asked.{Asked}
-use Rattle.station_hold.specs.Hold.{declines_at, first_or, valid_response, holds_of, turn_of, asked_from, asked_of, app_transmit_of, use_pass_of, use_apps_after, use_apps_of, use_token_timed, use_token_of, received_of, with_notice, timeout_of, await_data_of}
+use Rattle.station_hold.specs.Hold.{Asked, declines_at, first_or, valid_response, holds_of, turn_of, asked_from, asked_of, app_transmit_of, use_pass_of, use_apps_after, use_apps_of, use_token_timed, use_token_of, received_of, with_notice, timeout_of, await_data_of}
 use Rattle.theorem_sound.specs.Moves.{OneOf}
 use Rattle.theorem_sound.proofs.Kept.{hold_last}
 use Rattle.theorem_sound.specs.Keeps.{DecisionLow, either, decision_low}
@@ -37,7 +34,7 @@ pub turn_good : (a n : ℕ) → a < n → turn_of a n < n
 unfolding turn_of
 turn_good a n l = cases (ltb (a + 1) n) (λ e. rw e (ltb-true (a + 1) n e)) (λ e. rw e (omega arith))
 
-pub asked_good : (k : ℕ) (bytes : List ℕ) (n a : ℕ) (first : OptionApplication) (high : Bool) → a < n → AskedGood n (asked_from k bytes n a first high)
+pub asked_good : (k : ℕ) (bytes : List ℕ) (n a : ℕ) (first : Option ℕ) (high : Bool) → a < n → AskedGood n (asked_from k bytes n a first high)
 unfolding asked_from
 asked_good zero bytes n a first high l = record { asked = l }
 asked_good (suc k) bytes n a first high l =
@@ -46,12 +43,12 @@ asked_good (suc k) bytes n a first high l =
     (either (AskedGood n) (eqb (turn_of a n) (first_or first a)) _ _ (record { asked = t }) (asked_good k bytes n (turn_of a n) _ high t))
     (record { asked = l })
 
-pub first_or_good : (n : ℕ) (first : OptionApplication) (a : ℕ) → OneOf n first → a < n → first_or first a < n
+pub first_or_good : (n : ℕ) (first : Option ℕ) (a : ℕ) → OneOf n first → a < n → first_or first a < n
 unfolding first_or
-first_or_good n optionApplication.None a f l = l
-first_or_good n (optionApplication.Some b) a f l = f
+first_or_good n None a f l = l
+first_or_good n (Some b) a f l = f
 
-first_good : (k : ℕ) (bytes : List ℕ) (n a : ℕ) (first : OptionApplication) (high : Bool) → a < n → OneOf n first → FirstGood n (asked_from k bytes n a first high)
+first_good : (k : ℕ) (bytes : List ℕ) (n a : ℕ) (first : Option ℕ) (high : Bool) → a < n → OneOf n first → FirstGood n (asked_from k bytes n a first high)
 unfolding asked_from
 first_good zero bytes n a first high l f = record { asked_first = f }
 first_good (suc k) bytes n a first high l f =

@@ -1,5 +1,5 @@
 -- Every move keeps every line of a sound state and core: a law for each line, then all together (`core_kept`, `moves_keep`).
-use Rattle.std.specs.Prelude.{ℕ, suc, ◌*◌, ◌^◌, ◌≤◌, ◌<◌, Bool, true, false, ◌≡◌, List, eqb, ltb}
+use Rattle.std.specs.Prelude.{ℕ, suc, ◌*◌, ◌^◌, ◌≤◌, ◌<◌, Bool, true, false, ◌≡◌, List, eqb, ltb, Option, Some, None}
 use Rattle.std.proofs.Math.Path.{refl}
 use Rattle.std.proofs.Common.{sym, ap, ◌∙◌, inr, eqb-true, lit≤}
 use Rattle.std.proofs.Math.Logic.{inl}
@@ -7,21 +7,17 @@ use native.Mathlib.Omega.{arith}
 use Rattle.std.proofs.lemmas.Bool.{eqb-false}
 use borrow.Table.Steps.{cases}
 use Rattle.std.proofs.Math.Dec.{lit<}
-use Rattle.bit_times.specs.declared.Micros.{Micros}
-use Rattle.bit_times.specs.declared.Baud.{Baud}
+use Rattle.bit_times.specs.declared.micros.Micros.{Micros}
+use Rattle.bit_times.specs.declared.baud.Baud.{Baud}
 use Rattle.bit_times.proofs.Laws.{time_grows}
-use Rattle.settings.specs.declared.Parameters.{Parameters}
+use Rattle.settings.specs.declared.parameters.Parameters.{Parameters}
 use Rattle.settings.specs.Settings.{rotation_time_of}
-use Rattle.station.specs.declared.Activity.{Activity}
-use Rattle.station.specs.declared.Activity.TheVariants as activity
-use Rattle.station.specs.declared.OptionAddress.{OptionAddress}
-use Rattle.station.specs.declared.OptionAddress.TheVariants as optionAddress
-use Rattle.station.specs.declared.UseTokenData.{UseTokenData}
-use Rattle.station.specs.declared.ConnectivityState.{ConnectivityState}
-use Rattle.station.specs.declared.ConnectivityState.TheVariants as connectivity
-use Rattle.station.specs.declared.State.{State}
-use Rattle.station.specs.declared.State.TheVariants.{Offline, ListenToken, ActiveIdle, UseToken, ClaimToken, AwaitDataResponse, PassToken, CheckTokenPass, AwaitStatusResponse, PassiveIdle}
-use Rattle.station.specs.declared.Core.{Core}
+use Rattle.station.specs.declared.state.UseTokenData.{UseTokenData}
+use Rattle.station.specs.declared.state.ConnectivityState.{ConnectivityState}
+use Rattle.station.specs.declared.state.ConnectivityState.TheVariants as connectivity
+use Rattle.station.specs.declared.state.State.{State}
+use Rattle.station.specs.declared.state.State.TheVariants.{Offline, ListenToken, ActiveIdle, UseToken, ClaimToken, AwaitDataResponse, PassToken, CheckTokenPass, AwaitStatusResponse, PassiveIdle}
+use Rattle.station.specs.declared.parts.Core.{Core}
 use Rattle.station.specs.Parts.{with_activity, with_pending, with_gap, with_token_times, with_next_application, with_connectivity, fresh_core, is_offline, state_number}
 use Rattle.station.specs.Steps.{known_at, marked_at, sent_at}
 use Rattle.station_hold.specs.Hold.{hold_less, end_of, hold_end_of}
@@ -59,7 +55,7 @@ online_at : (x y : State) (o : ConnectivityState) → (state_number x ≡ 0 → 
 online_at x y o z h f = absurd (z (rw (h f) refl))
 
 -- a transition that may start neither in Offline nor in ListenToken nor in PassiveIdle starts where the activity is known
-pub known_from : (states : List ℕ) (x : State) (a : Activity) → lists states 0 ≡ false → lists states 1 ≡ false → lists states 9 ≡ false → lists states (state_number x) ≡ true → KnownIn x a → Known a
+pub known_from : (states : List ℕ) (x : State) (a : Option Micros) → lists states 0 ≡ false → lists states 1 ≡ false → lists states 9 ≡ false → lists states (state_number x) ≡ true → KnownIn x a → Known a
 known_from states Offline a z o w i b = not-true (sym z ∙ i)
 known_from states (ListenToken q k) a z o w i b = not-true (sym o ∙ i)
 known_from states (ActiveIdle q m k) a z o w i b = b
@@ -72,11 +68,11 @@ known_from states (AwaitStatusResponse s) a z o w i b = b
 known_from states (PassiveIdle q) a z o w i b = not-true (sym w ∙ i)
 
 -- an activity that is known is known with every request, and in every state
-pub known_with : (q : OptionAddress) (a : Activity) → Known a → KnownWith q a
-known_with optionAddress.None a k = tt
-known_with (optionAddress.Some source) a k = k
+pub known_with : (q : Option ℕ) (a : Option Micros) → Known a → KnownWith q a
+known_with None a k = tt
+known_with (Some source) a k = k
 
-known_in : (x : State) (a : Activity) → Known a → KnownIn x a
+known_in : (x : State) (a : Option Micros) → Known a → KnownIn x a
 known_in Offline a k = tt
 known_in (ListenToken q i) a k = tt
 known_in (ActiveIdle q m i) a k = k
@@ -88,17 +84,17 @@ known_in (CheckTokenPass i) a k = k
 known_in (AwaitStatusResponse s) a k = k
 known_in (PassiveIdle q) a k = known_with q a k
 
-pub marked_known : (a : Activity) (now : Micros) → Known (marked_at a now)
+pub marked_known : (a : Option Micros) (now : Micros) → Known (marked_at a now)
 unfolding marked_at
 marked_known a now = cases (ltb (known_at a now).0 now.0) (λ z. rw z tt) (λ z. rw z tt)
 
 -- the activity fits where it is the clock's time, or where it fitted before
-known_fits : (baud : Baud) (a : Activity) (now : Micros) → Clock now → ActivityFits baud a → ActivityFits baud (activity.At (known_at a now))
+known_fits : (baud : Baud) (a : Option Micros) (now : Micros) → Clock now → ActivityFits baud a → ActivityFits baud (Some (known_at a now))
 unfolding known_at
-known_fits baud activity.Unknown now l b = omega arith
-known_fits baud (activity.At last) now l b = b
+known_fits baud None now l b = omega arith
+known_fits baud (Some last) now l b = b
 
-marked_fits : (baud : Baud) (a : Activity) (now : Micros) → Clock now → ActivityFits baud a → ActivityFits baud (marked_at a now)
+marked_fits : (baud : Baud) (a : Option Micros) (now : Micros) → Clock now → ActivityFits baud a → ActivityFits baud (marked_at a now)
 unfolding marked_at
 marked_fits baud a now l b =
     cases (ltb (known_at a now).0 now.0) (λ z. rw z (omega arith)) (λ z. rw z (known_fits baud a now l b))
@@ -120,9 +116,9 @@ hold_set p c t l b =
     (λ z. rw z (inr (record { from = c.last_token_time; clock = l; another = eqb-false _ _ z; gap = c.gap_state; end_is = refl })))
 
 -- another station has a low address
-pub other_low : (own : ℕ) (q : OptionAddress) → Other own q → Low q
-other_low own optionAddress.None o = tt
-other_low own (optionAddress.Some a) o = o.0
+pub other_low : (own : ℕ) (q : Option ℕ) → Other own q → Low q
+other_low own None o = tt
+other_low own (Some a) o = o.0
 
 -- what leaves the rest of the core leaves it as a fresh station's, in Offline
 fresh_stays : (x : State) (c d : Core) → (FreshBut c → FreshBut d) → FreshIn x c → FreshIn x d
@@ -137,7 +133,7 @@ fresh_stays (CheckTokenPass k) c d f b = tt
 fresh_stays (AwaitStatusResponse a) c d f b = tt
 fresh_stays (PassiveIdle q) c d f b = tt
 
-fresh_activity : (x : State) (c : Core) (a : Activity) → FreshIn x c → FreshIn x (with_activity c a)
+fresh_activity : (x : State) (c : Core) (a : Option Micros) → FreshIn x c → FreshIn x (with_activity c a)
 unfolding with_activity
 fresh_activity x c a =
     fresh_stays x c (with_activity c a) (λ f. record { no_token = f.no_token; no_gap = f.no_gap; no_pending = f.no_pending; first_next = f.first_next })

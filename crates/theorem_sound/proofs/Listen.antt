@@ -1,13 +1,13 @@
 -- What the steps of the two hearing crates, station_listen and station_passive, and of station_claim come to. Where hearing may end is
 -- said in specs/Listen.
 use Prim.Native.Nat.{ℕ, zero, suc, ◌<◌}
-use Rattle.std.specs.Prelude.{Bool, ◌≡◌, List, eqb}
+use Rattle.std.specs.Prelude.{Bool, ◌≡◌, List, eqb, Option, Some, None}
 use Rattle.std.proofs.Math.Bool.{true, false}
 use Rattle.std.proofs.Math.Path.{refl}
 use Rattle.std.proofs.Common.{sym, ap, arith, lit≤}
 use Rattle.std.proofs.lemmas.Bool.{eqb-false}
-use Rattle.bit_times.specs.declared.Micros.{Micros}
-use Rattle.settings.specs.declared.Parameters.{Parameters}
+use Rattle.bit_times.specs.declared.micros.Micros.{Micros}
+use Rattle.settings.specs.declared.parameters.Parameters.{Parameters}
 use Rattle.ring.specs.Ring.{Ring, prev_of}
 use Rattle.codec_telegrams.specs.declared.ResponseState.{ResponseState}
 use Rattle.codec_telegrams.specs.declared.Telegram.{Telegram}
@@ -15,12 +15,10 @@ use Rattle.codec_telegrams.specs.declared.Telegram.TheVariants as telegram
 use Rattle.codec_telegrams.specs.Words.{TelegramFits}
 use Rattle.codec_answers.specs.declared.Outcome.TheVariants as outcome
 use Rattle.codec_answers.specs.declared.Sent.TheVariants as sent
-use Rattle.station.specs.declared.OptionAddress.{OptionAddress}
-use Rattle.station.specs.declared.OptionAddress.TheVariants as optionAddress
-use Rattle.station.specs.declared.UseTokenData.{UseTokenData}
-use Rattle.station.specs.declared.State.{State}
-use Rattle.station.specs.declared.State.TheVariants.{Offline, ListenToken, ActiveIdle, UseToken, ClaimToken, AwaitDataResponse, PassToken, CheckTokenPass, AwaitStatusResponse, PassiveIdle}
-use Rattle.station.specs.declared.Core.{Core}
+use Rattle.station.specs.declared.state.UseTokenData.{UseTokenData}
+use Rattle.station.specs.declared.state.State.{State}
+use Rattle.station.specs.declared.state.State.TheVariants.{Offline, ListenToken, ActiveIdle, UseToken, ClaimToken, AwaitDataResponse, PassToken, CheckTokenPass, AwaitStatusResponse, PassiveIdle}
+use Rattle.station.specs.declared.parts.Core.{Core}
 use Rattle.station.specs.Whole.{RingStep, Heard}
 use Rattle.station.specs.Parts.{state_number}
 use Rattle.station.specs.Steps.{pause_of, token_lost_wait_of, transmit_of, heard_of, last_request_to_us}
@@ -43,8 +41,8 @@ no_zero e = omega arith
 
 -- where hearing may end, by the state that listens
 record HearsOn (E : State → Type 0) : Type 0 where
-  pub from_listen : (q : OptionAddress) (k : ℕ) → E (ListenToken q k) → ListenEnds E
-  pub from_passive : (q : OptionAddress) → E (PassiveIdle q) → (q' : OptionAddress) → E (PassiveIdle q')
+  pub from_listen : (q : Option ℕ) (k : ℕ) → E (ListenToken q k) → ListenEnds E
+  pub from_passive : (q : Option ℕ) → E (PassiveIdle q) → (q' : Option ℕ) → E (PassiveIdle q')
 
 abbrev HearEnds : (State → Type 0) → Bool → Type 0
 HearEnds E true = HearsOn E
@@ -57,7 +55,7 @@ hears_passive : HearsOn Passive
 hears_passive = record { from_listen = λ q k y. absurd (let z : 1 ≡ 9 = ap state_number y.1 in omega arith); from_passive = λ q y q'. (q', refl) }
 
 -- who is noted is another station, with an address below 128
-noted_other : (own : ℕ) (q : OptionAddress) (t : Telegram) (last : Bool) → TelegramFits t → sent_by_us own t ≡ false → Other own q → Other own (noted_of own q t last)
+noted_other : (own : ℕ) (q : Option ℕ) (t : Telegram) (last : Bool) → TelegramFits t → sent_by_us own t ≡ false → Other own q → Other own (noted_of own q t last)
 unfolding noted_of sent_by_us
 noted_other own q (telegram.Token destination source) last f z l = l
 noted_other own q telegram.ShortConfirmation last f z l = l
@@ -103,26 +101,26 @@ module _ {p : Parameters} {n : ℕ} {now : Micros} {x₀ : State} {c₀ : Core} 
       (record { made_step = done_made _ (paused k) e; made_ring = g })
 
   -- do_listen_token
-  response_made : {k : ℕ} {c : Core} (r : Ring) (source : ℕ) → ListenedEnds E (optionAddress.Some source) k → Came p n now x₀ c₀ (ListenToken (optionAddress.Some source) k) c → RingGood p r → RingMade p n now x₀ c₀ E (listen_response p c r now source k)
+  response_made : {k : ℕ} {c : Core} (r : Ring) (source : ℕ) → ListenedEnds E (Some source) k → Came p n now x₀ c₀ (ListenToken (Some source) k) c → RingGood p r → RingMade p n now x₀ c₀ E (listen_response p c r now source k)
   unfolding listen_response listen_answered
   response_made r source e m g =
       respond_made r source _ e.0 (either E r.ready _ _ e.2 e.1)
       (λ d o k. either (λ (x : State). Came p n now x₀ c₀ x d) r.ready _ _ (to_idle refl o k) (listen_fields _ _ tt (collided_at k) k)) m g
 
-  collided_made : {q : OptionAddress} {k : ℕ} {c : Core} (r : Ring) → ListenEnds E → Came p n now x₀ c₀ (ListenToken q k) c → RingGood p r → HeardMade p n now x₀ c₀ E (collided p c r q k)
+  collided_made : {q : Option ℕ} {k : ℕ} {c : Core} (r : Ring) → ListenEnds E → Came p n now x₀ c₀ (ListenToken q k) c → RingGood p r → HeardMade p n now x₀ c₀ E (collided p c r q k)
   unfolding collided
   collided_made {q} {k} r e m g =
       either (HeardMade p n now x₀ c₀ E) (eqb k 0) _ _ (collision_made r (listen_fields q 1 (addressed_at m) (lit≤ tt) m) (e.ends_listen _ _) g)
       (collision_made _ (to_fresh m) e.ends_offline (again_good p r g))
 
-  listen_heard_made : {q : OptionAddress} {k : ℕ} {c : Core} (r : Ring) (t : Telegram) (last : Bool) → TelegramFits t → ListenEnds E → Came p n now x₀ c₀ (ListenToken q k) c → RingGood p r → HeardMade p n now x₀ c₀ E (listen_heard p c r q k t last)
+  listen_heard_made : {q : Option ℕ} {k : ℕ} {c : Core} (r : Ring) (t : Telegram) (last : Bool) → TelegramFits t → ListenEnds E → Came p n now x₀ c₀ (ListenToken q k) c → RingGood p r → HeardMade p n now x₀ c₀ E (listen_heard p c r q k t last)
   unfolding listen_heard
   listen_heard_made {q = q} {k = k} r t last f e m g =
       decided (HeardMade p n now x₀ c₀ E) (sent_by_us p.address t) _ _ (λ z. collided_made r e m g)
       (λ z. heard_made _ _ (listen_fields _ k (noted_other p.address q t last f z (addressed_at m)) (collided_at m) m) (e.ends_listen _ _) (overheard_good p r t g))
 
   -- PassiveIdle
-  passive_heard_made : {q : OptionAddress} {c : Core} (r : Ring) (t : Telegram) (last : Bool) → TelegramFits t → Known c.last_bus_activity → ((q' : OptionAddress) → E (PassiveIdle q')) → Came p n now x₀ c₀ (PassiveIdle q) c → RingGood p r → HeardMade p n now x₀ c₀ E (passive_heard p c r q t last)
+  passive_heard_made : {q : Option ℕ} {c : Core} (r : Ring) (t : Telegram) (last : Bool) → TelegramFits t → Known c.last_bus_activity → ((q' : Option ℕ) → E (PassiveIdle q')) → Came p n now x₀ c₀ (PassiveIdle q) c → RingGood p r → HeardMade p n now x₀ c₀ E (passive_heard p c r q t last)
   unfolding passive_heard
   passive_heard_made {q = q} {c = c} r t last f w e m g =
       decided (HeardMade p n now x₀ c₀ E) (sent_by_us p.address t) _ _ (λ z. heard_made r _ m (e _) g)
@@ -142,29 +140,29 @@ module _ {p : Parameters} {n : ℕ} {now : Micros} {x₀ : State} {c₀ : Core} 
   listen_on_made (PassiveIdle q) r t last f w e m y g = passive_heard_made r t last f w (e.from_passive q y) m g
 
   -- handle_telegram
-  active_collided_made : {q s : OptionAddress} {k : ℕ} {c : Core} (r : Ring) → ActiveEnds E → Came p n now x₀ c₀ (ActiveIdle q s k) c → RingGood p r → HeardMade p n now x₀ c₀ E (active_collided c r q s k)
+  active_collided_made : {q s : Option ℕ} {k : ℕ} {c : Core} (r : Ring) → ActiveEnds E → Came p n now x₀ c₀ (ActiveIdle q s k) c → RingGood p r → HeardMade p n now x₀ c₀ E (active_collided c r q s k)
   unfolding active_collided
   active_collided_made {q} {s} {k} r e m g =
       either (HeardMade p n now x₀ c₀ E) (eqb k 0) _ _ (collision_made r (idle_fields q s 1 (addressed_at m).0 (addressed_at m).1 (lit≤ tt) m) (e.ends_idle _ _ _) g)
       (collision_made r (to_listen refl (connected_here m no_zero) m) e.ends_left g)
 
-  accepted_made : {q s : OptionAddress} {k : ℕ} {c : Core} (r : Ring) → ActiveEnds E → Came p n now x₀ c₀ (ActiveIdle q s k) c → RingGood p r → HeardMade p n now x₀ c₀ E (accepted_of c r now)
+  accepted_made : {q s : Option ℕ} {k : ℕ} {c : Core} (r : Ring) → ActiveEnds E → Came p n now x₀ c₀ (ActiveIdle q s k) c → RingGood p r → HeardMade p n now x₀ c₀ E (accepted_of c r now)
   unfolding accepted_of
   accepted_made r e m g = heard_made r _ (to_use _ refl (new_token n now m.clock) (new_unasked now) m) (e.ends_accepted _) g
 
-  to_us_made : {q s : OptionAddress} {k : ℕ} {c : Core} (r : Ring) (destination source : ℕ) → source < 128 → (source ≡ p.address → ⊥) → ActiveEnds E → Came p n now x₀ c₀ (ActiveIdle q s k) c → RingGood p r → HeardMade p n now x₀ c₀ E (token_to_us c r now q s destination source)
+  to_us_made : {q s : Option ℕ} {k : ℕ} {c : Core} (r : Ring) (destination source : ℕ) → source < 128 → (source ≡ p.address → ⊥) → ActiveEnds E → Came p n now x₀ c₀ (ActiveIdle q s k) c → RingGood p r → HeardMade p n now x₀ c₀ E (token_to_us c r now q s destination source)
   unfolding token_to_us
   to_us_made {q} {s} r destination source l o e m g =
       either (HeardMade p n now x₀ c₀ E) (eqb source (prev_of r)) _ _ (accepted_made r e m g)
       (either (HeardMade p n now x₀ c₀ E) (remembers s source) _ _ (accepted_made _ e m (witness_good p r source destination g))
-      (heard_made r _ (idle_fields q (optionAddress.Some source) 0 (addressed_at m).0 (l, o) (lit≤ tt) m) (e.ends_idle _ _ _) g))
+      (heard_made r _ (idle_fields q (Some source) 0 (addressed_at m).0 (l, o) (lit≤ tt) m) (e.ends_idle _ _ _) g))
 
-  witnessed_made : {q s : OptionAddress} {k : ℕ} {c : Core} (r : Ring) (destination source : ℕ) → ActiveEnds E → Came p n now x₀ c₀ (ActiveIdle q s k) c → RingGood p r → HeardMade p n now x₀ c₀ E (token_witnessed c r q s destination source)
+  witnessed_made : {q s : Option ℕ} {k : ℕ} {c : Core} (r : Ring) (destination source : ℕ) → ActiveEnds E → Came p n now x₀ c₀ (ActiveIdle q s k) c → RingGood p r → HeardMade p n now x₀ c₀ E (token_witnessed c r q s destination source)
   unfolding token_witnessed
   witnessed_made {q} {s} r destination source e m g =
       heard_made _ _ (idle_fields q s 0 (addressed_at m).0 (addressed_at m).1 (lit≤ tt) m) (e.ends_idle _ _ _) (witness_good p r source destination g)
 
-  token_made : {q s : OptionAddress} {k : ℕ} {c : Core} (r : Ring) (destination source : ℕ) (last : Bool) → source < 128 → ActiveEnds E → Came p n now x₀ c₀ (ActiveIdle q s k) c → RingGood p r → HeardMade p n now x₀ c₀ E (token_heard p c r now q s k destination source last)
+  token_made : {q s : Option ℕ} {k : ℕ} {c : Core} (r : Ring) (destination source : ℕ) (last : Bool) → source < 128 → ActiveEnds E → Came p n now x₀ c₀ (ActiveIdle q s k) c → RingGood p r → HeardMade p n now x₀ c₀ E (token_heard p c r now q s k destination source last)
   unfolding token_heard
   token_made r destination source last l e m g =
       decided (HeardMade p n now x₀ c₀ E) (eqb source p.address) _ _ (λ z. active_collided_made r e m g)
@@ -172,12 +170,12 @@ module _ {p : Parameters} {n : ℕ} {now : Micros} {x₀ : State} {c₀ : Core} 
       (either (HeardMade p n now x₀ c₀ E) last _ _ (to_us_made r destination source l (eqb-false source p.address z) e m g) (witnessed_made r destination source e m g))
       (witnessed_made r destination source e m g))
 
-  requested_made : {q s : OptionAddress} {k : ℕ} {c : Core} (r : Ring) (source : ℕ) (noted : Bool) → source < 128 → ActiveEnds E → Came p n now x₀ c₀ (ActiveIdle q s k) c → RingGood p r → HeardMade p n now x₀ c₀ E (active_requested c r q s k source noted)
+  requested_made : {q s : Option ℕ} {k : ℕ} {c : Core} (r : Ring) (source : ℕ) (noted : Bool) → source < 128 → ActiveEnds E → Came p n now x₀ c₀ (ActiveIdle q s k) c → RingGood p r → HeardMade p n now x₀ c₀ E (active_requested c r q s k source noted)
   unfolding active_requested
   requested_made {s = s} {k = k} r source noted l e m g =
-      either (HeardMade p n now x₀ c₀ E) noted _ _ (heard_made r _ (idle_fields (optionAddress.Some source) s k l (addressed_at m).1 (collided_at m) m) (e.ends_idle _ _ _) g) (heard_made r _ m (e.ends_idle _ _ _) g)
+      either (HeardMade p n now x₀ c₀ E) noted _ _ (heard_made r _ (idle_fields (Some source) s k l (addressed_at m).1 (collided_at m) m) (e.ends_idle _ _ _) g) (heard_made r _ m (e.ends_idle _ _ _) g)
 
-  active_heard_made : {q s : OptionAddress} {k : ℕ} {c : Core} (r : Ring) (t : Telegram) (last : Bool) → TelegramFits t → ActiveEnds E → Came p n now x₀ c₀ (ActiveIdle q s k) c → RingGood p r → HeardMade p n now x₀ c₀ E (active_heard p c r now q s k t last)
+  active_heard_made : {q s : Option ℕ} {k : ℕ} {c : Core} (r : Ring) (t : Telegram) (last : Bool) → TelegramFits t → ActiveEnds E → Came p n now x₀ c₀ (ActiveIdle q s k) c → RingGood p r → HeardMade p n now x₀ c₀ E (active_heard p c r now q s k t last)
   unfolding active_heard
   active_heard_made r (telegram.Token destination source) last f e m g = token_made r destination source last f.1 e m g
   active_heard_made r telegram.ShortConfirmation last f e m g = heard_made r _ m (e.ends_idle _ _ _) g
@@ -221,35 +219,35 @@ module _ {p : Parameters} {n : ℕ} {now : Micros} {x₀ : State} {c₀ : Core} 
   handled_made r bytes count e k y g = received_made r false bytes count e k y g
 
   -- do_listen_token
-  listen_token_on_made : {k : ℕ} {c : Core} (q : OptionAddress) (r : Ring) (bytes : List ℕ) (count : ℕ) → ListenedEnds E q k → Came p n now x₀ c₀ (ListenToken q k) c → RingGood p r → RingMade p n now x₀ c₀ E (listen_token_on q p c r now k bytes n count)
+  listen_token_on_made : {k : ℕ} {c : Core} (q : Option ℕ) (r : Ring) (bytes : List ℕ) (count : ℕ) → ListenedEnds E q k → Came p n now x₀ c₀ (ListenToken q k) c → RingGood p r → RingMade p n now x₀ c₀ E (listen_token_on q p c r now k bytes n count)
   unfolding listen_token_on
-  listen_token_on_made optionAddress.None r bytes count e m g = received_made r true bytes count (hears_on e) m (e.ends_listen _ _) g
-  listen_token_on_made (optionAddress.Some source) r bytes count e m g = response_made r source e m g
+  listen_token_on_made None r bytes count e m g = received_made r true bytes count (hears_on e) m (e.ends_listen _ _) g
+  listen_token_on_made (Some source) r bytes count e m g = response_made r source e m g
 
-  pub listen_token_made : {q : OptionAddress} {k : ℕ} {c : Core} (r : Ring) (bytes : List ℕ) (count : ℕ) → E (ClaimToken false) → ((token_lost_wait_of p c now).over ≡ true → (pause_of p (token_lost_wait_of p c now).core now).over ≡ false → E (ClaimToken true)) → ListenedEnds E q k → Came p n now x₀ c₀ (ListenToken q k) c → RingGood p r → RingMade p n now x₀ c₀ E (listen_token_of p c r now q k bytes n count)
+  pub listen_token_made : {q : Option ℕ} {k : ℕ} {c : Core} (r : Ring) (bytes : List ℕ) (count : ℕ) → E (ClaimToken false) → ((token_lost_wait_of p c now).over ≡ true → (pause_of p (token_lost_wait_of p c now).core now).over ≡ false → E (ClaimToken true)) → ListenedEnds E q k → Came p n now x₀ c₀ (ListenToken q k) c → RingGood p r → RingMade p n now x₀ c₀ E (listen_token_of p c r now q k bytes n count)
   unfolding listen_token_of
   listen_token_made {q} r bytes count f w e m g = lost_made r _ f w refl (λ d k. listen_token_on_made q r bytes count e k g) m g
 
   -- do_active_idle
-  active_response_made : {s : OptionAddress} {k : ℕ} {c : Core} (r : Ring) (source : ℕ) → ActiveEnds E → Came p n now x₀ c₀ (ActiveIdle (optionAddress.Some source) s k) c → RingGood p r → RingMade p n now x₀ c₀ E (active_response p c r now source s k)
+  active_response_made : {s : Option ℕ} {k : ℕ} {c : Core} (r : Ring) (source : ℕ) → ActiveEnds E → Came p n now x₀ c₀ (ActiveIdle (Some source) s k) c → RingGood p r → RingMade p n now x₀ c₀ E (active_response p c r now source s k)
   unfolding active_response
   active_response_made {s = s} {k = k} r source e m g =
-      respond_made r source _ (e.ends_idle _ _ _) (e.ends_idle _ _ _) (λ d o i. idle_fields optionAddress.None s k tt (addressed_at i).1 (collided_at i) i) m g
+      respond_made r source _ (e.ends_idle _ _ _) (e.ends_idle _ _ _) (λ d o i. idle_fields None s k tt (addressed_at i).1 (collided_at i) i) m g
 
-  active_idle_on_made : {s : OptionAddress} {k : ℕ} {c : Core} (q : OptionAddress) (r : Ring) (bytes : List ℕ) (count : ℕ) → ActiveEnds E → Came p n now x₀ c₀ (ActiveIdle q s k) c → RingGood p r → RingMade p n now x₀ c₀ E (active_idle_on q p c r now s k bytes n count)
+  active_idle_on_made : {s : Option ℕ} {k : ℕ} {c : Core} (q : Option ℕ) (r : Ring) (bytes : List ℕ) (count : ℕ) → ActiveEnds E → Came p n now x₀ c₀ (ActiveIdle q s k) c → RingGood p r → RingMade p n now x₀ c₀ E (active_idle_on q p c r now s k bytes n count)
   unfolding active_idle_on
-  active_idle_on_made optionAddress.None r bytes count e m g = received_made r false bytes count e m (e.ends_idle _ _ _) g
-  active_idle_on_made (optionAddress.Some source) r bytes count e m g = active_response_made r source e m g
+  active_idle_on_made None r bytes count e m g = received_made r false bytes count e m (e.ends_idle _ _ _) g
+  active_idle_on_made (Some source) r bytes count e m g = active_response_made r source e m g
 
-  pub active_idle_made : {q s : OptionAddress} {k : ℕ} {c : Core} (r : Ring) (bytes : List ℕ) (count : ℕ) → E (ClaimToken false) → ((token_lost_wait_of p c now).over ≡ true → (pause_of p (token_lost_wait_of p c now).core now).over ≡ false → E (ClaimToken true)) → ActiveEnds E → Came p n now x₀ c₀ (ActiveIdle q s k) c → RingGood p r → RingMade p n now x₀ c₀ E (active_idle_of p c r now q s k bytes n count)
+  pub active_idle_made : {q s : Option ℕ} {k : ℕ} {c : Core} (r : Ring) (bytes : List ℕ) (count : ℕ) → E (ClaimToken false) → ((token_lost_wait_of p c now).over ≡ true → (pause_of p (token_lost_wait_of p c now).core now).over ≡ false → E (ClaimToken true)) → ActiveEnds E → Came p n now x₀ c₀ (ActiveIdle q s k) c → RingGood p r → RingMade p n now x₀ c₀ E (active_idle_of p c r now q s k bytes n count)
   unfolding active_idle_of
   active_idle_made {q} r bytes count f w e m g = lost_made r _ f w refl (λ d k. active_idle_on_made q r bytes count e k g) m g
 
 -- PassiveIdle: it is left in no poll
 module _ {p : Parameters} {n : ℕ} {now : Micros} {x₀ : State} {c₀ : Core} where
   -- do_passive_idle
-  pub passive_idle_made : {c : Core} (q : OptionAddress) (r : Ring) (bytes : List ℕ) (count : ℕ) → Came p n now x₀ c₀ (PassiveIdle q) c → RingGood p r → RingMade p n now x₀ c₀ Passive (passive_idle_of p c r now q bytes n count)
+  pub passive_idle_made : {c : Core} (q : Option ℕ) (r : Ring) (bytes : List ℕ) (count : ℕ) → Came p n now x₀ c₀ (PassiveIdle q) c → RingGood p r → RingMade p n now x₀ c₀ Passive (passive_idle_of p c r now q bytes n count)
   unfolding passive_idle_of
-  passive_idle_made optionAddress.None r bytes count m g = received_made r true bytes count hears_passive m (optionAddress.None, refl) g
-  passive_idle_made (optionAddress.Some source) r bytes count m g =
-      respond_made r source _ (optionAddress.Some source, refl) (optionAddress.None, refl) (λ d o k. passive_fields optionAddress.None tt tt k) m g
+  passive_idle_made None r bytes count m g = received_made r true bytes count hears_passive m (None, refl) g
+  passive_idle_made (Some source) r bytes count m g =
+      respond_made r source _ (Some source, refl) (None, refl) (λ d o k. passive_fields None tt tt k) m g

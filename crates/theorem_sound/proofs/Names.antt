@@ -1,14 +1,13 @@
 -- Every answer names the next station of the ring that the call leaves, by its number: that of a poll, accepted or refused, and that of
 -- a command. When we are alone it is the number of nobody (document 02, P5).
-use Rattle.std.specs.Prelude.{ℕ, ◌≡◌, refl, List, [], ◌∷◌, eqb}
+use Rattle.std.specs.Prelude.{ℕ, ◌≡◌, refl, List, [], ◌∷◌, eqb, None}
 use Rattle.std.proofs.Common.{ap}
 use borrow.Table.Steps.{cases}
-use Rattle.ring.specs.declared.NextStation.TheVariants.{Nobody}
 use Rattle.ring.specs.Ring.{others, next_number}
 use Rattle.ring.proofs.Laws.{next_is, next_alone}
 use Rattle.codec_records.specs.Records.{record_refusal}
 use Rattle.codec_answers.specs.Answers.{refused_answer}
-use Rattle.station.specs.Whole.{Station}
+use Rattle.station.specs.declared.station.Station.{Station}
 use Rattle.station_answer.specs.Answer.{step_answer, polled_of, refused_poll}
 use Rattle.station_command.specs.Command.{connect_of, online_of, offline_of, passive_of}
 use Rattle.station_poll.specs.Poll.{accepted_after, accepted_poll, poll_of}
@@ -40,7 +39,7 @@ unfolding passive_of connect_of polled_of step_answer
 passive_names s = refl
 
 -- what is named when we are alone: nobody
-pub alone_named : (s : Station) → SoundStation s → others s.token_ring ≡ [] → next_in s ≡ next_number Nobody
+pub alone_named : (s : Station) → SoundStation s → others s.token_ring ≡ [] → next_in s ≡ next_number None
 alone_named s w e = ap next_number (next_alone s.token_ring w.ring_sound e)
 
 -- and with others: the first of them

@@ -1,12 +1,12 @@
 -- What never happens: the arms of the definitions that are there only so that they are total, each with a theorem that no call reaches
 -- it; and tests that are never asked. The numbers are those of specs/Never, and 1 is in proofs/Sound.
-use Rattle.std.specs.Prelude.{ℕ, zero, suc, ◌+◌, ◌-◌, ◌*◌, ◌^◌, ◌≤◌, ◌<◌, Bool, true, false, ◌≡◌, refl, ◌⊎◌, List, length, ltb, eqb}
+use Rattle.std.specs.Prelude.{ℕ, zero, suc, ◌+◌, ◌-◌, ◌*◌, ◌^◌, ◌≤◌, ◌<◌, Bool, true, false, ◌≡◌, refl, ◌⊎◌, List, length, ltb, eqb, Option, Some, None}
 use Rattle.std.proofs.Common.{sym, ap, inl, inr, arith, add-suc, ltb-true, ltb-false, lt-ltb, le-ltb, ne_eqb, leb-false}
 use Rattle.std.proofs.lemmas.Bool.{eqb-false}
 use borrow.Table.Steps.{cases}
 use Rattle.codec_fields.specs.Fields.{bit_number}
-use Rattle.bit_times.specs.declared.Micros.{Micros}
-use Rattle.settings.specs.declared.Parameters.{Parameters}
+use Rattle.bit_times.specs.declared.micros.Micros.{Micros}
+use Rattle.settings.specs.declared.parameters.Parameters.{Parameters}
 use Rattle.ring.specs.Ring.{Ring}
 use Rattle.codec_decisions.specs.declared.Decision.TheVariants as decision
 use Rattle.codec_decisions.specs.Decisions.{decision_of}
@@ -16,15 +16,9 @@ use Rattle.codec_telegrams.specs.Words.{telegram_of}
 use Rattle.codec_records.specs.Records.{head_of, decision_word_at, telegram_word_at, decision_at, telegram_at, record_refusal}
 use Rattle.codec_records.specs.Laws.{good}
 use Rattle.codec_answers.specs.declared.Outcome.TheVariants as outcome
-use Rattle.station.specs.declared.Activity.{Activity}
-use Rattle.station.specs.declared.Activity.TheVariants as activity
-use Rattle.station.specs.declared.OptionAddress.{OptionAddress}
-use Rattle.station.specs.declared.OptionAddress.TheVariants as optionAddress
-use Rattle.station.specs.declared.OptionApplication.{OptionApplication}
-use Rattle.station.specs.declared.OptionApplication.TheVariants as optionApplication
-use Rattle.station.specs.declared.State.{State}
-use Rattle.station.specs.declared.State.TheVariants.{Offline, ListenToken, ActiveIdle, UseToken, ClaimToken, AwaitDataResponse, PassToken, CheckTokenPass, AwaitStatusResponse, PassiveIdle}
-use Rattle.station.specs.declared.Core.{Core}
+use Rattle.station.specs.declared.state.State.{State}
+use Rattle.station.specs.declared.state.State.TheVariants.{Offline, ListenToken, ActiveIdle, UseToken, ClaimToken, AwaitDataResponse, PassToken, CheckTokenPass, AwaitStatusResponse, PassiveIdle}
+use Rattle.station.specs.declared.parts.Core.{Core}
 use Rattle.station.specs.Whole.{Heard}
 use Rattle.station.specs.Parts.{with_activity, with_pending, is_offline}
 use Rattle.station.specs.Steps.{to_passive_idle, known_at, marked_at, busy_of, ongoing_of, bus_activity_of, heard_of, collision_of, last_request_to_us}
@@ -47,7 +41,7 @@ declined : (bytes : List ℕ) (n a : ℕ) (high : Bool) → declines_at bytes n 
 unfolding declines_at declines_on
 declined bytes n a high f e = not-true (sym (rw e at f))
 
-pub sender_never_declines : (k : ℕ) (bytes : List ℕ) (n a : ℕ) (first : OptionApplication) (high : Bool) → SenderSends bytes n high (asked_from k bytes n a first high)
+pub sender_never_declines : (k : ℕ) (bytes : List ℕ) (n a : ℕ) (first : Option ℕ) (high : Bool) → SenderSends bytes n high (asked_from k bytes n a first high)
 unfolding asked_from
 sender_never_declines zero bytes n a first high = record { no_decline = λ s e. not-true s }
 sender_never_declines (suc k) bytes n a first high =
@@ -59,7 +53,7 @@ sender_never_declines (suc k) bytes n a first high =
 
 -- 3. An application past the last (decision_at, `apps[next_application]`): asking starts with the next application, which is one of the
 -- n (`next_one` of SoundCore), goes from each to one of them, and ends with one; and the decision of one of the n is its word's.
-pub application_never_past : (k : ℕ) (bytes : List ℕ) (n a : ℕ) (first : OptionApplication) (high : Bool) → a < n → (turn_of a n < n) × ((asked_from k bytes n a first high).application < n)
+pub application_never_past : (k : ℕ) (bytes : List ℕ) (n a : ℕ) (first : Option ℕ) (high : Bool) → a < n → (turn_of a n < n) × ((asked_from k bytes n a first high).application < n)
 application_never_past k bytes n a first high l = (turn_good a n l, (asked_good k bytes n a first high l).asked)
 
 pub decision_of_record : (bytes : List ℕ) (n a : ℕ) (high : Bool) → a < n → decision_at bytes n a high ≡ decision_of (decision_word_at bytes (2 * a + bit_number high))
@@ -101,7 +95,7 @@ turn_less n a f d w z =
     round l z (inl e) = absurd (omega (arith, w.below, w.first_below))
     round l z (inr e) = record { below = omega (arith, w.below); first_below = w.first_below; some = positive d (λ q. z (omega (arith, w.below))); way = inl (omega (arith, w.below)) }
 
-enough_turns : (k m : ℕ) (bytes : List ℕ) (n a : ℕ) (first : OptionApplication) (high : Bool) (d : ℕ) → Turns n a (first_or first a) d → d ≤ k → asked_from (m + k) bytes n a first high ≡ asked_from k bytes n a first high
+enough_turns : (k m : ℕ) (bytes : List ℕ) (n a : ℕ) (first : Option ℕ) (high : Bool) (d : ℕ) → Turns n a (first_or first a) d → d ≤ k → asked_from (m + k) bytes n a first high ≡ asked_from k bytes n a first high
 unfolding asked_from first_or
 enough_turns zero m bytes n a first high d w l = absurd (omega (arith, w.some))
 enough_turns (suc k) m bytes n a first high zero w l = absurd (omega (arith, w.some))
@@ -110,7 +104,7 @@ enough_turns (suc k) m bytes n a first high (suc d) w l =
     (cases (declines_at bytes n a high)
     (λ y. cases (eqb (turn_of a n) (first_or first a)) (λ z. rw (y, z) refl)
     (λ z. rw (y, z)
-    (enough_turns k m bytes n (turn_of a n) (optionApplication.Some (first_or first a)) high d (turn_less n a (first_or first a) d w (eqb-false _ _ z)) (omega arith))))
+    (enough_turns k m bytes n (turn_of a n) (Some (first_or first a)) high d (turn_less n a (first_or first a) d w (eqb-false _ _ z)) (omega arith))))
     (λ y. rw y refl))
 
 -- how many turns it takes from a back to f: at most n
@@ -124,7 +118,7 @@ turns_to n a f l h =
     let q : a + (f + n - a) ≡ f + n = omega arith in
     (f + n - a, record { below = l; first_below = h; some = omega arith; way = inr q }, omega arith))
 
-pub asking_never_runs_out : (m : ℕ) (bytes : List ℕ) (n a : ℕ) (first : OptionApplication) (high : Bool) → a < n → OneOf n first → asked_from (m + n) bytes n a first high ≡ asked_of bytes n a first high
+pub asking_never_runs_out : (m : ℕ) (bytes : List ℕ) (n a : ℕ) (first : Option ℕ) (high : Bool) → a < n → OneOf n first → asked_from (m + n) bytes n a first high ≡ asked_of bytes n a first high
 unfolding asked_of
 asking_never_runs_out m bytes n a first high l f =
     let t = turns_to n a (first_or first a) l (first_or_good n first a f l) in
@@ -132,16 +126,16 @@ asking_never_runs_out m bytes n a first high l f =
 
 -- 6. The dispatch is given no clock before the last activity.
 
-free : (a : Activity) (now : Micros) (t : Bool) → ongoing_of a now t ≡ false → NotAfter a now
+free : (a : Option Micros) (now : Micros) (t : Bool) → ongoing_of a now t ≡ false → NotAfter a now
 unfolding ongoing_of busy_of
-free activity.Unknown now t e = tt
-free (activity.At last) now true e = not-true (sym e)
-free (activity.At last) now false e = omega (arith, leb-false now.0 last.0 e)
+free None now t e = tt
+free (Some last) now true e = not-true (sym e)
+free (Some last) now false e = omega (arith, leb-false now.0 last.0 e)
 
-marked_by : (a : Activity) (now : Micros) → NotAfter a now → NotAfter (marked_at a now) now
+marked_by : (a : Option Micros) (now : Micros) → NotAfter a now → NotAfter (marked_at a now) now
 unfolding marked_at known_at
-marked_by activity.Unknown now l = either (λ (x : Activity). NotAfter x now) (ltb now.0 now.0) _ _ (omega arith) (omega arith)
-marked_by (activity.At last) now l = either (λ (x : Activity). NotAfter x now) (ltb last.0 now.0) _ _ (omega arith) l
+marked_by None now l = either (λ (x : Option Micros). NotAfter x now) (ltb now.0 now.0) _ _ (omega arith) (omega arith)
+marked_by (Some last) now l = either (λ (x : Option Micros). NotAfter x now) (ltb last.0 now.0) _ _ (omega arith) l
 
 pub never_asked_before_activity : (c : Core) (now : Micros) (transmitting : Bool) (pending : ℕ) → ongoing_of c.last_bus_activity now transmitting ≡ false → NotAfter (bus_activity_of c now pending).last_bus_activity now
 unfolding bus_activity_of with_activity with_pending
@@ -161,18 +155,18 @@ never_noted destination own false = refl
 abbrev ListeningOn : Heard → Type 0
 ListeningOn h = Listening h.state
 
-collided_listening : (p : Parameters) (c : Core) (r : Ring) (k : ℕ) → ListeningOn (collided p c r optionAddress.None k)
+collided_listening : (p : Parameters) (c : Core) (r : Ring) (k : ℕ) → ListeningOn (collided p c r None k)
 unfolding collided collision_of
 collided_listening p c r k = either ListeningOn (eqb k 0) _ _ tt tt
 
-none_noted : (own : ℕ) (t : Telegram) → noted_of own optionAddress.None t false ≡ optionAddress.None
+none_noted : (own : ℕ) (t : Telegram) → noted_of own None t false ≡ None
 unfolding noted_of
 none_noted own (telegram.Token destination source) = refl
 none_noted own telegram.ShortConfirmation = refl
 none_noted own (telegram.Request destination source asks) = rw (never_noted destination own asks) refl
 none_noted own (telegram.Response destination source state status) = refl
 
-listen_heard_listening : (p : Parameters) (c : Core) (r : Ring) (k : ℕ) (t : Telegram) → ListeningOn (listen_heard p c r optionAddress.None k t false)
+listen_heard_listening : (p : Parameters) (c : Core) (r : Ring) (k : ℕ) (t : Telegram) → ListeningOn (listen_heard p c r None k t false)
 unfolding listen_heard heard_of
 listen_heard_listening p c r k t =
     either ListeningOn (sent_by_us p.address t) _ _ (collided_listening p c r k) (rw (none_noted p.address t) tt)
@@ -180,8 +174,8 @@ listen_heard_listening p c r k t =
 listen_on_listening : (p : Parameters) (x : State) (c : Core) (r : Ring) (t : Telegram) → Listening x → ListeningOn (listen_telegram p x c r t false)
 unfolding listen_telegram heard_of
 listen_on_listening p Offline c r t l = tt
-listen_on_listening p (ListenToken optionAddress.None k) c r t l = listen_heard_listening p c r k t
-listen_on_listening p (ListenToken (optionAddress.Some a) k) c r t l = absurd l
+listen_on_listening p (ListenToken None k) c r t l = listen_heard_listening p c r k t
+listen_on_listening p (ListenToken (Some a) k) c r t l = absurd l
 listen_on_listening p (ActiveIdle q m k) c r t l = absurd l
 listen_on_listening p (UseToken k d) c r t l = absurd l
 listen_on_listening p (ClaimToken f) c r t l = absurd l
@@ -195,12 +189,12 @@ listen_on_listening p (PassiveIdle q) c r t l = absurd l
 abbrev HandlingOn : Heard → Type 0
 HandlingOn h = Handling h.state
 
-token_handling : (p : Parameters) (c : Core) (r : Ring) (now : Micros) (m : OptionAddress) (k destination source : ℕ) → HandlingOn (token_heard p c r now optionAddress.None m k destination source false)
+token_handling : (p : Parameters) (c : Core) (r : Ring) (now : Micros) (m : Option ℕ) (k destination source : ℕ) → HandlingOn (token_heard p c r now None m k destination source false)
 unfolding token_heard active_collided token_witnessed heard_of collision_of
 token_handling p c r now m k destination source =
     either HandlingOn (eqb source p.address) _ _ (either HandlingOn (eqb k 0) _ _ tt tt) (either HandlingOn (eqb destination p.address) _ _ tt tt)
 
-active_heard_handling : (p : Parameters) (c : Core) (r : Ring) (now : Micros) (m : OptionAddress) (k : ℕ) (t : Telegram) → HandlingOn (active_heard p c r now optionAddress.None m k t false)
+active_heard_handling : (p : Parameters) (c : Core) (r : Ring) (now : Micros) (m : Option ℕ) (k : ℕ) (t : Telegram) → HandlingOn (active_heard p c r now None m k t false)
 unfolding active_heard active_requested heard_of
 active_heard_handling p c r now m k (telegram.Token destination source) = token_handling p c r now m k destination source
 active_heard_handling p c r now m k telegram.ShortConfirmation = tt
@@ -211,8 +205,8 @@ handle_on_handling : (p : Parameters) (x : State) (c : Core) (r : Ring) (now : M
 unfolding handle_telegram heard_of
 handle_on_handling p Offline c r now t l = absurd l
 handle_on_handling p (ListenToken q k) c r now t l = tt
-handle_on_handling p (ActiveIdle optionAddress.None m k) c r now t l = active_heard_handling p c r now m k t
-handle_on_handling p (ActiveIdle (optionAddress.Some a) m k) c r now t l = absurd l
+handle_on_handling p (ActiveIdle None m k) c r now t l = active_heard_handling p c r now m k t
+handle_on_handling p (ActiveIdle (Some a) m k) c r now t l = absurd l
 handle_on_handling p (UseToken k d) c r now t l = absurd l
 handle_on_handling p (ClaimToken f) c r now t l = absurd l
 handle_on_handling p (AwaitDataResponse a d) c r now t l = absurd l
@@ -222,7 +216,7 @@ handle_on_handling p (AwaitStatusResponse a) c r now t l = absurd l
 handle_on_handling p (PassiveIdle q) c r now t l = absurd l
 
 -- receive_all_telegrams, of a poll with count telegrams: before telegram i
-pub listen_telegram_only_listening : (p : Parameters) (c : Core) (r : Ring) (now : Micros) (k : ℕ) (bytes : List ℕ) (n count i : ℕ) → i < count → Listening (heard_all p (heard_of (ListenToken optionAddress.None k) c r outcome.Bus) now true bytes n count i).state
+pub listen_telegram_only_listening : (p : Parameters) (c : Core) (r : Ring) (now : Micros) (k : ℕ) (bytes : List ℕ) (n count i : ℕ) → i < count → Listening (heard_all p (heard_of (ListenToken None k) c r outcome.Bus) now true bytes n count i).state
 unfolding heard_all heard_telegram heard_of
 listen_telegram_only_listening p c r now k bytes n count zero l = tt
 listen_telegram_only_listening p c r now k bytes n count (suc i) l =
@@ -230,10 +224,10 @@ listen_telegram_only_listening p c r now k bytes n count (suc i) l =
     rw (ne_eqb (suc i) count (λ z. omega arith)) (listen_on_listening p _ _ _ _ before)
 
 -- Before each telegram of PassiveIdle the station is in PassiveIdle with no request noted.
-passive_heard_stays : (p : Parameters) (c : Core) (r : Ring) (t : Telegram) → (passive_heard p c r optionAddress.None t false).state ≡ to_passive_idle
+passive_heard_stays : (p : Parameters) (c : Core) (r : Ring) (t : Telegram) → (passive_heard p c r None t false).state ≡ to_passive_idle
 unfolding passive_heard heard_of
 passive_heard_stays p c r t =
-    either (λ (h : Heard). h.state ≡ to_passive_idle) (sent_by_us p.address t) _ _ refl (ap (λ (q : OptionAddress). PassiveIdle q) (none_noted p.address t))
+    either (λ (h : Heard). h.state ≡ to_passive_idle) (sent_by_us p.address t) _ _ refl (ap (λ (q : Option ℕ). PassiveIdle q) (none_noted p.address t))
 
 listen_from_passive : (p : Parameters) (x : State) (c : Core) (r : Ring) (t : Telegram) → x ≡ to_passive_idle → (listen_telegram p x c r t false).state ≡ to_passive_idle
 unfolding listen_telegram
@@ -246,7 +240,7 @@ passive_telegram_only_passive p c r now bytes n count (suc i) l =
     let before = passive_telegram_only_passive p c r now bytes n count i (omega arith) in
     rw (ne_eqb (suc i) count (λ z. omega arith)) (listen_from_passive p _ _ _ _ before)
 
-pub handle_telegram_only_active : (p : Parameters) (c : Core) (r : Ring) (now : Micros) (m : OptionAddress) (k : ℕ) (bytes : List ℕ) (n count i : ℕ) → i < count → Handling (heard_all p (heard_of (ActiveIdle optionAddress.None m k) c r outcome.Bus) now false bytes n count i).state
+pub handle_telegram_only_active : (p : Parameters) (c : Core) (r : Ring) (now : Micros) (m : Option ℕ) (k : ℕ) (bytes : List ℕ) (n count i : ℕ) → i < count → Handling (heard_all p (heard_of (ActiveIdle None m k) c r outcome.Bus) now false bytes n count i).state
 unfolding heard_all heard_telegram heard_of
 handle_telegram_only_active p c r now m k bytes n count zero l = tt
 handle_telegram_only_active p c r now m k bytes n count (suc i) l =
@@ -255,11 +249,11 @@ handle_telegram_only_active p c r now m k bytes n count (suc i) l =
 
 -- 8. The dispatch of a sound station is given an unknown activity in the two states of MayNotKnow alone.
 
-unknown_passive : (q : OptionAddress) (a : Activity) → KnownWith q a → a ≡ activity.Unknown → MayNotKnow (PassiveIdle q)
-unknown_passive optionAddress.None a k e = inr refl
-unknown_passive (optionAddress.Some source) a k e = absurd (rw e at k)
+unknown_passive : (q : Option ℕ) (a : Option Micros) → KnownWith q a → a ≡ None → MayNotKnow (PassiveIdle q)
+unknown_passive None a k e = inr refl
+unknown_passive (Some source) a k e = absurd (rw e at k)
 
-unknown_listening : (x : State) (a : Activity) → (x ≡ Offline → ⊥) → KnownIn x a → a ≡ activity.Unknown → MayNotKnow x
+unknown_listening : (x : State) (a : Option Micros) → (x ≡ Offline → ⊥) → KnownIn x a → a ≡ None → MayNotKnow x
 unknown_listening Offline a z k e = absurd (z refl)
 unknown_listening (ListenToken q i) a z k e = inl refl
 unknown_listening (ActiveIdle q m i) a z k e = absurd (rw e at k)
@@ -271,6 +265,6 @@ unknown_listening (CheckTokenPass i) a z k e = absurd (rw e at k)
 unknown_listening (AwaitStatusResponse s) a z k e = absurd (rw e at k)
 unknown_listening (PassiveIdle q) a z k e = unknown_passive q a k e
 
-pub only_listening_unknown : (p : Parameters) (n : ℕ) (now : Micros) (x : State) (c : Core) (pending : ℕ) → pending < 2 ^ 11 → Clock now → is_offline c.connectivity_state ≡ false → SoundCore p n x c → (bus_activity_of c now pending).last_bus_activity ≡ activity.Unknown → MayNotKnow (entered_of c.connectivity_state x)
+pub only_listening_unknown : (p : Parameters) (n : ℕ) (now : Micros) (x : State) (c : Core) (pending : ℕ) → pending < 2 ^ 11 → Clock now → is_offline c.connectivity_state ≡ false → SoundCore p n x c → (bus_activity_of c now pending).last_bus_activity ≡ None → MayNotKnow (entered_of c.connectivity_state x)
 only_listening_unknown p n now x c pending few l o w e =
     unknown_listening _ _ (dispatch_never_offline c.connectivity_state x o) (dispatched p n now x c pending few l o w).activity_known_lem e

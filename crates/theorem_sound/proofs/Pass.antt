@@ -1,12 +1,10 @@
 -- What the steps of station_pass, station_await_status and station_check_pass come to. Where a token pass may end is said in specs/Pass.
-use Rattle.std.specs.Prelude.{ℕ, Bool, ◌≡◌, List, ltb, eqb}
+use Rattle.std.specs.Prelude.{ℕ, Bool, ◌≡◌, List, ltb, eqb, None, Option, Some}
 use Rattle.std.proofs.Math.Bool.{true, false}
 use Rattle.std.proofs.Math.Path.{refl}
 use Rattle.std.proofs.Common.{arith, ltb-false, lit≤}
-use Rattle.bit_times.specs.declared.Micros.{Micros}
-use Rattle.settings.specs.declared.Parameters.{Parameters}
-use Rattle.ring.specs.declared.NextStation.{NextStation}
-use Rattle.ring.specs.declared.NextStation.TheVariants.{Nobody, Neighbour}
+use Rattle.bit_times.specs.declared.micros.Micros.{Micros}
+use Rattle.settings.specs.declared.parameters.Parameters.{Parameters}
 use Rattle.ring.specs.declared.GapState.{GapState}
 use Rattle.ring.specs.declared.GapState.TheVariants.{Waiting, DoPoll}
 use Rattle.ring.specs.Ring.{Ring, candidate_of, polls, gap_of}
@@ -14,11 +12,11 @@ use Rattle.codec_telegrams.specs.declared.ResponseState.{ResponseState}
 use Rattle.codec_telegrams.specs.declared.ResponseState.TheVariants.{Slave, MasterNotReady, MasterWithoutToken, MasterInRing}
 use Rattle.codec_telegrams.specs.declared.Telegram.{Telegram}
 use Rattle.codec_telegrams.specs.declared.Telegram.TheVariants as telegram
-use Rattle.station.specs.declared.PassTokenAttempt.{PassTokenAttempt}
-use Rattle.station.specs.declared.PassTokenAttempt.TheVariants.{First, Second, Third}
-use Rattle.station.specs.declared.State.{State}
-use Rattle.station.specs.declared.State.TheVariants.{PassToken, CheckTokenPass, AwaitStatusResponse}
-use Rattle.station.specs.declared.Core.{Core}
+use Rattle.station.specs.declared.state.PassTokenAttempt.{PassTokenAttempt}
+use Rattle.station.specs.declared.state.PassTokenAttempt.TheVariants.{First, Second, Third}
+use Rattle.station.specs.declared.state.State.{State}
+use Rattle.station.specs.declared.state.State.TheVariants.{PassToken, CheckTokenPass, AwaitStatusResponse}
+use Rattle.station.specs.declared.parts.Core.{Core}
 use Rattle.station.specs.Parts.{with_activity}
 use Rattle.station.specs.Steps.{to_active_idle, known_at, waited_of, pause_of, slot_expired_of}
 use Rattle.station_pass.specs.Pass.{gap_advanced, pass_sent_on, pass_send, pass_poll_on, pass_poll, pass_token_of}
@@ -62,11 +60,11 @@ status_ring_good p r a s status g = either (RingGood p) (eqb status 0) _ _ (stat
 
 module _ {p : Parameters} {n : ℕ} {now : Micros} {x₀ : State} {c₀ : Core} {E : State → Type 0} where
   -- do_pass_token
-  sent_made : {gap : Bool} {attempt : PassTokenAttempt} {c : Core} (x : NextStation) (to : ℕ) (r : Ring) → PassEnds E gap → Came p n now x₀ c₀ (PassToken gap attempt) c → RingGood p r → RingMade p n now x₀ c₀ E (pass_sent_on x p c now attempt to r)
+  sent_made : {gap : Bool} {attempt : PassTokenAttempt} {c : Core} (x : Option ℕ) (to : ℕ) (r : Ring) → PassEnds E gap → Came p n now x₀ c₀ (PassToken gap attempt) c → RingGood p r → RingMade p n now x₀ c₀ E (pass_sent_on x p c now attempt to r)
   unfolding pass_sent_on
-  sent_made Nobody to r e k g =
+  sent_made None to r e k g =
       record { made_step = transmit_made _ (lit≤ tt) (to_use _ refl (new_token n now k.clock) (new_unasked now) k) (e.ends_alone _); made_ring = g }
-  sent_made {attempt = attempt} (Neighbour a) to r e k g =
+  sent_made {attempt = attempt} (Some a) to r e k g =
       record { made_step = transmit_made _ (lit≤ tt) (to_check attempt refl k) (e.ends_check _); made_ring = g }
 
   send_made : {gap : Bool} {attempt : PassTokenAttempt} {c : Core} (r : Ring) → PassEnds E gap → Came p n now x₀ c₀ (PassToken gap attempt) c → RingGood p r → RingMade p n now x₀ c₀ E (pass_send p c r now attempt)

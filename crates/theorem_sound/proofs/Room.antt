@@ -2,17 +2,17 @@
 -- not. And what settings without that room came to: with those of document 02's site the hold ended before that time.
 use Rattle.std.specs.Prelude.{ℕ, ◌+◌, ◌-◌, ◌≤◌, ◌≡◌, ◌⊎◌}
 use Rattle.std.proofs.Common.{subst, inl, inr, arith}
-use Rattle.bit_times.specs.declared.Micros.{Micros}
+use Rattle.bit_times.specs.declared.micros.Micros.{Micros}
 use Rattle.bit_times.specs.Times.{rounded, time_of}
 use Rattle.bit_times.proofs.Laws.{time_grows}
-use Rattle.settings.specs.declared.Parameters.{Parameters}
+use Rattle.settings.specs.declared.parameters.Parameters.{Parameters}
 use Rattle.settings.specs.Settings.{rotation_time_of}
 use Rattle.settings_build.specs.Build.{first_refusal, plain_of}
 use Rattle.settings_build.proofs.Passes.{address_low, rotation_top, rotation_room}
 use Rattle.settings_build.specs.Finish.{site}
 use Rattle.ring.specs.declared.GapState.{GapState}
 use Rattle.ring.specs.declared.GapState.TheVariants.{Waiting, DoPoll}
-use Rattle.station.specs.Whole.{Station}
+use Rattle.station.specs.declared.station.Station.{Station}
 use Rattle.station.specs.Parts.{fresh_station}
 use Rattle.station_hold.specs.Hold.{hold_less, end_of}
 use Rattle.station_hold.specs.Laws.{capped_fits}

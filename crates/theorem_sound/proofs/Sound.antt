@@ -1,24 +1,23 @@
 -- Every station that the public calls make is sound: what `new` gives for an address of settings and a number of applications that is
 -- not refused, and what any list of polls and commands makes of it.
-use Rattle.std.specs.Prelude.{ℕ, suc, ◌^◌, ◌<◌, ◌≤◌, Bool, true, false, cond, ◌≡◌, List, [], ◌∷◌, eqb}
+use Rattle.std.specs.Prelude.{ℕ, suc, ◌^◌, ◌<◌, ◌≤◌, Bool, true, false, cond, ◌≡◌, List, [], ◌∷◌, eqb, Option, Some, None}
 use Rattle.std.proofs.Math.Path.{refl, subst}
 use Rattle.std.proofs.Common.{sym, ap, inl, arith, lit<}
-use Rattle.bit_times.specs.declared.Micros.{Micros}
-use Rattle.settings.specs.declared.Parameters.{Parameters}
+use Rattle.bit_times.specs.declared.micros.Micros.{Micros}
+use Rattle.settings.specs.declared.parameters.Parameters.{Parameters}
 use Rattle.settings_rules.specs.Rules.{applications_refusal}
 use Rattle.settings_rules.proofs.Laws.{outside_in}
 use Rattle.ring.specs.Ring.{Ring}
 use Rattle.codec_records.specs.Records.{head_of, record_refusal}
 use Rattle.codec_records.specs.Laws.{clock_below, pending_below}
 use Rattle.codec_answers.specs.declared.Outcome.TheVariants as outcome
-use Rattle.station.specs.declared.OptionAddress.{OptionAddress}
-use Rattle.station.specs.declared.OptionAddress.TheVariants as optionAddress
-use Rattle.station.specs.declared.ConnectivityState.{ConnectivityState}
-use Rattle.station.specs.declared.ConnectivityState.TheVariants as connectivity
-use Rattle.station.specs.declared.State.{State}
-use Rattle.station.specs.declared.State.TheVariants.{Offline, ListenToken, ActiveIdle, UseToken, ClaimToken, AwaitDataResponse, PassToken, CheckTokenPass, AwaitStatusResponse, PassiveIdle}
-use Rattle.station.specs.declared.Core.{Core}
-use Rattle.station.specs.Whole.{Station, RingStep}
+use Rattle.station.specs.declared.state.ConnectivityState.{ConnectivityState}
+use Rattle.station.specs.declared.state.ConnectivityState.TheVariants as connectivity
+use Rattle.station.specs.declared.state.State.{State}
+use Rattle.station.specs.declared.state.State.TheVariants.{Offline, ListenToken, ActiveIdle, UseToken, ClaimToken, AwaitDataResponse, PassToken, CheckTokenPass, AwaitStatusResponse, PassiveIdle}
+use Rattle.station.specs.declared.parts.Core.{Core}
+use Rattle.station.specs.declared.station.Station.{Station}
+use Rattle.station.specs.Whole.{RingStep}
 use Rattle.station.specs.Parts.{fresh_core, fresh_station, is_offline, state_number}
 use Rattle.station.specs.Steps.{ongoing_of, bus_activity_of, pause_of, token_lost_wait_of, done_of, ring_step_of}
 use Rattle.station_poll.specs.Poll.{connected_of, passivated_of, entered_of, dispatch_of, poll_online, poll_inner, accepted_after, accepted_poll, poll_of}
@@ -136,10 +135,10 @@ module _ {p : Parameters} {n : ℕ} {now : Micros} {x₀ : State} {c₀ : Core} 
       poll_online_made r t pending few bytes count (λ z. no_state _ (ap state_number z)) (goes refl tt)
       (λ d m. listen_token_made r bytes count (goes refl refl) (lost_follows d now refl) (record { ends_offline = goes refl tt; ends_listen = λ q i. goes refl tt; ends_passive = λ q. goes refl tt }) m g)
       (to_listen refl o k) g
-  connected_made (ListenToken optionAddress.None i) r t pending few bytes count f o k g =
+  connected_made (ListenToken None i) r t pending few bytes count f o k g =
       poll_online_made r t pending few bytes count (λ z. no_state _ (ap state_number z)) (goes refl tt)
       (λ d m. listen_token_made r bytes count (goes refl refl) (lost_follows d now refl) (record { ends_offline = goes refl tt; ends_listen = λ q i. goes refl tt; ends_passive = λ q. goes refl tt }) m g) k g
-  connected_made (ListenToken (optionAddress.Some a) i) r t pending few bytes count f o k g =
+  connected_made (ListenToken (Some a) i) r t pending few bytes count f o k g =
       poll_online_made r t pending few bytes count (λ z. no_state _ (ap state_number z)) (goes refl tt)
       (λ d m. listen_token_made r bytes count (goes refl refl) (lost_follows d now refl) (goes refl tt, goes refl tt, goes refl tt) m g) k g
   connected_made (ActiveIdle q m i) r t pending few bytes count f o k g =
@@ -181,7 +180,7 @@ module _ {p : Parameters} {n : ℕ} {now : Micros} {x₀ : State} {c₀ : Core} 
       (to_listen refl o k) g
 
   -- what a poll of PassiveIdle comes to, from a state that may be left for it
-  idle_made : {E : State → Type 0} {c : Core} (q : OptionAddress) (r : Ring) (t : Bool) (pending : ℕ) (few : pending < 2 ^ 11) (bytes : List ℕ) (count : ℕ) → ((q' : OptionAddress) → E (PassiveIdle q')) → Came p n now x₀ c₀ (PassiveIdle q) c → RingGood p r → RingMade p n now x₀ c₀ E (poll_online p (PassiveIdle q) c r now t pending bytes n count)
+  idle_made : {E : State → Type 0} {c : Core} (q : Option ℕ) (r : Ring) (t : Bool) (pending : ℕ) (few : pending < 2 ^ 11) (bytes : List ℕ) (count : ℕ) → ((q' : Option ℕ) → E (PassiveIdle q')) → Came p n now x₀ c₀ (PassiveIdle q) c → RingGood p r → RingMade p n now x₀ c₀ E (poll_online p (PassiveIdle q) c r now t pending bytes n count)
   unfolding dispatch_of
   idle_made {E} q r t pending few bytes count e k g =
       poll_online_made r t pending few bytes count (λ z. no_state _ (ap state_number z)) (e q) (λ d m. ends_where (λ y w. subst E (sym w.1) (e w.0)) (passive_idle_made q r bytes count m g)) k g

@@ -2,10 +2,10 @@
 use Rattle.std.specs.Prelude.{ℕ, ◌≡◌, refl, false, List, [], ◌∷◌, eqb}
 use Rattle.std.proofs.Common.{sym, ◌∙◌, eqb-true}
 use borrow.Table.Steps.{cases}
-use Rattle.settings.specs.declared.Parameters.{Parameters}
+use Rattle.settings.specs.declared.parameters.Parameters.{Parameters}
 use Rattle.codec_records.specs.Records.{record_refusal}
 use Rattle.codec_answers.specs.Answers.{refused_answer}
-use Rattle.station.specs.Whole.{Station}
+use Rattle.station.specs.declared.station.Station.{Station}
 use Rattle.station.specs.Parts.{fresh_station}
 use Rattle.station_answer.specs.Answer.{step_answer, polled_of, refused_poll}
 use Rattle.station_command.specs.Command.{connect_of, online_of, offline_of, passive_of}

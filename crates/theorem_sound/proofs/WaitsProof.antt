@@ -1,14 +1,14 @@
 -- The theorems of specs/Waits.antt: from the steps (Guarded) to the calls.
-use Rattle.std.specs.Prelude.{ℕ, ◌+◌, ◌<◌, ◌≤◌, Bool, cond, ◌≡◌, ◌⊎◌, List, [], ◌∷◌, ltb, eqb}
+use Rattle.std.specs.Prelude.{ℕ, ◌+◌, ◌<◌, ◌≤◌, Bool, cond, ◌≡◌, ◌⊎◌, List, [], ◌∷◌, ltb, eqb, Option, Some, None}
 use Rattle.std.proofs.Math.Bool.{true, false}
 use Rattle.std.proofs.Math.Path.{refl}
 use Rattle.std.proofs.Common.{sym, subst, inl, inr, arith, add-mul, mul-le-mul_right, lit≤}
 use borrow.Author.Tests.{leb-true, leb-false}
-use Rattle.bit_times.specs.declared.Micros.{Micros}
-use Rattle.bit_times.specs.declared.Baud.{Baud}
+use Rattle.bit_times.specs.declared.micros.Micros.{Micros}
+use Rattle.bit_times.specs.declared.baud.Baud.{Baud}
 use Rattle.bit_times.specs.Times.{rate_of, time_of}
 use Rattle.bit_times.proofs.Laws.{time_lasts, time_some}
-use Rattle.settings.specs.declared.Parameters.{Parameters}
+use Rattle.settings.specs.declared.parameters.Parameters.{Parameters}
 use Rattle.settings.specs.Settings.{slot_time_of}
 use Rattle.settings_rules.specs.Rules.{applications_refusal}
 use Rattle.ring.specs.Ring.{Ring}
@@ -17,15 +17,13 @@ use Rattle.codec_answers.specs.Answers.{refused_answer}
 use Rattle.codec_answers.specs.declared.Outcome.TheVariants as outcome
 use Rattle.codec_answers.specs.declared.Sent.TheVariants as sent
 use Rattle.codec_answers.specs.declared.Notice.TheVariants as notice
-use Rattle.station.specs.declared.Activity.{Activity}
-use Rattle.station.specs.declared.Activity.TheVariants as activity
-use Rattle.station.specs.declared.ConnectivityState.{ConnectivityState}
-use Rattle.station.specs.declared.ConnectivityState.TheVariants as connectivity
-use Rattle.station.specs.declared.State.{State}
-use Rattle.station.specs.declared.State.TheVariants.{Offline, ListenToken, ActiveIdle, UseToken, ClaimToken, AwaitDataResponse, PassToken, CheckTokenPass, AwaitStatusResponse, PassiveIdle}
-use Rattle.station.specs.declared.Core.{Core}
-use Rattle.station.specs.Whole.{Station, RingStep}
-use Rattle.station.specs.declared.Step.{Step}
+use Rattle.station.specs.declared.state.ConnectivityState.{ConnectivityState}
+use Rattle.station.specs.declared.state.ConnectivityState.TheVariants as connectivity
+use Rattle.station.specs.declared.state.State.{State}
+use Rattle.station.specs.declared.state.State.TheVariants.{Offline, ListenToken, ActiveIdle, UseToken, ClaimToken, AwaitDataResponse, PassToken, CheckTokenPass, AwaitStatusResponse, PassiveIdle}
+use Rattle.station.specs.declared.parts.Core.{Core}
+use Rattle.station.specs.declared.station.Station.{Station}
+use Rattle.station.specs.Whole.{RingStep, Step}
 use Rattle.station.specs.Parts.{with_activity, with_pending, is_offline, state_number, fresh_station}
 use Rattle.station.specs.Steps.{known_at, elapsed_of, marked_at, busy_of, ongoing_of, waited_of, pause_of, slot_expired_of, bus_activity_of, done_of, ring_step_of}
 use Rattle.station_answer.specs.Answer.{Polled, step_answer, polled_of, refused_poll}
@@ -42,7 +40,7 @@ use Rattle.theorem_sound.specs.Guarded.{Guarded, Told}
 use Rattle.theorem_sound.proofs.Guarded.{weaken, retold, done_guarded, done_told, dispatch_guarded, slot_guarded, slot_told}
 
 -- an activity that a poll does not find going on lies before its clock
-free_before : (last now : Micros) (t : Bool) → ongoing_of (activity.At last) now t ≡ false → last.0 < now.0
+free_before : (last now : Micros) (t : Bool) → ongoing_of (Some last) now t ≡ false → last.0 < now.0
 unfolding ongoing_of busy_of
 free_before last now true e = not-true (sym e)
 free_before last now false e = leb-false now.0 last.0 e
@@ -53,21 +51,21 @@ module _ (now time : Micros) where
   unfolding elapsed_of
   passed_at last e = leb-true (last.0 + time.0) now.0 e
 
-  since_same : (a : Activity) → Known a ⊎ (1 ≤ time.0) → elapsed_of now (known_at a now) time ≡ true → Since a now time
+  since_same : (a : Option Micros) → Known a ⊎ (1 ≤ time.0) → elapsed_of now (known_at a now) time ≡ true → Since a now time
   unfolding known_at
-  since_same activity.Unknown (inl k) e = absurd k
-  since_same activity.Unknown (inr k) e = absurd (omega (arith, passed_at now e))
-  since_same (activity.At last) k e = record { last = last; known = refl; passed = passed_at last e }
+  since_same None (inl k) e = absurd k
+  since_same None (inr k) e = absurd (omega (arith, passed_at now e))
+  since_same (Some last) k e = record { last = last; known = refl; passed = passed_at last e }
 
-  since_either : (b : Bool) (a : Activity) (t : Bool) → ongoing_of a now t ≡ false → Known a ⊎ (1 ≤ time.0) → elapsed_of now (known_at (cond b (activity.At now) (activity.At (known_at a now))) now) time ≡ true → Since a now time
+  since_either : (b : Bool) (a : Option Micros) (t : Bool) → ongoing_of a now t ≡ false → Known a ⊎ (1 ≤ time.0) → elapsed_of now (known_at (cond b (Some now) (Some (known_at a now))) now) time ≡ true → Since a now time
   unfolding known_at
-  since_either b activity.Unknown t o (inl k) e = absurd k
-  since_either true activity.Unknown t o (inr k) e = absurd (omega (arith, passed_at now e))
-  since_either false activity.Unknown t o (inr k) e = absurd (omega (arith, passed_at now e))
-  since_either true (activity.At last) t o k e = record { last = last; known = refl; passed = omega (arith, passed_at now e, free_before last now t o) }
-  since_either false (activity.At last) t o k e = record { last = last; known = refl; passed = passed_at last e }
+  since_either b None t o (inl k) e = absurd k
+  since_either true None t o (inr k) e = absurd (omega (arith, passed_at now e))
+  since_either false None t o (inr k) e = absurd (omega (arith, passed_at now e))
+  since_either true (Some last) t o k e = record { last = last; known = refl; passed = omega (arith, passed_at now e, free_before last now t o) }
+  since_either false (Some last) t o k e = record { last = last; known = refl; passed = passed_at last e }
 
-  since_marked : (a : Activity) (t : Bool) → ongoing_of a now t ≡ false → Known a ⊎ (1 ≤ time.0) → elapsed_of now (known_at (marked_at a now) now) time ≡ true → Since a now time
+  since_marked : (a : Option Micros) (t : Bool) → ongoing_of a now t ≡ false → Known a ⊎ (1 ≤ time.0) → elapsed_of now (known_at (marked_at a now) now) time ≡ true → Since a now time
   unfolding marked_at
   since_marked a t o k e = since_either (ltb (known_at a now).0 now.0) a t o k e
 
@@ -220,7 +218,7 @@ pause_kept s offline x = absurd (x (offline_silent s).0)
 pause_kept s passive x = absurd (x (passive_silent s).0)
 
 -- a time of bits that is over: the bits have gone by to the full, since their time is never shorter than they last
-bits_since : (a : Activity) (now : Micros) (baud : Baud) (bits : ℕ) → Since a now (time_of (record { 0 = bits }) baud) → BitsSince a now baud bits
+bits_since : (a : Option Micros) (now : Micros) (baud : Baud) (bits : ℕ) → Since a now (time_of (record { 0 = bits }) baud) → BitsSince a now baud bits
 bits_since a now baud bits w =
     record { last = w.last; known = w.known; lasted = omega (arith, (time_lasts (record { 0 = bits }) baud).not_shorter, add-mul w.last.0 (time_of (record { 0 = bits }) baud).0 (rate_of baud), mul-le-mul_right (rate_of baud) w.passed) }
 

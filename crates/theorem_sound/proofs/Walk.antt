@@ -1,23 +1,22 @@
 -- What a step comes to, in the words of specs/Walk: one law for each way of active.rs to write to the station; the steps of each crate
 -- (Hold, Listen, Pass) and the calls (Sound) are put together of these.
-use Rattle.std.specs.Prelude.{ℕ, ◌^◌, ◌≤◌, ◌<◌, Bool, true, false, ◌≡◌, refl, ltb}
+use Rattle.std.specs.Prelude.{ℕ, ◌^◌, ◌≤◌, ◌<◌, Bool, true, false, ◌≡◌, refl, ltb, Option}
 use Rattle.std.proofs.Common.{lit<}
-use Rattle.bit_times.specs.declared.Micros.{Micros}
-use Rattle.settings.specs.declared.Parameters.{Parameters}
+use Rattle.bit_times.specs.declared.micros.Micros.{Micros}
+use Rattle.settings.specs.declared.parameters.Parameters.{Parameters}
 use Rattle.ring.specs.Ring.{Ring}
 use Rattle.ring.specs.declared.GapState.{GapState}
 use Rattle.ring.specs.declared.GapState.TheVariants.{DoPoll}
 use Rattle.codec_answers.specs.declared.Outcome.{Outcome}
 use Rattle.codec_answers.specs.declared.Sent.{Sent}
 use Rattle.codec_answers.specs.Answers.{sent_bytes}
-use Rattle.station.specs.declared.OptionAddress.{OptionAddress}
-use Rattle.station.specs.declared.PassTokenAttempt.{PassTokenAttempt}
-use Rattle.station.specs.declared.UseTokenData.{UseTokenData}
-use Rattle.station.specs.declared.ConnectivityState.TheVariants as connectivity
-use Rattle.station.specs.declared.State.{State}
-use Rattle.station.specs.declared.State.TheVariants.{Offline, ListenToken, ActiveIdle, UseToken, ClaimToken, AwaitDataResponse, PassToken, CheckTokenPass, AwaitStatusResponse, PassiveIdle}
-use Rattle.station.specs.declared.Core.{Core}
-use Rattle.station.specs.declared.Event.{Event}
+use Rattle.station.specs.declared.state.PassTokenAttempt.{PassTokenAttempt}
+use Rattle.station.specs.declared.state.UseTokenData.{UseTokenData}
+use Rattle.station.specs.declared.state.ConnectivityState.TheVariants as connectivity
+use Rattle.station.specs.declared.state.State.{State}
+use Rattle.station.specs.declared.state.State.TheVariants.{Offline, ListenToken, ActiveIdle, UseToken, ClaimToken, AwaitDataResponse, PassToken, CheckTokenPass, AwaitStatusResponse, PassiveIdle}
+use Rattle.station.specs.declared.parts.Core.{Core}
+use Rattle.station.specs.declared.done.Event.{Event}
 use Rattle.station.specs.Whole.{RingStep}
 use Rattle.station.specs.Parts.{with_activity, with_pending, with_gap, with_next_application, fresh_core, state_number}
 use Rattle.station.specs.Steps.{with_token_time, to_listen_token, to_passive_idle, to_active_idle, marked_at, waited_of, pause_of, slot_expired_of, token_lost_wait_of, rx_of, bus_activity_of, done_of, transmit_of, with_event, heard_of, collision_of}
@@ -131,13 +130,13 @@ module _ {p : Parameters} {n : ℕ} {now : Micros} {x₀ : State} {c₀ : Core} 
   gap_turned {gap} {attempt} g l h k = moved k (gaps gap attempt g l h)
 
   -- a field of the state
-  pub listen_fields : {q : OptionAddress} {k : ℕ} {c : Core} (q' : OptionAddress) (k' : ℕ) → Other p.address q' → k' ≤ 1 → Came p n now x₀ c₀ (ListenToken q k) c → Came p n now x₀ c₀ (ListenToken q' k') c
+  pub listen_fields : {q : Option ℕ} {k : ℕ} {c : Core} (q' : Option ℕ) (k' : ℕ) → Other p.address q' → k' ≤ 1 → Came p n now x₀ c₀ (ListenToken q k) c → Came p n now x₀ c₀ (ListenToken q' k') c
   listen_fields q' k' l o k = moved k (listens _ q' _ k' l o)
 
-  pub passive_fields : {q : OptionAddress} {c : Core} (q' : OptionAddress) → Other p.address q' → KnownWith q' c.last_bus_activity → Came p n now x₀ c₀ (PassiveIdle q) c → Came p n now x₀ c₀ (PassiveIdle q') c
+  pub passive_fields : {q : Option ℕ} {c : Core} (q' : Option ℕ) → Other p.address q' → KnownWith q' c.last_bus_activity → Came p n now x₀ c₀ (PassiveIdle q) c → Came p n now x₀ c₀ (PassiveIdle q') c
   passive_fields q' l w k = moved k (passives _ q' l w)
 
-  pub idle_fields : {q m : OptionAddress} {k : ℕ} {c : Core} (q' m' : OptionAddress) (k' : ℕ) → Low q' → Other p.address m' → k' ≤ 1 → Came p n now x₀ c₀ (ActiveIdle q m k) c → Came p n now x₀ c₀ (ActiveIdle q' m' k') c
+  pub idle_fields : {q m : Option ℕ} {k : ℕ} {c : Core} (q' m' : Option ℕ) (k' : ℕ) → Low q' → Other p.address m' → k' ≤ 1 → Came p n now x₀ c₀ (ActiveIdle q m k) c → Came p n now x₀ c₀ (ActiveIdle q' m' k') c
   idle_fields q' m' k' l h o k = moved k (idles _ q' _ m' _ k' l h o)
 
   pub cycle_done : {cycled : Bool} {held : UseTokenData} {c : Core} (kept : UseTokenData) → HeldFits n kept → kept.token_time.0 ≡ c.last_token_time.0 → Came p n now x₀ c₀ (UseToken cycled held) c → Came p n now x₀ c₀ (UseToken true kept) c

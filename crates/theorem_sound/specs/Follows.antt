@@ -2,14 +2,14 @@
 -- theorems are in proofs/Sound.antt. Both are said of settings whose slot is not shorter than the pause, as that of accepted settings is.
 use Rattle.std.specs.Prelude.{ℕ, ◌+◌, ◌*◌, ◌≤◌, Bool, true, false, cond, ◌≡◌, refl, List, [], ◌∷◌, eqb, get_or}
 use Rattle.std.proofs.Common.{arith, mul-le-mul, leb-true, leb-false}
-use Rattle.bit_times.specs.declared.Micros.{Micros}
+use Rattle.bit_times.specs.declared.micros.Micros.{Micros}
 use Rattle.bit_times.specs.Times.{pause_bits, time_of}
-use Rattle.settings.specs.declared.Parameters.{Parameters}
+use Rattle.settings.specs.declared.parameters.Parameters.{Parameters}
 use Rattle.settings.specs.Settings.{slot_time_of, token_lost_of}
-use Rattle.station.specs.declared.PassTokenAttempt.TheVariants.{First}
-use Rattle.station.specs.declared.State.{State}
-use Rattle.station.specs.declared.State.TheVariants.{Offline, ListenToken, ActiveIdle, UseToken, ClaimToken, AwaitDataResponse, PassToken, CheckTokenPass, AwaitStatusResponse, PassiveIdle}
-use Rattle.station.specs.declared.Core.{Core}
+use Rattle.station.specs.declared.state.PassTokenAttempt.TheVariants.{First}
+use Rattle.station.specs.declared.state.State.{State}
+use Rattle.station.specs.declared.state.State.TheVariants.{Offline, ListenToken, ActiveIdle, UseToken, ClaimToken, AwaitDataResponse, PassToken, CheckTokenPass, AwaitStatusResponse, PassiveIdle}
+use Rattle.station.specs.declared.parts.Core.{Core}
 use Rattle.station.specs.Parts.{with_activity, state_number}
 use Rattle.station.specs.Steps.{known_at, elapsed_of, waited_of, pause_of, slot_expired_of, token_lost_wait_of}
 use Rattle.theorem_sound.specs.Moves.{lists, listen_token_from, active_idle_from, use_token_from, claim_token_from, await_data_response_from, pass_token_from, check_token_pass_from, await_status_response_from, passive_idle_from}

@@ -1,7 +1,7 @@
 -- What it is for a step to send, and to tell a timeout, only where something holds. The laws, step by step, are in proofs/Guarded.
 use Rattle.std.specs.Prelude.{◌≡◌}
 use Rattle.codec_answers.specs.declared.Sent.TheVariants as sent
-use Rattle.station.specs.declared.Step.{Step}
+use Rattle.station.specs.Whole.{Step}
 use Rattle.theorem_sound.specs.Waits.{TellsTimeout}
 
 -- a step sends only where Q holds

@@ -1,11 +1,11 @@
 -- What asking the applications ends with, and where a step of station_hold may end. What the steps come to is proved in proofs/Hold.
 use Rattle.std.specs.Prelude.{ℕ, ◌<◌, Bool}
 use Rattle.std.proofs.Math.Bool.{true}
-use Rattle.station.specs.declared.PassTokenAttempt.TheVariants.{First}
-use Rattle.station.specs.declared.UseTokenData.{UseTokenData}
-use Rattle.station.specs.declared.State.{State}
-use Rattle.station.specs.declared.State.TheVariants.{UseToken, AwaitDataResponse, PassToken}
-use Rattle.station_hold.specs.declared.Asked.{Asked}
+use Rattle.station.specs.declared.state.PassTokenAttempt.TheVariants.{First}
+use Rattle.station.specs.declared.state.UseTokenData.{UseTokenData}
+use Rattle.station.specs.declared.state.State.{State}
+use Rattle.station.specs.declared.state.State.TheVariants.{UseToken, AwaitDataResponse, PassToken}
+use Rattle.station_hold.specs.Hold.{Asked}
 
 -- what asking ends with: one of the n applications
 pub record AskedGood (n : ℕ) (a : Asked) : Type 0 where

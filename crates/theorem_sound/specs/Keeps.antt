@@ -4,7 +4,7 @@ use Rattle.std.specs.Prelude.{ℕ, ◌+◌, ◌*◌, ◌<◌, ◌≤◌, Bool, t
 use Rattle.std.proofs.Common.{sym, ◌∙◌, arith}
 use Rattle.codec_fields.specs.Fields.{field_of, bit_at}
 use Rattle.codec_fields.proofs.Widths.{field_below}
-use Rattle.settings.specs.declared.Parameters.{Parameters}
+use Rattle.settings.specs.declared.parameters.Parameters.{Parameters}
 use Rattle.ring.specs.declared.GapState.{GapState}
 use Rattle.ring.specs.declared.GapState.TheVariants.{Waiting, DoPoll}
 use Rattle.ring.specs.Ring.{Ring, fresh_of, claim_of, add_of, remove_of, witness_of, gap_of}

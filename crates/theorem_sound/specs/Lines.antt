@@ -1,19 +1,17 @@
 -- What a sound state and core are, line by line: each line is a predicate of the state and the parts of the core that it speaks of. proofs/Kept.antt has a law for
 -- each line: every move keeps it.
-use Rattle.std.specs.Prelude.{ℕ, ◌+◌, ◌*◌, ◌^◌, ◌≤◌, ◌<◌, true, false, ◌≡◌, ◌⊎◌}
-use Rattle.bit_times.specs.declared.Micros.{Micros}
-use Rattle.bit_times.specs.declared.Baud.{Baud}
+use Rattle.std.specs.Prelude.{ℕ, ◌+◌, ◌*◌, ◌^◌, ◌≤◌, ◌<◌, true, false, ◌≡◌, ◌⊎◌, Option, Some, None}
+use Rattle.bit_times.specs.declared.micros.Micros.{Micros}
+use Rattle.bit_times.specs.declared.baud.Baud.{Baud}
 use Rattle.bit_times.specs.Times.{byte_bits, clock_end, time_of}
-use Rattle.settings.specs.declared.Parameters.{Parameters}
+use Rattle.settings.specs.declared.parameters.Parameters.{Parameters}
 use Rattle.settings.specs.Settings.{rotation_time_of}
 use Rattle.ring.specs.declared.GapState.{GapState}
 use Rattle.ring.specs.declared.GapState.TheVariants.{Waiting, DoPoll}
-use Rattle.station.specs.declared.Activity.{Activity}
-use Rattle.station.specs.declared.Activity.TheVariants as activity
-use Rattle.station.specs.declared.ConnectivityState.TheVariants as connectivity
-use Rattle.station.specs.declared.State.{State}
-use Rattle.station.specs.declared.State.TheVariants.{Offline, ListenToken, ActiveIdle, UseToken, ClaimToken, AwaitDataResponse, PassToken, CheckTokenPass, AwaitStatusResponse, PassiveIdle}
-use Rattle.station.specs.declared.Core.{Core}
+use Rattle.station.specs.declared.state.ConnectivityState.TheVariants as connectivity
+use Rattle.station.specs.declared.state.State.{State}
+use Rattle.station.specs.declared.state.State.TheVariants.{Offline, ListenToken, ActiveIdle, UseToken, ClaimToken, AwaitDataResponse, PassToken, CheckTokenPass, AwaitStatusResponse, PassiveIdle}
+use Rattle.station.specs.declared.parts.Core.{Core}
 use Rattle.station_hold.specs.Hold.{hold_less, end_of}
 use Rattle.theorem_sound.specs.Moves.{Known, KnownWith, Low, Other, Clock, Unasked, HeldFits, GapAddressed, GapCounted}
 
@@ -58,7 +56,7 @@ CollidedOnce (AwaitStatusResponse a) = Unit {0}
 CollidedOnce (PassiveIdle request) = Unit {0}
 
 -- In every state but Offline, ListenToken and PassiveIdle the last bus activity is known; in PassiveIdle once a request is noted.
-abbrev pub KnownIn : State → Activity → Type 0
+abbrev pub KnownIn : State → Option Micros → Type 0
 KnownIn Offline a = Unit {0}
 KnownIn (ListenToken request collisions) a = Unit {0}
 KnownIn (ActiveIdle request newPreviousStation collisions) a = Known a
@@ -112,9 +110,9 @@ LastToken (AwaitStatusResponse address) last = Unit {0}
 LastToken (PassiveIdle request) last = Unit {0}
 
 -- The last bus activity is at most the time of 255 bytes after a time that a clock can show.
-abbrev pub ActivityFits : Baud → Activity → Type 0
-ActivityFits baud activity.Unknown = Unit {0}
-ActivityFits baud (activity.At last) = last.0 < clock_end + (time_of (record { 0 = byte_bits * 255 }) baud).0
+abbrev pub ActivityFits : Baud → Option Micros → Type 0
+ActivityFits baud None = Unit {0}
+ActivityFits baud (Some last) = last.0 < clock_end + (time_of (record { 0 = byte_bits * 255 }) baud).0
 
 -- no token was used yet but one that came at the clock 0: last token time and end of hold are a fresh station's
 pub record NoToken (last end : Micros) : Type 0 where

@@ -5,25 +5,19 @@
 -- state and core before it to those after it says that transitions lead there, each from a state that its assertion allows; and what each move keeps, each call keeps. The proof takes the
 -- transitions where the definitions make them, one by one; the statement alone says that such moves exist. Which states a poll joins
 -- is said by the table in Follows.antt.
-use Rattle.std.specs.Prelude.{ℕ, ◌+◌, ◌^◌, ◌≤◌, ◌<◌, Bool, true, false, cond, ◌≡◌, ◌⊎◌, List, [], ◌∷◌, eqb}
+use Rattle.std.specs.Prelude.{ℕ, ◌+◌, ◌^◌, ◌≤◌, ◌<◌, Bool, true, false, cond, ◌≡◌, ◌⊎◌, List, [], ◌∷◌, eqb, Option, Some, None}
 use Rattle.bit_times.specs.Times.{clock_end}
-use Rattle.bit_times.specs.declared.Micros.{Micros}
-use Rattle.settings.specs.declared.Parameters.{Parameters}
+use Rattle.bit_times.specs.declared.micros.Micros.{Micros}
+use Rattle.settings.specs.declared.parameters.Parameters.{Parameters}
 use Rattle.ring.specs.declared.GapState.{GapState}
 use Rattle.ring.specs.declared.GapState.TheVariants.{Waiting, DoPoll}
-use Rattle.station.specs.declared.Activity.{Activity}
-use Rattle.station.specs.declared.Activity.TheVariants as activity
-use Rattle.station.specs.declared.OptionAddress.{OptionAddress}
-use Rattle.station.specs.declared.OptionAddress.TheVariants as optionAddress
-use Rattle.station.specs.declared.OptionApplication.{OptionApplication}
-use Rattle.station.specs.declared.OptionApplication.TheVariants as optionApplication
-use Rattle.station.specs.declared.PassTokenAttempt.{PassTokenAttempt}
-use Rattle.station.specs.declared.UseTokenData.{UseTokenData}
-use Rattle.station.specs.declared.ConnectivityState.{ConnectivityState}
-use Rattle.station.specs.declared.ConnectivityState.TheVariants as connectivity
-use Rattle.station.specs.declared.State.{State}
-use Rattle.station.specs.declared.State.TheVariants.{Offline, ListenToken, ActiveIdle, UseToken, ClaimToken, AwaitDataResponse, PassToken, CheckTokenPass, AwaitStatusResponse, PassiveIdle}
-use Rattle.station.specs.declared.Core.{Core}
+use Rattle.station.specs.declared.state.PassTokenAttempt.{PassTokenAttempt}
+use Rattle.station.specs.declared.state.UseTokenData.{UseTokenData}
+use Rattle.station.specs.declared.state.ConnectivityState.{ConnectivityState}
+use Rattle.station.specs.declared.state.ConnectivityState.TheVariants as connectivity
+use Rattle.station.specs.declared.state.State.{State}
+use Rattle.station.specs.declared.state.State.TheVariants.{Offline, ListenToken, ActiveIdle, UseToken, ClaimToken, AwaitDataResponse, PassToken, CheckTokenPass, AwaitStatusResponse, PassiveIdle}
+use Rattle.station.specs.declared.parts.Core.{Core}
 use Rattle.station.specs.Parts.{with_activity, with_pending, with_gap, with_next_application, with_connectivity, fresh_core, state_number}
 use Rattle.station.specs.Steps.{to_listen_token, to_passive_idle, to_active_idle, known_at, marked_at, sent_at}
 use Rattle.station_hold.specs.Hold.{hold_end_of}
@@ -69,29 +63,29 @@ abbrev pub In : List ℕ → State → Type 0
 In states x = lists states (state_number x) ≡ true
 
 -- the last bus activity is known
-abbrev pub Known : Activity → Type 0
-Known activity.Unknown = ⊥
-Known (activity.At last) = Unit {0}
+abbrev pub Known : Option Micros → Type 0
+Known None = ⊥
+Known (Some last) = Unit {0}
 
 -- once a request is noted the activity is known
-abbrev pub KnownWith : OptionAddress → Activity → Type 0
-KnownWith optionAddress.None a = Unit {0}
-KnownWith (optionAddress.Some source) a = Known a
+abbrev pub KnownWith : Option ℕ → Option Micros → Type 0
+KnownWith None a = Unit {0}
+KnownWith (Some source) a = Known a
 
 -- no address, or one below 128
-abbrev pub Low : OptionAddress → Type 0
-Low optionAddress.None = Unit {0}
-Low (optionAddress.Some a) = a < 128
+abbrev pub Low : Option ℕ → Type 0
+Low None = Unit {0}
+Low (Some a) = a < 128
 
 -- no address, or another station's: below 128, and not our own
-abbrev pub Other : ℕ → OptionAddress → Type 0
-Other own optionAddress.None = Unit {0}
-Other own (optionAddress.Some a) = (a < 128) × (a ≡ own → ⊥)
+abbrev pub Other : ℕ → Option ℕ → Type 0
+Other own None = Unit {0}
+Other own (Some a) = (a < 128) × (a ≡ own → ⊥)
 
 -- no application, or one of n
-abbrev pub OneOf : ℕ → OptionApplication → Type 0
-OneOf n optionApplication.None = Unit {0}
-OneOf n (optionApplication.Some a) = a < n
+abbrev pub OneOf : ℕ → Option ℕ → Type 0
+OneOf n None = Unit {0}
+OneOf n (Some a) = a < n
 
 -- A time that a clock can show: 48 bits.
 abbrev pub Clock : Micros → Type 0
@@ -99,7 +93,7 @@ Clock t = t.0 < clock_end
 
 -- with a new token no application was asked yet: it has no first one
 abbrev pub Unasked : UseTokenData → Type 0
-Unasked held = held.first_app ≡ optionApplication.None
+Unasked held = held.first_app ≡ None
 
 -- a token's data: its time is a clock's, its first application one of n
 pub record HeldFits (n : ℕ) (held : UseTokenData) : Type 0 where
@@ -127,7 +121,7 @@ GapCounted p (DoPoll a) = Unit {0}
 -- leave the state, and most of the others leave the core.
 pub data Move (p : Parameters) (n : ℕ) (now : Micros) : State → Core → State → Core → Type 0 where
   -- last_bus_activity.get_or_insert(now): before a pause, a slot and a lost token are looked at
-  waits : {x : State} {c : Core} → Move p n now x c x (with_activity c (activity.At (known_at c.last_bus_activity now)))
+  waits : {x : State} {c : Core} → Move p n now x c x (with_activity c (Some (known_at c.last_bus_activity now)))
   -- mark_bus_activity
   marks : {x : State} {c : Core} → Move p n now x c x (with_activity c (marked_at c.last_bus_activity now))
   -- mark_tx: a telegram of at most 255 bytes
@@ -141,11 +135,11 @@ pub data Move (p : Parameters) (n : ℕ) (now : Micros) : State → Core → Sta
   -- do_pass_token: the gap's turn
   gaps : {c : Core} (gap : Bool) (attempt : PassTokenAttempt) (g : GapState) → GapAddressed p g → GapCounted p g → Move p n now (PassToken gap attempt) c (PassToken gap attempt) (with_gap c g)
   -- get_listen_token_status_request, get_listen_token_collision_count: a field of ListenToken
-  listens : {c : Core} (q q' : OptionAddress) (k k' : ℕ) → Other p.address q' → k' ≤ 1 → Move p n now (ListenToken q k) c (ListenToken q' k') c
+  listens : {c : Core} (q q' : Option ℕ) (k k' : ℕ) → Other p.address q' → k' ≤ 1 → Move p n now (ListenToken q k) c (ListenToken q' k') c
   -- the field of PassiveIdle: the activity is known where a request is noted
-  passives : {c : Core} (q q' : OptionAddress) → Other p.address q' → KnownWith q' c.last_bus_activity → Move p n now (PassiveIdle q) c (PassiveIdle q') c
+  passives : {c : Core} (q q' : Option ℕ) → Other p.address q' → KnownWith q' c.last_bus_activity → Move p n now (PassiveIdle q) c (PassiveIdle q') c
   -- get_active_idle_status_request, get_active_idle_new_previous_station, get_active_idle_collision_count: a field of ActiveIdle
-  idles : {c : Core} (q q' m m' : OptionAddress) (k k' : ℕ) → Low q' → Other p.address m' → k' ≤ 1 → Move p n now (ActiveIdle q m k) c (ActiveIdle q' m' k') c
+  idles : {c : Core} (q q' m m' : Option ℕ) (k k' : ℕ) → Low q' → Other p.address m' → k' ≤ 1 → Move p n now (ActiveIdle q m k) c (ActiveIdle q' m' k') c
   -- get_use_token_data, get_use_token_first_cycle_done: the first cycle is done, by the token whose time is the last token time
   cycles : {c : Core} (held kept : UseTokenData) (cycled : Bool) → HeldFits n kept → kept.token_time.0 ≡ c.last_token_time.0 → Move p n now (UseToken cycled held) c (UseToken true kept) c
   -- get_claim_token_first: the second token is to be sent

@@ -2,7 +2,7 @@
 -- number it is, is proved in proofs/Names.
 use Rattle.std.specs.Prelude.{ℕ, ◌≡◌}
 use Rattle.ring.specs.Ring.{next_of, next_number}
-use Rattle.station.specs.Whole.{Station}
+use Rattle.station.specs.declared.station.Station.{Station}
 use Rattle.station_answer.specs.Answer.{Polled}
 
 -- the number of a station's next station

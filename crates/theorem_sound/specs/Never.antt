@@ -1,17 +1,14 @@
 -- What never happens: the arms of the definitions that are there only so that they are total, and tests that are never asked. Here is what
 -- the theorems on them speak of. The theorems are in proofs/Never, by the same numbers; 3, 4 and 5 need no more words and are there alone.
-use Rattle.std.specs.Prelude.{ℕ, ◌≤◌, Bool, true, ◌≡◌, ◌⊎◌, List}
-use Rattle.bit_times.specs.declared.Micros.{Micros}
+use Rattle.std.specs.Prelude.{ℕ, ◌≤◌, Bool, true, ◌≡◌, ◌⊎◌, List, Option, Some, None}
+use Rattle.bit_times.specs.declared.micros.Micros.{Micros}
 use Rattle.codec_decisions.specs.declared.Decision.TheVariants as decision
 use Rattle.codec_records.specs.Records.{decision_at}
-use Rattle.station.specs.declared.Activity.{Activity}
-use Rattle.station.specs.declared.Activity.TheVariants as activity
-use Rattle.station.specs.declared.OptionAddress.TheVariants as optionAddress
-use Rattle.station.specs.declared.State.{State}
-use Rattle.station.specs.declared.State.TheVariants.{Offline, ListenToken, ActiveIdle, UseToken, ClaimToken, AwaitDataResponse, PassToken, CheckTokenPass, AwaitStatusResponse, PassiveIdle}
+use Rattle.station.specs.declared.state.State.{State}
+use Rattle.station.specs.declared.state.State.TheVariants.{Offline, ListenToken, ActiveIdle, UseToken, ClaimToken, AwaitDataResponse, PassToken, CheckTokenPass, AwaitStatusResponse, PassiveIdle}
 use Rattle.station.specs.Parts.{state_number}
 use Rattle.station.specs.Steps.{to_passive_idle}
-use Rattle.station_hold.specs.declared.Asked.{Asked}
+use Rattle.station_hold.specs.Hold.{Asked}
 
 -- 1. Offline inside the dispatch: `dispatch_never_offline` of proofs/Sound.antt.
 
@@ -22,17 +19,17 @@ pub record SenderSends (bytes : List ℕ) (n : ℕ) (high : Bool) (a : Asked) : 
 
 -- 6. A test of a pause, a slot or a lost token with a clock before the last activity: the dispatch is given none. (The published
 -- lost-token test takes the absolute difference of the two.)
-abbrev pub NotAfter : Activity → Micros → Type 0
-NotAfter activity.Unknown now = Unit {0}
-NotAfter (activity.At last) now = last.0 ≤ now.0
+abbrev pub NotAfter : Option Micros → Micros → Type 0
+NotAfter None now = Unit {0}
+NotAfter (Some last) now = last.0 ≤ now.0
 
 -- 7. A telegram heard in another state (listen_telegram and handle_telegram, their other clauses), and a request noted while telegrams
 -- are received. Before each telegram of do_listen_token the station is in ListenToken with no request noted, or Offline by a second
 -- collision of the same poll.
 abbrev pub Listening : State → Type 0
 Listening Offline = Unit {0}
-Listening (ListenToken optionAddress.None collisions) = Unit {0}
-Listening (ListenToken (optionAddress.Some source) collisions) = ⊥
+Listening (ListenToken None collisions) = Unit {0}
+Listening (ListenToken (Some source) collisions) = ⊥
 Listening (ActiveIdle request newPreviousStation collisions) = ⊥
 Listening (UseToken cycled held) = ⊥
 Listening (ClaimToken first) = ⊥
@@ -47,8 +44,8 @@ Listening (PassiveIdle request) = ⊥
 abbrev pub Handling : State → Type 0
 Handling Offline = ⊥
 Handling (ListenToken request collisions) = Unit {0}
-Handling (ActiveIdle optionAddress.None newPreviousStation collisions) = Unit {0}
-Handling (ActiveIdle (optionAddress.Some source) newPreviousStation collisions) = ⊥
+Handling (ActiveIdle None newPreviousStation collisions) = Unit {0}
+Handling (ActiveIdle (Some source) newPreviousStation collisions) = ⊥
 Handling (UseToken cycled held) = ⊥
 Handling (ClaimToken first) = ⊥
 Handling (AwaitDataResponse address held) = ⊥

@@ -2,10 +2,10 @@
 -- proofs/Pass.
 use Rattle.std.specs.Prelude.{ℕ, Bool, ◌≡◌}
 use Rattle.std.proofs.Math.Bool.{true, false}
-use Rattle.station.specs.declared.UseTokenData.{UseTokenData}
-use Rattle.station.specs.declared.PassTokenAttempt.{PassTokenAttempt}
-use Rattle.station.specs.declared.State.{State}
-use Rattle.station.specs.declared.State.TheVariants.{UseToken, CheckTokenPass, AwaitStatusResponse}
+use Rattle.station.specs.declared.state.UseTokenData.{UseTokenData}
+use Rattle.station.specs.declared.state.PassTokenAttempt.{PassTokenAttempt}
+use Rattle.station.specs.declared.state.State.{State}
+use Rattle.station.specs.declared.state.State.TheVariants.{UseToken, CheckTokenPass, AwaitStatusResponse}
 
 -- where a token pass may end: with the token, if alone; checking the pass; with a gap question, if it looks at the gap; and where it was,
 -- if the pause is not over

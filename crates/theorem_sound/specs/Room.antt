@@ -1,8 +1,8 @@
 -- What rule 25 buys, as a statement: in accepted settings the end of hold is never before the token time that it is counted from, a gap
 -- question due or not. The proof is in proofs/Room, with what settings without that room came to.
 use Rattle.std.specs.Prelude.{ℕ, ◌+◌, ◌≤◌, ◌≡◌, List, ◌⊎◌}
-use Rattle.bit_times.specs.declared.Micros.{Micros}
-use Rattle.settings.specs.declared.Parameters.{Parameters}
+use Rattle.bit_times.specs.declared.micros.Micros.{Micros}
+use Rattle.settings.specs.declared.parameters.Parameters.{Parameters}
 use Rattle.settings_rules.specs.Rules.{applications_refusal}
 use Rattle.settings.specs.Settings.{rotation_time_of}
 use Rattle.settings_build.specs.Build.{first_refusal, plain_of}

@@ -1,34 +1,32 @@
 -- What the lines of a sound state and core say of the core's numbers, with the ranges of accepted settings: none comes near the end of its type.
-use Rattle.std.specs.Prelude.{ℕ, ◌+◌, ◌-◌, ◌*◌, ◌≤◌, ◌<◌, ◌^◌, ◌≡◌, refl}
+use Rattle.std.specs.Prelude.{ℕ, ◌+◌, ◌-◌, ◌*◌, ◌≤◌, ◌<◌, ◌^◌, ◌≡◌, refl, Option, Some, None}
 use Rattle.std.proofs.Common.{ap, ◌∙◌, inl, inr, arith}
-use Rattle.bit_times.specs.declared.Micros.{Micros}
-use Rattle.bit_times.specs.declared.Baud.{Baud}
+use Rattle.bit_times.specs.declared.micros.Micros.{Micros}
+use Rattle.bit_times.specs.declared.baud.Baud.{Baud}
 use Rattle.bit_times.proofs.Laws.{time_bound}
-use Rattle.settings.specs.declared.Parameters.{Parameters}
+use Rattle.settings.specs.declared.parameters.Parameters.{Parameters}
 use Rattle.settings.specs.Settings.{rotation_time_of}
 use Rattle.ring.specs.declared.GapState.{GapState}
 use Rattle.ring.specs.declared.GapState.TheVariants.{Waiting, DoPoll}
-use Rattle.station.specs.declared.Activity.{Activity}
-use Rattle.station.specs.declared.Activity.TheVariants as activity
-use Rattle.station.specs.declared.State.{State}
-use Rattle.station.specs.declared.Core.{Core}
+use Rattle.station.specs.declared.state.State.{State}
+use Rattle.station.specs.declared.parts.Core.{Core}
 use Rattle.station_hold.specs.Hold.{hold_less, end_of}
 use Rattle.station_hold.specs.Laws.{capped_fits}
 use Rattle.theorem_sound.specs.Moves.{GapCounted}
 use Rattle.theorem_sound.specs.Lines.{ActivityFits, HoldSet, HoldMade, SoundCore}
 
 -- an activity, where it is known, is below a number
-abbrev pub Below : ℕ → Activity → Type 0
-Below k activity.Unknown = Unit {0}
-Below k (activity.At last) = last.0 < k
+abbrev pub Below : ℕ → Option Micros → Type 0
+Below k None = Unit {0}
+Below k (Some last) = last.0 < k
 
 -- the last bus activity is below 2 to the 49: a time of 48 bits and at most 294,525 microseconds
 pub activity_below : (p : Parameters) (n : ℕ) (x : State) (c : Core) → SoundCore p n x c → Below (2 ^ 49) c.last_bus_activity
 activity_below p n x c w = go p.baudrate c.last_bus_activity w.activity_fits
   where
-    go : (baud : Baud) (a : Activity) → ActivityFits baud a → Below (2 ^ 49) a
-    go baud activity.Unknown f = tt
-    go baud (activity.At last) f = omega (arith, time_bound (record { 0 = 11 * 255 }) baud)
+    go : (baud : Baud) (a : Option Micros) → ActivityFits baud a → Below (2 ^ 49) a
+    go baud None f = tt
+    go baud (Some last) f = omega (arith, time_bound (record { 0 = 11 * 255 }) baud)
 
 -- the end of hold, without what is taken off, is far below the largest number of 64 bits
 span_below : (p : Parameters) (last end : Micros) → p.token_rotation_bits ≤ 16777960 → (h : HoldSet p last end) → h.from.0 + (rotation_time_of p).0 < 2 ^ 49

@@ -1,10 +1,10 @@
 -- What a sound station is, the calls, and what a list of them makes of a station. That every station that the public calls make is sound
 -- is proved in proofs/Sound.
 use Rattle.std.specs.Prelude.{ℕ, ◌≤◌, ◌≡◌, List, [], ◌∷◌}
-use Rattle.bit_times.specs.declared.Micros.{Micros}
+use Rattle.bit_times.specs.declared.micros.Micros.{Micros}
 use Rattle.ring.specs.Laws.{SoundRing}
 use Rattle.codec_records.specs.Records.{head_of}
-use Rattle.station.specs.Whole.{Station}
+use Rattle.station.specs.declared.station.Station.{Station}
 use Rattle.station.specs.Parts.{zero_time}
 use Rattle.station_poll.specs.Poll.{poll_of}
 use Rattle.station_command.specs.Command.{online_of, offline_of, passive_of}

@@ -11,20 +11,18 @@
 --   only where it comes at least the slot time after the last bus activity, which was known before the poll: so a token is sent again,
 --   or to the one behind, the next telegram of an application goes out without a reply, and a token is passed on past a silent
 --   neighbour, only after the slot. A timeout is told to an application only then too.
-use Rattle.std.specs.Prelude.{ℕ, ◌+◌, ◌*◌, ◌≤◌, ◌<◌, true, ◌≡◌, List, [], ◌∷◌}
-use Rattle.bit_times.specs.declared.Micros.{Micros}
-use Rattle.bit_times.specs.declared.Baud.{Baud}
+use Rattle.std.specs.Prelude.{ℕ, ◌+◌, ◌*◌, ◌≤◌, ◌<◌, true, ◌≡◌, List, [], ◌∷◌, Option, Some}
+use Rattle.bit_times.specs.declared.micros.Micros.{Micros}
+use Rattle.bit_times.specs.declared.baud.Baud.{Baud}
 use Rattle.bit_times.specs.Times.{rate_of, pause_bits, time_of}
-use Rattle.settings.specs.declared.Parameters.{Parameters}
+use Rattle.settings.specs.declared.parameters.Parameters.{Parameters}
 use Rattle.settings.specs.Settings.{slot_time_of}
 use Rattle.settings_rules.specs.Rules.{applications_refusal}
 use Rattle.codec_answers.specs.declared.Sent.{Sent}
 use Rattle.codec_answers.specs.declared.Sent.TheVariants as sent
 use Rattle.codec_answers.specs.declared.Notice.{Notice}
 use Rattle.codec_answers.specs.declared.Notice.TheVariants as notice
-use Rattle.station.specs.declared.Activity.{Activity}
-use Rattle.station.specs.declared.Activity.TheVariants as activity
-use Rattle.station.specs.Whole.{Station}
+use Rattle.station.specs.declared.station.Station.{Station}
 use Rattle.station.specs.Parts.{state_number, fresh_station}
 use Rattle.theorem_sound.specs.Moves.{lists}
 use Rattle.theorem_sound.specs.Sound.{Call, after, clock_of}
@@ -41,9 +39,9 @@ TellsTimeout (notice.Reply application address) = ⊥
 TellsTimeout (notice.Timeout application address) = Unit {0}
 
 -- the clock comes at least this time after an activity, which is known
-pub record Since (a : Activity) (now time : Micros) : Type 0 where
+pub record Since (a : Option Micros) (now time : Micros) : Type 0 where
   pub last : Micros
-  pub known : a ≡ activity.At last
+  pub known : a ≡ Some last
   pub passed : last.0 + time.0 ≤ now.0
 
 -- the synchronization pause, 33 bits
@@ -56,9 +54,9 @@ PauseKept s c = Sends (answer_to s c).sent → Since s.core.last_bus_activity (c
 
 -- This many whole bits went by between an activity, which is known, and the clock: (now − last) × rate ≥ bits × 1,000,000, without a
 -- difference.
-pub record BitsSince (a : Activity) (now : Micros) (baud : Baud) (bits : ℕ) : Type 0 where
+pub record BitsSince (a : Option Micros) (now : Micros) (baud : Baud) (bits : ℕ) : Type 0 where
   pub last : Micros
-  pub known : a ≡ activity.At last
+  pub known : a ≡ Some last
   pub lasted : last.0 * rate_of baud + bits * 1000000 ≤ now.0 * rate_of baud
 
 -- no send before 33 whole bits of silence: of a station and a call

@@ -1,11 +1,10 @@
 -- What a step comes to: moves from a sound state and core, which lead to a state and its core. The laws are in proofs/Walk.
 use Rattle.std.specs.Prelude.{ℕ}
-use Rattle.bit_times.specs.declared.Micros.{Micros}
-use Rattle.settings.specs.declared.Parameters.{Parameters}
-use Rattle.station.specs.declared.State.{State}
-use Rattle.station.specs.declared.Core.{Core}
-use Rattle.station.specs.declared.Step.{Step}
-use Rattle.station.specs.Whole.{RingStep, Heard}
+use Rattle.bit_times.specs.declared.micros.Micros.{Micros}
+use Rattle.settings.specs.declared.parameters.Parameters.{Parameters}
+use Rattle.station.specs.declared.state.State.{State}
+use Rattle.station.specs.declared.parts.Core.{Core}
+use Rattle.station.specs.Whole.{Step, RingStep, Heard}
 use Rattle.theorem_sound.specs.Moves.{Clock, Moves}
 use Rattle.theorem_sound.specs.Lines.{SoundCore}
 use Rattle.theorem_sound.specs.Keeps.{RingGood}
