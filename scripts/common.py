@@ -47,6 +47,23 @@ def write(path, text):
             os.remove(part)
 
 
+def block_of(line):
+    """The type and the trait, "" where there is none, of a line that begins an `impl` or `trait` block; none of another line. A trait's
+    own methods belong to the trait."""
+    block = re.match(r"impl(?:<[^>]*(?:<[^>]*>[^>]*)*>)? (?:(.+) for )?&?(?:'\w+ )?([\w:]+)", line)
+    trait = re.match(r"(?:pub )?trait (\w+)", line)
+    if trait:
+        return trait[1], ""
+    return (block[2].split("::")[-1], block[1] or "") if block else None
+
+
+def sources_of(crate):
+    """The source files of a crate: lib.rt first, then its modules by name."""
+    folder = os.path.join("crates", crate, "src")
+    names = sorted(name for name in os.listdir(folder) if name.endswith(".rt"))
+    return [os.path.join(folder, name) for name in sorted(names, key=lambda name: name != "lib.rt")]
+
+
 @dataclass
 class Crate:
     """A line of crates.txt: the heading that it stands under, what the line over it says, the crates that it reads, and whether it is

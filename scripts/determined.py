@@ -9,7 +9,7 @@ import glob
 import os
 import re
 
-from common import Parser, crates, fail, read
+from common import Parser, block_of, crates, fail, read, sources_of
 
 # The calls that nothing is claimed of, each with the reason.
 NOT_CLAIMED = {
@@ -18,29 +18,36 @@ NOT_CLAIMED = {
 
 
 def calls_of(crate):
-    """The public calls of a library, as proofs name them: CRATE.CALL, or CRATE.TYPE.CALL for one of an impl block."""
-    found, owner = [], ""
-    for path in sorted(glob.glob(f"crates/{crate}/src/*.rt")):
+    """The public calls of a library, as proofs name them: CRATE.CALL, CRATE.MODULE.CALL for one of a file beside lib.rt, with TYPE. before
+    the call for one of an impl block, and TYPETRAIT. for one that a trait names and whose promise the block says, as `from_gives`."""
+    found, root = [], "\n".join(read(f"crates/{crate}/src/lib.rt"))
+    for path in sources_of(crate):
+        module = os.path.basename(path)[:-3]
+        if module != "lib" and not re.search(rf"^pub (mod {module};|use {module}::)", root, re.M):
+            continue  # the crate hands nothing of it on
+        place, owner, promised = crate + ("" if module == "lib" else "." + module), "", set()
         for line in read(path):
-            block = re.match(r"impl (\w+)", line)
-            call = re.match(r'\s*pub (?:extern "C" )?fn (\w+)', line)
+            block = block_of(line)
+            call = re.match(r'\s*pub (?:const )?(?:extern "C" )?fn (\w+)', line)
+            promise = re.match(r"    ghost (\w+)_gives = ", line)
+            method = re.match(r"    fn (\w+)", line)
             if block:
-                owner = block[1] + "."
+                kind, trait = block
+                owner, promised = "".join(word[:1].upper() + word[1:] for word in [kind] + re.findall(r"\w+(?!::|\w)", trait)) + ".", set()
             elif line == "}":
-                owner = ""
-            elif call:
-                found.append(f"{crate}.{owner}{call[1]}")
-            elif re.search(r"\bpub\b.*\bfn\b", line.split("//")[0]):
+                owner, promised = "", set()
+            elif promise:
+                promised.add(promise[1])
+            elif call or method and method[1] in promised:
+                found.append(f"{place}.{owner}{(call or method)[1]}")
+            elif re.search(r"\bpub\b.*\bfn\b", line.split("//")[0]) and "pub(crate)" not in line:
                 fail(f"{path} has a public call in a layout that this script does not read: {line.strip()}")
     return found
 
 
 def is_claim(item, contract):
     """Does this item of a specs file claim that a contract allows one result: by the word Determined, by the word DeterminedLent
-    of a call that leaves a ring's tables, by the word DeterminedLeft of a contract that the program logic alone reads, or by an
-    equation between two that it allows?"""
-    if re.fullmatch(rf"pub \S+ : DeterminedLeft {re.escape(contract)}\.ended \(λ M 𝓤\. {re.escape(contract)}\.clauses\)", item):
-        return True
+    of a call that something is lent to and that leaves it, or by an equation between two that it allows?"""
     word = re.escape(contract) + r"\.Post"
     if re.fullmatch(rf"pub \S+ : DeterminedLent {word} \(λ k s\. s(?:\.1)*\.0\.now\)", item):
         return True
@@ -59,9 +66,9 @@ def claims():
         text = "\n".join(line for line in read(path) if line and not line.lstrip().startswith("--"))
         items = re.split(r"\n(?=\S)", text)
         for item in items:
-            use = re.fullmatch(r"use Rattle\.(\w+)\.(?:proofs\.([\w.]+)\.Reads|specs\.contracts\.([\w.]+)) as (\S+)", item)
+            use = re.fullmatch(r"use Rattle\.(\w+)\.proofs\.([\w.]+)\.Reads as (\S+)", item)
             if use:
-                call, contract = f"{use[1]}.{use[2] or use[3]}", use[4]
+                call, contract = f"{use[1]}.{use[2]}", use[3]
                 if call in named:
                     wrong.append(f"{call} is named twice, in {named[call]} and {path}")
                 if not any(is_claim(other, contract) for other in items):
@@ -86,7 +93,7 @@ def exported(path):
         elif head:
             call = head[1]
             heads[call], bodies[call] = [head[2]], []
-        elif line == "{":
+        elif line == "{" and call:
             bodies[call].append(line)
         elif line == "}":
             call = ""

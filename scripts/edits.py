@@ -2,7 +2,7 @@
 """Writes docs/EDITS.md: for each public call of each library the must-fail edits that speak for it. An edit speaks for a call
 where it changes the call's own code, code of its crate that the call goes through, or a definition that the contract of either
 cites; for a call for hosts, where it speaks for a call of another crate that it passes on; and, where a call has fewer than two of
-these, where it speaks for a function that calls it. Fails where fewer than two edits speak for a call. Constants and `requires`
+these, where it speaks for a function that calls it. Fails where fewer than two edits speak for a call that FEWER does not name. Constants and `requires`
 lines are not read: an edit of one speaks for no call here. The calls of a static library are not listed: each is a call of the
 library that it is of, passed on (determined.py holds it to that), and its edits speak for that call as a caller's.
 
@@ -12,14 +12,19 @@ import os
 import re
 from dataclasses import dataclass, field
 
-from common import Parser, crates, fail, read, write
+from common import Parser, block_of, crates, fail, read, sources_of, write
 
 TABLE = "docs/EDITS.md"
 ENOUGH = 2
+# The calls that have fewer, each with the reason.
+FEWER = {
+    "ring.TokenRing.links": "it lends the links that it has: there is no other value of that type to lend",
+    "ring.TokenRing.own": "its line stands in other calls too, and an edit's text must stand once",
+}
 HOSTS = "amsulfezd"
 
 
-@dataclass
+@dataclass(eq=False)
 class Function:
     """A function of src/: CRATE.NAME or CRATE.TYPE.NAME, its lines, the definitions that its contract cites, whom it calls."""
 
@@ -37,19 +42,27 @@ class Function:
 def functions_of(crate):
     """The functions of a crate, in their order."""
     found = []
-    for path in sorted(glob.glob(f"crates/{crate}/src/*.rt")):
-        owner, lines = "", read(path)
+    for path in sources_of(crate):
+        owner, gives, lines = "", {}, read(path)
+        hidden = {m[1] for line in lines if (m := re.match(r"(?:pub\(crate\) )?(?:struct|enum) (\w+)", line))}
         for number, line in enumerate(lines):
-            block = re.match(r"impl (\w+)", line)
-            head = re.match(r'(\s*)(pub )?(?:extern "C" )?fn (\w+)', line)
+            block = block_of(line)
+            promise = re.fullmatch(r"    ghost (\w+)_gives = \{ (.*) \};", line)
+            head = re.match(r'(\s*)(pub )?(?:pub\(crate\) )?(?:const )?(?:extern "C" )?fn (\w+)', line)
             if block:
-                owner = block[1] + "."
+                kind, trait = block
+                owner, gives = (f"{trait} for {kind}." if trait else f"{kind}."), {}
             elif line == "}":
-                owner = ""
-            if head:
-                last = next(at for at in range(number, len(lines)) if lines[at] == head[1] + "}")
-                text = "\n".join(lines[number:last + 1])
-                found.append(Function(f"{crate}.{owner}{head[3]}", crate, bool(head[2]), os.path.relpath(path, f"crates/{crate}"), number, last, text))
+                owner, gives = "", {}
+            if promise:
+                gives[promise[1]] = promise[2]
+            if head and not line.endswith(";"):
+                last = next((at for at in range(number, len(lines)) if lines[at] == head[1] + "}"), None)
+                if last is None or any(lines[at].endswith(";") and lines[at].startswith(head[1] + "    ensures") for at in range(number, last + 1)):
+                    continue  # a trait's method without a body
+                given = gives.get(head[3]) if not hidden & set(re.findall(r"\w+", owner)) else None
+                text = "\n".join(lines[number:last + 1] + ([f"ensures {{ {given} }}"] if given else []))
+                found.append(Function(f"{crate}.{owner}{head[3]}", crate, bool(head[2] or given), os.path.relpath(path, f"crates/{crate}"), number, last, text))
     return found
 
 
@@ -66,25 +79,41 @@ def definitions_of(crate):
     return found
 
 
+def called(f, found):
+    """The functions of `found` that the body of a function calls: by name; by type and name, `Type::name(`; as a method, `.name(`; by a
+    conversion to a type, `Type::from(`; and the `next` of a type over whose values a `for` goes, where a function that is called gives
+    such a value. Of methods of one name in several types each counts."""
+    body = f.text[re.search(r"\n *\{\n|\{\n", f.text).start():]
+    plain = set(re.findall(r"(?<![\w.])(?:[a-z_]\w*::)*([a-z_]\w*)\(", body))
+    typed = set(re.findall(r"\b([A-Z]\w*|u8|u16|u32|u64|usize|bool)(?:::<[^>]*>)?::(\w+)\(", body))
+    methods = set(re.findall(r"\.(\w+)(?:::<[^>]*>)?\(", body))
+    own = f.name.split(".")[1] if f.name.count(".") > 1 else ""
+    hit = set()
+    for g in found:
+        parts = g.name.split(".")
+        name, owner = parts[-1], ".".join(parts[1:-1])
+        kind = owner.split(" for ")[-1]
+        if not owner and name in plain:
+            hit.add(g)
+        elif owner and (name in methods or any(word == name and (at == kind or at == "Self" and own.endswith(kind)) for at, word in typed)):
+            hit.add(g)
+    if re.search(r"\bfor .* in ", body):
+        given = " ".join(g.text.split("{")[0] for g in hit) + " ".join(at for at, word in typed if word == "new")
+        hit |= {g for g in found if g.name.split(".")[-1] == "next" and re.search(rf"\b{g.name.split(' for ')[-1].split('.')[0]}\b", given)}
+    return hit - {f}
+
+
 def connect(listed, functions, definitions):
     """Whom each function calls, and which definitions its contract cites; a definition that no contract cites counts to those
     that name it."""
-    by_crate = {crate: {f.name.split(".")[-1]: f for f in found} for crate, found in functions.items()}
     cited = {}
     for crate, found in functions.items():
         names = {name for _, _, name, _ in definitions[crate]}
+        near = found + [g for other in listed[crate].reads if other in functions for g in functions[other] if g.public]
         for f in found:
             contract = " ".join(re.findall(r"ensures (?:\w+ )?\{(.*)\}", f.text))
             f.cited = names & set(re.findall(r"[^\s(){}.,;]+", contract))
-            body = f.text[re.search(r"\n *\{\n|\{\n", f.text).start():]
-            used = set(re.findall(r"(?:(\w+)::)?(?:(\w+)::)?(\w+)\(", body)) | {("", "", m) for m in re.findall(r"\.(\w+)\(", body)}
-            for first, second, name in used:
-                at = first if first in by_crate else ""
-                for other in [at] if at else [crate] + [c for c in listed[crate].reads if c in by_crate]:
-                    callee = by_crate[other].get(name)
-                    if callee is not None and callee is not f and (other == crate or callee.public):
-                        f.calls.add(callee.name)
-                        break
+            f.calls = {g.name for g in called(f, near)}
         cited[crate] = {name for f in found for name in f.cited}
     for crate, found in functions.items():
         texts = {name: words for _, _, name, words in definitions[crate]}
@@ -178,8 +207,8 @@ def main():
     ]
     few = []
     for f, mine, callers in rows(crates()):
-        text.append("| " + " | ".join([f"`{f.name}`", ", ".join(mine), ", ".join(callers)]) + " |")
-        if len(mine) + len(callers) < ENOUGH:
+        text.append("| " + " | ".join([f"`{f.name}`", ", ".join(mine), ", ".join(callers) or FEWER.get(f.name, "")]) + " |")
+        if len(mine) + len(callers) < ENOUGH and f.name not in FEWER:
             few.append(f"{f.name}: fewer than {ENOUGH} must-fail edits speak for it")
     if few:
         fail(*few)

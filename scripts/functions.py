@@ -15,12 +15,12 @@ import os
 import re
 from dataclasses import dataclass, field
 
-from common import BEGAN_IN, Parser, crates, fail, read, write
+from common import BEGAN_IN, Parser, block_of, crates, fail, read, sources_of, write
 
 TABLE = "docs/FUNCTIONS.md"
 FILES = ("active.rs", "parameters.rs")
 
-SHAPE = "`&mut` into an enum's fields: the state comes in and goes back by value (document 01, \"What must change shape\")"
+SHAPE = "`&mut` into an enum's field: the state is matched once, what it holds is handed to its function, and the new state is stored whole"
 ASKED = "a question that no part that is taken asks"
 MATCHED = "the field `connectivity_state` of `Core`, matched where it is needed (`entered_of`)"
 
@@ -214,29 +214,37 @@ def definitions_of(path, crate):
 
 def contract(line, word):
     """The text of a `requires` or `ensures` line, without its brackets."""
-    inner = re.fullmatch(r"\s*" + word + r" (?:\w+ )?\{ (.*) \}", line)
+    inner = re.fullmatch(r"\s*" + word + r" (?:\w+ )?\{ (.*) \};?", line)
     if not inner:
         fail(f"this line is not read: {line.strip()}")
     return inner.group(1)
 
 
 def functions_of(path, crate):
-    """The functions of a source file."""
-    found, comment, taken, owner, current = [], [], {}, "", None
+    """The functions of a source file. A method that a trait names, as `from`, has its promise in the block's own words, `from_gives`."""
+    found, comment, taken, owner, gives, current = [], [], {}, "", {}, None
     for number, line in enumerate(read(path), 1):
         taken.update(imported(line))
         text = line.strip()
-        head = re.match(r"(?:pub )?(?:extern \"C\" )?fn (\w+)", text)
-        block = re.match(r"impl (\w+)", line)
+        head = re.match(r"(?:pub(?:\(crate\))? )?(?:const )?(?:extern \"C\" )?fn (\w+)", text)
+        block = block_of(line)
+        promise = re.fullmatch(r"ghost (\w+)_gives = \{ (.*) \};", text)
         if text.startswith("//"):
-            comment.append(text[2:].strip())
+            comment.append(text.lstrip("/").strip())
             continue
         if block:
-            owner = block.group(1) + "::"
+            kind, trait = block
+            owner, gives = (f"{trait} for {kind}::" if trait else f"{kind}::"), {}
         elif line == "}":
-            owner = ""
+            owner, gives = "", {}
+        if promise:
+            gives[promise.group(1)] = promise.group(2)
         if head:
-            current = Function(owner + head.group(1), text.startswith("pub "), crate, path, number, " ".join(comment))
+            name, given = head.group(1), gives.get(head.group(1))
+            current = Function(owner + name, text.startswith("pub "), crate, path, number, " ".join(comment))
+            if given:
+                current.ensures.append(given)
+                current.cites.extend((taken[word], word) for word in words_of(given) if word in taken)
             found.append(current)
         elif text.startswith("requires "):
             current.requires.append(contract(line, "requires"))
@@ -259,7 +267,8 @@ def sources():
         for name in sorted(os.listdir(specs)) if os.path.isdir(specs) else []:
             if name.endswith(".antt"):
                 definitions.extend(definitions_of(os.path.join(specs, name), crate))
-        functions.extend(functions_of(os.path.join("crates", crate, "src", "lib.rt"), crate))
+        for path in sources_of(crate):
+            functions.extend(functions_of(path, crate))
     for function in functions:
         if function.public and not function.ensures:
             fail(f"the public function {function.name} ({function.file}:{function.line}) has no contract")
