@@ -18,7 +18,7 @@ use settings::Parameters;
 use station::Station;
 
 /// A station, the telegrams that wait for it, and when the last that it sent has ended.
-#[derive(Drop)]
+#[derive(Clone, Copy)]
 pub struct Seat {
     pub station: Station,
     pub waiting: Waiting,

@@ -16,7 +16,7 @@ use settings::Parameters;
 use station::Station;
 
 /// The bus: eight seats, of which the first n are in use, and what is on it.
-#[derive(Drop)]
+#[derive(Clone, Copy)]
 pub struct Bus {
     pub seats: [Seat; 8],
     pub wire: Wire,

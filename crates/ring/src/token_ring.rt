@@ -9,7 +9,7 @@ use std::marker::Model;
 
 /// The stations that pass the token, our own among them, the laps that it went round with the ring unchanged, at most 2 as it counts
 /// them, and whether we may be taken in.
-#[derive(Drop)]
+#[derive(Clone, Copy)]
 pub struct TokenRing {
     links: RingLinks,
     laps: u16,
@@ -24,6 +24,8 @@ impl Model for TokenRing {
     ghost Value = { Ring };
 
     ghost view = { λ r. record { links = r.links; own = r.own; laps = r.laps; ready = r.ready } };
+
+    ghost inverse = { λ r. record { links = r.links; laps = r.laps; own = r.own; ready = r.ready } };
 }
 
 impl TokenRing {

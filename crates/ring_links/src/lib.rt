@@ -9,7 +9,7 @@ ghost use Rattle.ring_links.specs.Links.{listed, link_of, unlink_of, behind_of, 
 use std::marker::Model;
 
 /// Who comes after each address, and who comes before it; 127 where an address is no member.
-#[derive(Drop)]
+#[derive(Clone, Copy)]
 pub struct RingLinks {
     next: [u8; 126],
     previous: [u8; 126],
@@ -17,11 +17,21 @@ pub struct RingLinks {
 
 // Clauses see the two tables as one list, the first before the second.
 impl Model for RingLinks {
-    ghost use Rattle.std.specs.Prelude.{List, ℕ, ◌++◌};
+    ghost use Rattle.std.specs.Prelude.{◌≡◌, List, ℕ, ◌++◌, length, take, drop};
+    ghost use Rattle.std.proofs.lemmas.List.{take_at, drop_at};
 
     ghost Value = { List ℕ };
 
     ghost view = { λ l. l.next ++ l.previous };
+
+    ghost invariant = { λ l. length l.next ≡ 126 };
+
+    ghost inverse = { λ tables. record { next = take 126 tables; previous = drop 126 tables } };
+
+    ghost inverse_ok = { λ l h i. record {
+      next = take_at l.next l.previous 126 h i;
+      previous = drop_at l.next l.previous 126 h i;
+    } };
 }
 
 impl RingLinks {

@@ -14,7 +14,7 @@ use ring::TokenRing;
 use settings::Parameters;
 
 /// FdlActiveStation, and the number of applications, which is fixed for life.
-#[derive(Drop)]
+#[derive(Clone, Copy)]
 pub struct Station {
     pub state: State,
     pub core: Core,
