@@ -14,7 +14,7 @@ from common import Parser, block_of, crates, fail, read, sources_of
 # The calls that nothing is claimed of, each with the reason.
 NOT_CLAIMED = {
     "run_replay_print.replay": "it prints; its contract fixes nothing",
-    "refusals.refusal.RefusalDisplay.fmt": "it writes a text to any writer; no contract says whether a write succeeds",
+    "refusals.refusal.RefusalDisplay.fmt": "it writes its sentence to any writer; no contract says whether a write succeeds",
 }
 
 

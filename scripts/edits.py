@@ -75,7 +75,8 @@ def functions_of(crate):
             elif promise:
                 gives[promise[1]] = f"\nensures {{ {promise[2]} }}"
             elif head:
-                last = next(at for at in range(number, len(lines)) if lines[at] == head[1] + "}" or lines[at].endswith(";") and (at == number or "sures {" in lines[at]))
+                declared = rf"{head[1]}(?:pub )?fn .*;|\s*(?:requires|ensures) .*;"  # in a trait, without a body
+                last = next(at for at in range(number, len(lines)) if lines[at] == head[1] + "}" or re.fullmatch(declared, lines[at]))
                 place = f"{trait} for {owner}." if trait else f"{owner}." if owner else ""
                 public = bool(handed_on and (head[2] or of_trait))
                 found.append(Function(f"{crate}.{place}{head[3]}", crate, public, os.path.relpath(path, f"crates/{crate}"), number, last, "\n".join(lines[number:last + 1]) + gives.get(head[3], ""), owner, trait))
