@@ -14,31 +14,30 @@ from common import Parser, block_of, crates, fail, read, sources_of
 # The calls that nothing is claimed of, each with the reason.
 NOT_CLAIMED = {
     "run_replay_print.replay": "it prints; its contract fixes nothing",
+    "refusals.refusal.RefusalDisplay.fmt": "it writes its sentence to any writer; no contract says whether a write succeeds",
 }
 
 
 def calls_of(crate):
     """The public calls of a library, as proofs name them: CRATE.CALL, CRATE.MODULE.CALL for one of a file beside lib.rt, with TYPE. before
-    the call for one of an impl block, and TYPETRAIT. for one that a trait names and whose promise the block says, as `from_gives`."""
+    the call for one of an impl block, TYPETRAIT. for one that a trait names, and TRAIT. for one of a trait of the crate's own."""
     found, root = [], "\n".join(read(f"crates/{crate}/src/lib.rt"))
     for path in sources_of(crate):
         module = os.path.basename(path)[:-3]
         if module != "lib" and not re.search(rf"^pub (mod {module};|use {module}::)", root, re.M):
             continue  # the crate hands nothing of it on
-        place, owner, promised = crate + ("" if module == "lib" else "." + module), "", set()
+        place, owner, of_trait = crate + ("" if module == "lib" else "." + module), "", False
         for line in read(path):
             block = block_of(line)
             call = re.match(r'\s*pub (?:const )?(?:extern "C" )?fn (\w+)', line)
-            promise = re.match(r"    ghost (\w+)_gives = ", line)
-            method = re.match(r"    fn (\w+)", line)
+            method = re.match(r"    (?:const )?fn (\w+)", line)
             if block:
                 kind, trait = block
-                owner, promised = "".join(word[:1].upper() + word[1:] for word in [kind] + re.findall(r"\w+(?!::|\w)", trait)) + ".", set()
+                owner = "".join(word[:1].upper() + word[1:] for word in [kind] + re.findall(r"\w+(?!::|\w)", trait)) + "."
+                of_trait = trait != "" or line.startswith("pub trait ")
             elif line == "}":
-                owner, promised = "", set()
-            elif promise:
-                promised.add(promise[1])
-            elif call or method and method[1] in promised:
+                owner, of_trait = "", False
+            elif call or method and of_trait:
                 found.append(f"{place}.{owner}{(call or method)[1]}")
             elif re.search(r"\bpub\b.*\bfn\b", line.split("//")[0]) and "pub(crate)" not in line:
                 fail(f"{path} has a public call in a layout that this script does not read: {line.strip()}")

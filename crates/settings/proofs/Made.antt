@@ -1,10 +1,11 @@
 -- Settings as calls make them (`MadeSettings`): every record that `new` and accepted setters make is sound (`SoundSettings`). And: a
 -- refused setter leaves the settings as they were.
 use Rattle.std.specs.Prelude.{ℕ, ◌+◌, ◌-◌, ◌*◌, ◌/◌, ◌≤◌, Bool, true, false, ◌≡◌, refl, ◌⊎◌, eqb, Option, Some, None, Result, Ok, Err}
-use Rattle.std.proofs.Common.{subst, ap, ◌∙◌, inl, inr, arith, le-div_iff_mul-le, eqb-true}
+use Rattle.std.proofs.Common.{subst, sym, ap, ◌∙◌, inl, inr, arith, le-div_iff_mul-le, eqb-true}
 use Rattle.std.proofs.lemmas.Bool.{eqb-false}
 use Rattle.refusals.specs.declared.refusal.Refusal.{Refusal}
-use Rattle.refusals.specs.Refusals.{number_of, named}
+use Rattle.refusals.specs.Refusals.{number_of, number_in, named}
+use Rattle.refusals.proofs.Numbers.{named_back}
 use Rattle.bit_times.specs.declared.baud.Baud.{Baud}
 use Rattle.bit_times.specs.Times.{baud_of}
 use Rattle.settings_watchdog.specs.Watchdog.{ceil_of, factors_of}
@@ -153,6 +154,20 @@ unless_refuses rule n p a numbered r h not e = by (eqb rule 0) refl
         let s : ◌≡◌ {A = Result Parameters NotSet} (not_set (named rule) p) (Err not) = rw f at e in
         let same : not ≡ record { refusal = named rule; settings = p } = cc in
         (ap (λ (x : NotSet). number_of x.refusal) same ∙ ap (λ (x : ℕ). number_of (named x)) (number f r) ∙ numbered, ap (λ (x : NotSet). x.settings) same)
+
+-- the same where n is the number of an answer: nothing is asked of it
+unless_refuses_checked :
+    (rule : ℕ) (checked : Result (Unit {0}) Refusal) (p : Parameters) (a : Result Parameters NotSet)
+    → (rule ≡ 0) ⊎ (rule ≡ number_in checked)
+    → (rule ≡ 0 → Refuses (number_in checked) p a)
+    → Refuses (number_in checked) p (unless rule p a)
+unfolding unless
+unless_refuses_checked rule (Ok x) p a r h = let zero_rule : rule ≡ 0 = zero r in subst (λ (n : ℕ). Refuses 0 p (unless n p a)) (sym zero_rule) (h zero_rule)
+  where
+    zero : (rule ≡ 0) ⊎ (rule ≡ 0) → rule ≡ 0
+    zero (inl z) = z
+    zero (inr z) = z
+unless_refuses_checked rule (Err e) p a r h = unless_refuses rule (number_of e) p a (ap number_of (named_back e)) r h
 
 -- an accepted answer is not refused
 accepted_refuses : (n : ℕ) (p set : Parameters) → Refuses n p (Ok set)

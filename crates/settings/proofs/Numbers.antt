@@ -1,16 +1,18 @@
 -- Document 01's number of each answer of the settings' calls is that of its rule.
 use Rattle.std.specs.Prelude.{ℕ, true, cond, ◌≡◌, refl, [], ◌∷◌, eqb, Result, Ok, Err}
 use Rattle.std.proofs.Common.{sym, arith, eqb-true}
+use borrow.Author.Tests.{ne_eqb}
 use borrow.Table.Steps.{cases}
 use Rattle.refusals.specs.declared.refusal.Refusal.{Refusal}
-use Rattle.refusals.specs.Refusals.{number_of, named, answered}
+use Rattle.refusals.specs.Refusals.{number_of, number_in, named, answered}
+use Rattle.refusals.proofs.Numbers.{refused, named_back}
 use Rattle.bit_times.specs.declared.baud.Baud.{Baud}
 use Rattle.bit_times.specs.Times.{least_slot_bits, baud_of}
 use Rattle.settings_watchdog.specs.Watchdog.{factors_of}
 use Rattle.settings_watchdog.proofs.Laws.{factors_given}
 use Rattle.settings.specs.declared.parameters.Parameters.{Parameters}
 use Rattle.settings_rules.specs.Rules.{address_refusal, baud_refusal, slot_bits_refusal, hsa_refusal, rotation_refusal, gap_wait_refusal, retry_refusal, min_tsdr_refusal, watchdog_refusal, first_of}
-use Rattle.settings_rules.proofs.Laws.{outside_in, Numbered, address_numbered, slot_bits_numbered, hsa_numbered, rotation_numbered, gap_wait_numbered, retry_numbered, min_tsdr_numbered, watchdog_numbered}
+use Rattle.settings_rules.proofs.Laws.{outside_in, Numbered, none_numbered, address_numbered, slot_bits_numbered, hsa_numbered, rotation_numbered, gap_wait_numbered, retry_numbered, min_tsdr_numbered, watchdog_numbered}
 use Rattle.settings.specs.Settings.{created_number, changed_number, not_set, new_at, new_of, unless, slot_bits_of, hsa_of, rotation_of, gap_wait_of, retry_of, min_tsdr_of, watchdog_at, watchdog_of}
 
 new_at_number : (address : ℕ) (coded : Result Baud Refusal) → created_number (new_at address coded) ≡ first_of (baud_refusal coded ∷ [])
@@ -28,6 +30,15 @@ new_number_lem address code =
 pub unless_number : (n : ℕ) (p q : Parameters) → Numbered n → changed_number (unless n p (Ok q)) ≡ n
 unfolding unless Numbered answered
 unless_number n p q h = cases (eqb n 0) (λ t. rw t (sym (eqb-true n 0 t))) (λ f. rw f (rw f at h))
+
+-- the number of an answer is such a number, whatever the answer; so of a rule that is a check of the code nothing is asked
+pub answer_numbered : (checked : Result (Unit {0}) Refusal) → Numbered (number_in checked)
+unfolding Numbered answered
+answer_numbered (Ok x) = none_numbered
+answer_numbered (Err e) = rw (ne_eqb (number_of e) 0 (refused e), named_back e) refl
+
+pub unless_checked : (checked : Result (Unit {0}) Refusal) (p q : Parameters) → changed_number (unless (number_in checked) p (Ok q)) ≡ number_in checked
+unless_checked checked p q = unless_number (number_in checked) p q (answer_numbered checked)
 
 -- every time that the watchdog's rule takes has factors
 watchdog_number : (p : Parameters) (ms : ℕ) → changed_number (watchdog_of p ms) ≡ watchdog_refusal ms

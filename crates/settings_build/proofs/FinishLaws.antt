@@ -6,7 +6,7 @@ use Rattle.std.proofs.lemmas.Bool.{lt-leb}
 use borrow.Table.Steps.{cases}
 use Rattle.refusals.specs.declared.refusal.Refusal.{Refusal}
 use Rattle.refusals.specs.declared.refusal.Refusal.TheVariants.{NoRoomForGapPoll}
-use Rattle.refusals.specs.Refusals.{named}
+use Rattle.refusals.specs.Refusals.{number_in, named}
 use Rattle.bit_times.specs.declared.baud.Baud.{Baud}
 use Rattle.bit_times.specs.Times.{baud_of}
 use Rattle.bit_times.proofs.Laws.{listed}
@@ -17,7 +17,7 @@ use Rattle.settings_rules.proofs.Laws.{Numbered, slot_bits_numbered, hsa_numbere
 use Rattle.settings.specs.Settings.{not_set, changed_number, changed_settings, default_of, new_at, new_of, unless, slot_bits_of, hsa_of, rotation_of, gap_wait_of}
 use Rattle.settings.specs.Made.{MadeSettings, by_new}
 use Rattle.settings.proofs.Made.{made_sound}
-use Rattle.settings.proofs.Numbers.{unless_number}
+use Rattle.settings.proofs.Numbers.{unless_number, answer_numbered}
 use Rattle.settings_build.specs.declared.plain.PlainSettings.{PlainSettings}
 use Rattle.settings_build.specs.Build.{early_refusal, first_refusal, plain_of, finish_of}
 use Rattle.settings_build.specs.Built.{Built}
@@ -169,6 +169,27 @@ module _ (rule other : Parameters → ℕ) (numbered : (q : Parameters) → Numb
           cases (eqb (other p) 0)
           (λ b. let second = set_taken p (put p) refl b in then_two first ∙ second ∙ sym (then_one second ∙ set_refused (put p) _ r a))
           (λ b. let second = set_refused p (put p) refl b in then_two first ∙ second ∙ sym (then_one second ∙ first)))
+
+-- the same of two setters whose rules are checks, as those of the code are: nothing is asked of their numbers
+module _ (check also : Parameters → Result (Unit {0}) Refusal) (set put : Parameters → Parameters) (p : Parameters) where
+  abbrev checked : Parameters → Result Parameters NotSet
+  checked q = unless (number_in (check q)) q (Ok (set q))
+
+  abbrev also_checked : Parameters → Result Parameters NotSet
+  also_checked q = unless (number_in (also q)) q (Ok (put q))
+
+  either_order_checked :
+      number_in (check (put p)) ≡ number_in (check p)
+      → number_in (also (set p)) ≡ number_in (also p)
+      → put (set p) ≡ set (put p)
+      → EitherOrder checked also_checked p
+  either_order_checked =
+      either_order (λ (q : Parameters). number_in (check q)) (λ (q : Parameters). number_in (also q))
+      (λ (q : Parameters). answer_numbered (check q))
+      (λ (q : Parameters). answer_numbered (also q))
+      set
+      put
+      p
 
 -- slot bits and rotation, set in either order on any settings: both are accepted alike and leave the same record
 pub slot_and_rotation : (slot rotation : ℕ) (p : Parameters) → EitherOrder (λ (q : Parameters). slot_bits_of q slot) (λ (q : Parameters). rotation_of q rotation) p

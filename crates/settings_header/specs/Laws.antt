@@ -37,6 +37,7 @@ use Rattle.trace_headers.specs.Laws.{made_in, widths_fill}
 use Rattle.trace_headers.specs.Finished.{header_with}
 use Rattle.trace_headers_written.specs.HeaderBytes.{values_in, header_bytes, header_into}
 use Rattle.trace_headers_written.specs.Laws.{header_bytes_length}
+use Rattle.settings_header.specs.Calls.{new_done}
 use Rattle.settings_header.specs.SettingsHeader.{with_header_rotation, loosened, with_settings_rotation, settings_in, edition_refusal, lent_refusal, settings_at, stored_after, number_on, bytes_on, set_number, set_into, new_refusal, new_bytes, new_number, new_into, finish_number}
 
 -- What is said.
@@ -468,16 +469,6 @@ new_fits address code p e =
     none : (refusal : Refusal) → ◌≡◌ {A = Result Parameters Refusal} (Err refusal) (Ok p) → Fits p
     none refusal z = let y : ◌≡◌ {A = ℕ} 0 1 = cc in absurd (omega arith)
 
--- what new settings return and leave where nothing refuses them
-new_done :
-    (address code n : ℕ) (s : List ℕ) (p : Parameters)
-    → new_of address code ≡ Ok p
-    → applications_refusal n ≡ 0
-    → length_of First ≤ length s
-    → (0 ≡ new_number address code n (length s)) × (header_into s First (header_with p n) ≡ new_into address code n s)
-unfolding new_number new_into new_refusal new_bytes
-new_done address code n s p is h l = rw (is, h, le-ltb (length s) (length_of First) l) (refl, refl)
-
 -- new settings in bytes hold the new settings by value
 pub new_alike :
     (address code n : ℕ) (s : List ℕ) (p : Parameters)
@@ -487,7 +478,7 @@ pub new_alike :
     → (new_number address code n (length s) ≡ 0) × Holds (new_into address code n s) p n × (drop (length_of First) (new_into address code n s) ≡ drop (length_of First) s)
 new_alike address code n s p e a l =
     let with = header_with p n in
-    let done = new_done address code n s p e a l in (
+    let done = new_done address code n s p with (header_into s First with) e a l refl refl in (
       sym done.0,
       subst (λ (x : List ℕ). Holds x p n) done.1
           (record { whole = written_long s with l; begins = written_begins s with l; sound = made_sound (by_new address code e); fits = new_fits address code p e; served = a }),
