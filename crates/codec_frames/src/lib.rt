@@ -219,10 +219,50 @@ pub fn read_frame(frame: &[u8]) -> Result<Frame, Refusal>
     }
 }
 
+/// What refuses in an answer on a frame: a refusal, or any byte that stands for one.
+pub trait FrameRefusal: Copy {
+    ghost use Rattle.std.specs.Prelude.{ℕ, Result, Ok, Err};
+    ghost use Rattle.codec_frames.specs.declared.Frame.{Frame};
+
+    // What definitions say of an answer, where a refusal is its number.
+    ghost numbered: { Result Frame Self → Result Frame ℕ };
+
+    /// The refusal's number.
+    fn number(self) -> u8
+        ensures { numbered (Err self) ≡ Err result };
+
+    // What each `impl` must prove.
+    ghost frame_stays: { (frame : Frame) → numbered (Ok frame) ≡ Ok frame };
+}
+
+impl FrameRefusal for Refusal {
+    ghost use Rattle.std.specs.Prelude.{refl};
+
+    ghost numbered = { numbered };
+
+    ghost frame_stays = { λ frame. refl };
+
+    fn number(self) -> u8 {
+        Refusal::number(self)
+    }
+}
+
+impl FrameRefusal for u8 {
+    ghost use Rattle.std.specs.Prelude.{refl};
+
+    ghost numbered = { λ read. read };
+
+    ghost frame_stays = { λ frame. refl };
+
+    fn number(self) -> u8 {
+        self
+    }
+}
+
 /// What was read as one number, as C hosts get it: word × 65536 + bytes used × 256; refused: the number alone.
 #[tactic(auto, using(crate::specs::Laws::word_is_below), unfolding(crate::specs::Frames::read_number))]
-pub fn read_number(read: Result<Frame, Refusal>) -> u64
-    ensures { result ≡ read_number (numbered read) }
+pub fn read_number<N: FrameRefusal>(read: Result<Frame, N>) -> u64
+    ensures { result ≡ read_number (N.numbered read) }
 {
     match read {
         Ok(Frame { telegram, used }) => u64::from(telegram) * 65536 + u64::from(used) * 256,
