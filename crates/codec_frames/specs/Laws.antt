@@ -3,8 +3,9 @@ use Rattle.std.specs.Prelude.{◌≡◌, ℕ, ◌+◌, ◌-◌, ◌*◌, ◌%◌
 use Rattle.std.proofs.Common.{sym, ap, ◌∙◌, add-zero, mod-lt, lt_of_le_of_lt, lt_of_lt_of_le, add-one, take-suc, pow_pos, pow_mono, lit<, lit≤}
 use Rattle.std.proofs.Math.Nat.{mod-add-mod, mod-le}
 use native.Mathlib.Omega.{arith}
-use borrow.Author.Tests.{eqb-true, eq-eqb, ne_eqb, le-ltb, leb-true}
+use borrow.Author.Tests.{eqb-true, eq-eqb, ne_eqb, lt-ltb, le-ltb, leb-true}
 use borrow.Table.Steps.{cases}
+use Rattle.std.proofs.lemmas.List.Edits.{sets, sets-eq}
 use Rattle.codec_fields.specs.Fields.{zeros_or14, field_of, bit_at, put_of, put_all, total}
 use Rattle.codec_fields.proofs.Widths.{grown}
 use Rattle.codec_telegrams.specs.declared.Telegram.{Telegram}
@@ -18,7 +19,7 @@ use Rattle.refusals.proofs.Numbers.{named_back}
 use Rattle.codec_frames.specs.declared.Start.{Start}
 use Rattle.codec_frames.specs.declared.Start.TheVariants.{Sd1, Sd2, Sd3, Sd4, Sc, Unknown}
 use Rattle.codec_frames.specs.declared.Frame.{Frame}
-use Rattle.codec_frames.specs.Frames.{numbered, read_as, sd2, end_byte, status_code, sum_of, check_of, start_of, is_unknown, is_sd2, is_checked, is_addressed, check_place, frame_length, body, destination_in, source_in, code_in, extended, frame_on, frame_of, head_holds, coded_telegram, sd1_frame, frame_bytes, is_other_request, not_written, fitted, write_of, written_count, write_number}
+use Rattle.codec_frames.specs.Frames.{numbered, read_as, sd2, end_byte, status_code, sum_of, check_of, start_of, is_unknown, is_sd2, is_checked, is_addressed, check_place, frame_length, body, destination_in, source_in, code_in, extended, frame_on, frame_of, head_holds, coded_telegram, sd1_frame, frame_bytes, is_other_request, Written, not_written, fitted, write_of, written_count, write_number, written_over}
 use Rattle.codec_frames.specs.Ways.{coded_of, checked_of, sd2_of, token_of}
 
 -- what both hold, each holds
@@ -178,6 +179,24 @@ refusal_14 word =
     (or_14 (kind == 1) (zeros_or14 confirmation) last (zeros_14 confirmation)
     (or_14 (kind == 2) (zeros_or14 asked) (zeros_or14 answer) (zeros_14 asked) (zeros_14 answer))))
 
+module _ (bytes l : List ℕ) where
+  -- without room the number is 18 and all of the slice stays
+  pub not_stored :
+      length l < length bytes
+      → (18 ≡ write_number (fitted bytes (length l))) × (l ≡ written_over (fitted bytes (length l)) l)
+  unfolding fitted
+  not_stored h = (rw (lt-ltb (length l) (length bytes) h), rw (lt-ltb (length l) (length bytes) h))
+
+  -- with room the bytes stand at the start, and what stood past them stays
+  pub stored :
+      length bytes ≤ length l
+      → (length bytes * 256 ≡ write_number (fitted bytes (length l))) × (sets l 0 bytes ≡ written_over (fitted bytes (length l)) l)
+  unfolding fitted
+  stored h =
+      let number : length bytes * 256 ≡ length bytes * 256 + 0 = omega arith in
+      let start : 0 + length bytes ≡ length bytes = omega arith in
+      (rw (le-ltb (length l) (length bytes) h) number, rw (le-ltb (length l) (length bytes) h) (rw start at (sets-eq bytes l 0 (omega arith))))
+
 -- what a writer makes of a word: of one that document 01 refuses, and then by the telegram that it says
 module _ (word room : ℕ) where
   pub write_refused : (telegram_refusal word ≢ 0) → write_of word room ≡ not_written 14
@@ -251,6 +270,14 @@ module _ (word room : ℕ) where
 
   pub count_refused : {refusal : ℕ} → Err refusal ≡ written_count (write_of word room) → refusal ≡ write_number (write_of word room)
   count_refused e = sym (by_count.0 ∙ ap count_number (sym e))
+
+-- a call's result and what it leaves, by the same bytes and number under another name
+pub as_written :
+    (before : List ℕ) {w v : Written} {r : ℕ} {left : List ℕ}
+    → w ≡ v
+    → (r ≡ write_number v) × (left ≡ written_over v before)
+    → (r ≡ write_number w) × (left ≡ written_over w before)
+as_written before e p = (rw e p.0, rw e p.1)
 
 -- the status of a response that a word says has four bits
 pub status_below : (word : ℕ) {d s n : ℕ} {state : ResponseState} → telegram_of word ≡ Response d s state n → n < 2 ^ 4

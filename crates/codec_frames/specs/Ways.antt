@@ -2,8 +2,16 @@
 use Rattle.std.specs.Prelude.{ℕ, ◌+◌, ◌-◌, cond, not, List, length, take, drop, ◌==◌, nat_lt, slice_index, Result, Err}
 use Rattle.codec_fields.specs.Fields.{bit_at}
 use Rattle.codec_telegrams.specs.declared.Telegram.TheVariants.{Token}
+use Rattle.refusals.specs.Refusals.{number_of}
 use Rattle.codec_frames.specs.declared.Frame.{Frame}
+use Rattle.codec_frames.specs.declared.Read.{Read}
+use Rattle.codec_frames.specs.declared.Read.TheVariants.{Accepted, Refused}
 use Rattle.codec_frames.specs.Frames.{read_as, end_byte, check_of, extended, head_holds, coded_telegram}
+
+-- what the code makes of bytes, its refusal as a number
+abbrev pub told : Read → Result Frame ℕ
+told (Accepted telegram used) = read_as telegram used
+told (Refused refusal) = Err (number_of refusal)
 
 -- addresses, function code and number of data bytes of a frame of this many bytes
 unfoldable pub coded_of : ℕ → ℕ → ℕ → ℕ → ℕ → Result Frame ℕ

@@ -4,7 +4,7 @@
 
 ghost use Rattle.std.specs.Prelude.{◌≡◌, length, ◌==◌};
 ghost use Rattle.codec_frames.specs.Frames.{numbered, check_of, extended, coded_telegram, sd1_frame, start_of, frame_of, read_number, fitted, write_of, written_count, write_number, written_over};
-ghost use Rattle.codec_frames.specs.Ways.{coded_of, checked_of, sd2_of, token_of};
+ghost use Rattle.codec_frames.specs.Ways.{told, coded_of, checked_of, sd2_of, token_of};
 
 use codec_fields::field;
 use codec_telegrams::{ResponseState, Telegram, check_word};
@@ -60,6 +60,13 @@ pub struct Frame {
     pub used: u16,
 }
 
+// What the reader makes of bytes. It gives telegram and bytes apart: a `Frame` moved whole on each way costs up to half as much again.
+#[derive(Clone, Copy)]
+enum Read {
+    Accepted { telegram: Telegram, used: u16 },
+    Refused(Refusal),
+}
+
 /// The check byte of bytes: their sum modulo 256.
 #[tactic(auto, using(crate::specs::Laws::check_more), unfolding(crate::specs::Frames::check_of))]
 pub fn check_byte(bytes: &[u8]) -> u8
@@ -103,34 +110,36 @@ fn coded_telegram(destination: u8, source: u8, code: u8, count: u8) -> Telegram
 
 // Addresses and function code of a frame of `used` bytes whose check byte and end byte are right.
 #[tactic(auto, unfolding(crate::specs::Ways::coded_of))]
-fn read_coded(destination: u8, source: u8, code: u8, count: u8, used: u16) -> Result<Frame, Refusal>
-    ensures { numbered result ≡ coded_of destination source code count used }
+fn read_coded(destination: u8, source: u8, code: u8, count: u8, used: u16) -> Read
+    ensures { told result ≡ coded_of destination source code count used }
 {
     if is_extended(destination, source) {
-        return Err(Refusal::AddressExtension);
+        return Read::Refused(Refusal::AddressExtension);
     }
     if field(u64::from(code), 7, 1) {
-        return Err(Refusal::FunctionCode);
+        return Read::Refused(Refusal::FunctionCode);
     }
-    let telegram = coded_telegram(destination, source, code, count);
-    Ok(Frame { telegram, used })
+    Read::Accepted {
+        telegram: coded_telegram(destination, source, code, count),
+        used,
+    }
 }
 
 // A frame with a check byte: `head` bytes, destination, source, function code, `count` bytes of data, check byte, end byte.
 #[tactic(auto, using(crate::specs::Laws::part_check), unfolding(crate::specs::Ways::checked_of))]
-fn read_checked(frame: &[u8], head: u8, count: u8) -> Result<Frame, Refusal>
-    ensures { numbered result ≡ checked_of frame.now head count }
+fn read_checked(frame: &[u8], head: u8, count: u8) -> Read
+    ensures { told result ≡ checked_of frame.now head count }
 {
     let from = usize::from(head);
     let place = from + 3 + usize::from(count);
     if frame.len() < place + 2 {
-        return Err(Refusal::FrameCut);
+        return Read::Refused(Refusal::FrameCut);
     }
     if frame[place] != check_byte(&frame[from..place]) {
-        return Err(Refusal::CheckByte);
+        return Read::Refused(Refusal::CheckByte);
     }
     if frame[place + 1] != END_BYTE {
-        return Err(Refusal::EndByte);
+        return Read::Refused(Refusal::EndByte);
     }
     read_coded(
         frame[from],
@@ -143,70 +152,120 @@ fn read_checked(frame: &[u8], head: u8, count: u8) -> Result<Frame, Refusal>
 
 // SD2: a header of four bytes, with the length twice in it, and then what a frame with a check byte has.
 #[tactic(auto, unfolding(crate::specs::Ways::sd2_of))]
-fn read_sd2(frame: &[u8]) -> Result<Frame, Refusal>
-    ensures { numbered result ≡ sd2_of frame.now }
+fn read_sd2(frame: &[u8]) -> Read
+    ensures { told result ≡ sd2_of frame.now }
 {
     if frame.len() < 4 {
-        return Err(Refusal::FrameCut);
+        return Read::Refused(Refusal::FrameCut);
     }
     let length = frame[1];
     if frame[2] != length || frame[3] != SD2 || length < 4 || length > 249 {
-        return Err(Refusal::FrameHeader);
+        return Read::Refused(Refusal::FrameHeader);
     }
     read_checked(frame, 4, length - 3)
 }
 
 // SD4: start byte, destination, source.
 #[tactic(auto, unfolding(crate::specs::Ways::token_of))]
-fn read_token(frame: &[u8]) -> Result<Frame, Refusal>
-    ensures { numbered result ≡ token_of frame.now }
+fn read_token(frame: &[u8]) -> Read
+    ensures { told result ≡ token_of frame.now }
 {
     if frame.len() < 3 {
-        return Err(Refusal::FrameCut);
+        return Read::Refused(Refusal::FrameCut);
     }
     let (destination, source) = (frame[1], frame[2]);
     if is_extended(destination, source) {
-        return Err(Refusal::AddressExtension);
+        return Read::Refused(Refusal::AddressExtension);
     }
-    Ok(Frame {
+    Read::Accepted {
         telegram: Telegram::Token {
             destination,
             source,
         },
         used: 3,
-    })
+    }
 }
 
-/// The frame at the start of a slice. Bytes behind it are not looked at. Refused with 19 to 24, or 34 for the top bit of the
-/// function code, the first that applies in this order: 19 no bytes, 20 start byte, 19 and 21 an SD2 header cut or wrong, 19 cut
-/// short, 22 check byte, 23 end byte, 24 extension bit, 34.
+// The frame at the start of a slice, by its first byte.
 #[tactic(auto, using(crate::specs::Laws::empty_way, crate::specs::Laws::sd1_way, crate::specs::Laws::sd2_way, crate::specs::Laws::sd3_way, crate::specs::Laws::sd4_way, crate::specs::Laws::sc_way, crate::specs::Laws::unknown_way), unfolding(crate::specs::Frames::frame_of))]
-pub fn read_frame(frame: &[u8]) -> Result<Frame, Refusal>
-    ensures { numbered result ≡ frame_of frame.now }
+fn read_start(frame: &[u8]) -> Read
+    ensures { told result ≡ frame_of frame.now }
 {
     if frame.is_empty() {
-        return Err(Refusal::FrameCut);
+        return Read::Refused(Refusal::FrameCut);
     }
     match Start::from(frame[0]) {
         Start::Sd1 => read_checked(frame, 1, 0),
         Start::Sd2 => read_sd2(frame),
         Start::Sd3 => read_checked(frame, 1, 8),
         Start::Sd4 => read_token(frame),
-        Start::Sc => Ok(Frame {
+        Start::Sc => Read::Accepted {
             telegram: Telegram::ShortConfirmation,
             used: 1,
-        }),
-        Start::Unknown => Err(Refusal::StartByte),
+        },
+        Start::Unknown => Read::Refused(Refusal::StartByte),
+    }
+}
+
+/// The frame at the start of a slice. Bytes behind it are not looked at. Refused with 19 to 24, or 34 for the top bit of the
+/// function code, the first that applies in this order: 19 no bytes, 20 start byte, 19 and 21 an SD2 header cut or wrong, 19 cut
+/// short, 22 check byte, 23 end byte, 24 extension bit, 34.
+pub fn read_frame(frame: &[u8]) -> Result<Frame, Refusal>
+    ensures { numbered result ≡ frame_of frame.now }
+{
+    match read_start(frame) {
+        Read::Accepted { telegram, used } => Ok(Frame { telegram, used }),
+        Read::Refused(refusal) => Err(refusal),
+    }
+}
+
+/// What refuses in an answer on a frame: a refusal, or any byte that stands for one.
+pub trait FrameRefusal: Copy {
+    ghost use Rattle.std.specs.Prelude.{ℕ, Result, Ok, Err};
+    ghost use Rattle.codec_frames.specs.declared.Frame.{Frame};
+
+    // What definitions say of an answer, where a refusal is its number.
+    ghost numbered: { Result Frame Self → Result Frame ℕ };
+
+    /// The refusal's number.
+    fn number(self) -> u8
+        ensures { numbered (Err self) ≡ Err result };
+
+    // What each `impl` must prove.
+    ghost frame_stays: { (frame : Frame) → numbered (Ok frame) ≡ Ok frame };
+}
+
+impl FrameRefusal for Refusal {
+    ghost use Rattle.std.specs.Prelude.{refl};
+
+    ghost numbered = { numbered };
+
+    ghost frame_stays = { λ frame. refl };
+
+    fn number(self) -> u8 {
+        Refusal::number(self)
+    }
+}
+
+impl FrameRefusal for u8 {
+    ghost use Rattle.std.specs.Prelude.{refl};
+
+    ghost numbered = { λ read. read };
+
+    ghost frame_stays = { λ frame. refl };
+
+    fn number(self) -> u8 {
+        self
     }
 }
 
 /// What was read as one number, as C hosts get it: word × 65536 + bytes used × 256; refused: the number alone.
 #[tactic(auto, using(crate::specs::Laws::word_is_below), unfolding(crate::specs::Frames::read_number))]
-pub fn read_number(read: Result<Frame, Refusal>) -> u64
-    ensures { result ≡ read_number (numbered read) }
+pub fn read_number<N: FrameRefusal>(read: Result<Frame, N>) -> u64
+    ensures { result ≡ read_number (N.numbered read) }
 {
     match read {
-        Ok(frame) => u64::from(frame.telegram) * 65536 + u64::from(frame.used) * 256,
+        Ok(Frame { telegram, used }) => u64::from(telegram) * 65536 + u64::from(used) * 256,
         Err(refusal) => u64::from(refusal.number()),
     }
 }

@@ -18,8 +18,13 @@ check_byte κs a r₁ r₂ s₁ s₂ p q = p ∙ sym q
 pub read_frame : Determined read-frame-reads.Post
 read_frame κs a r₁ r₂ s₁ s₂ p q = numbered_same r₁ r₂ (p ∙ sym q)
 
-pub read_number : Determined read-number-reads.Post
-read_number κs a r₁ r₂ s₁ s₂ p q = p ∙ sym q
+-- and of `read_number` at each type that refuses
+pub read_number :
+    (T : _) (L : _) (C : _) (F : _) (d : _) (G : _) (e : _) (κs : _) (a : _) (r₁ r₂ : _) (s₁ s₂ : _)
+    → read-number-reads.Post T L C F d G e κs a r₁ s₁
+    → read-number-reads.Post T L C F d G e κs a r₂ s₂
+    → r₁ ≡ r₂
+read_number T L C F d G e κs a r₁ r₂ s₁ s₂ p q = p ∙ sym q
 
 -- `write_frame` returns how many bytes or a refusal and writes: both are fixed, the lent slice in every byte
 pub write_frame :
