@@ -19,7 +19,6 @@ ENOUGH = 2
 # The calls that have fewer, each with the reason.
 FEWER = {
     "ring.TokenRing.links": "it lends the links that it has: there is no other value of that type to lend",
-    "ring.TokenRing.own": "its line stands in other calls too, and an edit's text must stand once",
 }
 HOSTS = "amsulfezd"
 
