@@ -1,11 +1,12 @@
 -- A station as bytes (the live door): ten words, then the set of its ring's members, 96 bytes. Assumes nothing.
-use Rattle.std.specs.Prelude.{ℕ, ◌+◌, Bool, true, false, cond, List, [], ◌∷◌, ◌++◌, length, take, drop, ltb, Option, Some, None, Result, Ok, Err}
+use Rattle.std.specs.Prelude.{ℕ, ◌+◌, Bool, true, false, cond, List, [], ◌∷◌, ◌++◌, length, take, drop, replicate, ltb, Option, Some, None, Result, Ok, Err}
 use Rattle.codec_fields.specs.Fields.{bytes_of, load_of, stored_of}
 use Rattle.settings.specs.declared.parameters.Parameters.{Parameters}
 use Rattle.refusals.specs.declared.refusal.Refusal.{Refusal}
 use Rattle.ring_addresses.specs.Set.{only}
 use Rattle.ring.specs.Ring.{Ring, has, make}
 use Rattle.ring_members.specs.Members.{in_set, set_added, set_bytes}
+use Rattle.station.specs.declared.parts.Counts.{Counts}
 use Rattle.station.specs.declared.station.Station.{Station}
 use Rattle.trace.specs.Trace.{settings_of}
 use Rattle.station_words.specs.declared.Words.{Words}
@@ -89,6 +90,34 @@ found_in w set = found_on (settings_of (header_in w)) (header_in w).applications
 -- what bytes are, a station or none: none where they are too few
 unfoldable pub read_of : List ℕ → Option Station
 read_of bytes = cond (ltb (length bytes) station_length) None (found_in (words_in bytes) (set_in bytes))
+
+-- a ring in whose links nobody is, and all else as it is; and a station with such a ring
+abbrev pub unlinked_ring : Ring → Ring
+unlinked_ring r = record { links = replicate 252 127; own = r.own; laps = r.laps; ready = r.ready }
+
+unfoldable pub unlinked : Station → Station
+unlinked s = record { state = s.state; core = s.core; token_ring = unlinked_ring s.token_ring; p = s.p; counts = s.counts; applications = s.applications }
+
+abbrev pub unlinked_in : Option Station → Option Station
+unlinked_in (Some s) = Some (unlinked s)
+unlinked_in None = None
+
+-- the station that words say, with such a ring
+unfoldable pub head_from : Parameters → ℕ → Words → Station
+head_from p n w =
+    record {
+      state = state_in w;
+      core = core_in w;
+      token_ring = record { links = replicate 252 127; own = p.address; laps = laps_in w; ready = ready_in w };
+      p = p;
+      counts = counts_in w;
+      applications = n;
+    }
+
+-- what a station has counted, or none
+abbrev pub counts_of : Option Station → Option Counts
+counts_of (Some s) = Some s.counts
+counts_of None = None
 
 -- Written.
 

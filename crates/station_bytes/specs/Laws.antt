@@ -1,9 +1,10 @@
--- What the proofs use: words stored one after the other, the set behind them, and the tables of a ring. Assumes nothing.
-use Rattle.std.specs.Prelude.{ℕ, suc, ◌+◌, ◌-◌, ◌*◌, ◌≤◌, ◌<◌, ◌^◌, ◌≡◌, refl, Bool, true, false, cond, List, [], ◌∷◌, ◌++◌, length, get_or, take, drop, ltb}
-use Rattle.std.proofs.Common.{sym, ap, ◌∙◌, append-nil, append_assoc, arith, add-zero, lt-ltb, le-ltb, ltb-true, length-append, length-drop, length-take, take_at, drop_at, drop-drop, length-take-le, lit≤}
+-- What the proofs use: words stored one after the other, the set behind them, the tables of a ring, and a station read with and
+-- without them. Assumes nothing.
+use Rattle.std.specs.Prelude.{ℕ, zero, suc, ◌+◌, ◌-◌, ◌*◌, ◌≤◌, ◌<◌, ◌^◌, ◌≡◌, refl, Bool, true, false, cond, List, [], ◌∷◌, ◌++◌, length, get_or, take, drop, replicate, eqb, ltb, Option, Some, None, Result, Ok, Err}
+use Rattle.std.proofs.Common.{sym, ap, subst, ◌∙◌, append-nil, append_assoc, arith, add-zero, lt-ltb, le-ltb, ltb-true, length-append, length-drop, length-take, take_at, drop_at, drop-drop, length-take-le, lit≤}
 use borrow.Table.Steps.{cases}
 use borrow.Rule.Slice.PartMut.{put_mid}
-use Rattle.codec_fields.specs.Fields.{be, be_from, bytes_of, load_of, stored_of}
+use Rattle.codec_fields.specs.Fields.{be, be_from, bit_at, bytes_of, load_of, stored_of}
 use Rattle.codec_fields.proofs.Laws.{low_length}
 use Rattle.codec_fields.proofs.Stores.{load_room, store_next}
 use Rattle.codec_fields.proofs.Widths.{be_suc}
@@ -11,14 +12,17 @@ use Rattle.ring_links.specs.Links.{listed}
 use Rattle.ring_links.specs.Tables.{length_tab}
 use Rattle.ring_addresses.specs.Set.{only}
 use Rattle.ring_addresses.specs.SetLaws.{true≢false}
-use Rattle.ring.specs.Ring.{Ring, links_of, has, make}
-use Rattle.ring_members.specs.Members.{in_set, set_written, set_over, set_bytes}
+use Rattle.settings.specs.declared.parameters.Parameters.{Parameters}
+use Rattle.refusals.specs.declared.refusal.Refusal.{Refusal}
+use Rattle.ring.specs.Ring.{Ring, links_of, has, make, add_of}
+use Rattle.ring_members.specs.Members.{byte_at, in_set, bit_added, bits_added, byte_added, set_added, set_written, set_over, set_bytes}
 use Rattle.ring_members.proofs.Laws.{members_links}
 use Rattle.ring_members.proofs.Back.{set_is}
 use Rattle.station.specs.declared.station.Station.{Station}
 use Rattle.station_words.specs.declared.Words.{Words}
-use Rattle.station_words.specs.Words.{words_of}
-use Rattle.station_bytes.specs.Bytes.{ring_in, stores_from, words_stored, word_list, all_bytes, station_bytes, station_into}
+use Rattle.station_words.specs.Words.{words_of, state_in, core_in, counts_in, laps_in, ready_in, header_in}
+use Rattle.trace.specs.Trace.{settings_of}
+use Rattle.station_bytes.specs.Bytes.{ring_in, station_from, words_fit, set_fits, checked_in, found_with, found_on, found_in, unlinked_ring, unlinked, unlinked_in, head_from, counts_of, stores_from, words_stored, word_list, all_bytes, station_bytes, station_into}
 
 -- The words.
 
@@ -171,3 +175,127 @@ unfolding ring_in make
 ring_linked own laps ready links set low mine is =
     ap (λ (l : List ℕ). record { links = l; own = own; laps = laps; ready = ready }) is
     ∙ sym (members_links own laps ready set low mine)
+
+-- adding members changes the links alone
+add_unlinked : (r : Ring) (a : ℕ) → unlinked_ring (add_of r a) ≡ unlinked_ring r
+unfolding add_of
+add_unlinked r a = cases (ltb a 126) (λ t. rw t refl) (λ f. rw f refl)
+
+bit_unlinked : (r : Ring) (byte at a : ℕ) → unlinked_ring (bit_added r byte at a) ≡ unlinked_ring r
+unfolding bit_added
+bit_unlinked r byte at a = cases (bit_at byte at) (λ t. rw t (add_unlinked r a)) (λ f. rw f refl)
+
+bits_unlinked : (r : Ring) (byte a k : ℕ) → unlinked_ring (bits_added r byte a k) ≡ unlinked_ring r
+unfolding bits_added
+bits_unlinked r byte a zero = refl
+bits_unlinked r byte a (suc k) = bit_unlinked (bits_added r byte a k) byte (7 - k) (a + k) ∙ bits_unlinked r byte a k
+
+byte_unlinked : (r : Ring) (byte a : ℕ) → unlinked_ring (byte_added r byte a) ≡ unlinked_ring r
+unfolding byte_added
+byte_unlinked r byte a = cases (eqb byte 0) (λ t. rw t refl) (λ f. rw f (bits_unlinked r byte a 8))
+
+set_unlinked : (r : Ring) (s : List ℕ) (i : ℕ) → unlinked_ring (set_added r s i) ≡ unlinked_ring r
+unfolding set_added
+set_unlinked r s zero = refl
+set_unlinked r s (suc i) = byte_unlinked (set_added r s i) (byte_at s i) (8 * i) ∙ set_unlinked r s i
+
+ring_unlinked : (own laps : ℕ) (ready : Bool) (set : List ℕ) → unlinked_ring (ring_in own laps ready set) ≡ record { links = replicate 252 127; own = own; laps = laps; ready = ready }
+unfolding ring_in make
+ring_unlinked own laps ready set = set_unlinked (make own (only own) laps ready) set 16
+
+-- Read.
+
+-- the station that was found
+abbrev found : Station → Option Station → Station
+found s (Some t) = t
+found s None = s
+
+module _ (p : Parameters) (n : ℕ) (w : Words) (set : List ℕ) where
+  -- but for its ring's links a station is what its words say
+  head_is : unlinked (station_from p n w set) ≡ head_from p n w
+  unfolding unlinked station_from head_from
+  head_is =
+      ap (λ (r : Ring). record { state = state_in w; core = core_in w; token_ring = r; p = p; counts = counts_in w; applications = n })
+      (ring_unlinked p.address (laps_in w) (ready_in w) set)
+
+  -- its links change nothing of what it writes
+  head_fits : words_fit (station_from p n w set) w ≡ words_fit (head_from p n w) w
+  unfolding words_fit unlinked
+  head_fits = ap (λ (s : Station). words_fit s w) head_is
+
+  -- another set is its members
+  pub found_not : set_fits set p.address ≡ false → None ≡ unlinked_in (found_with p n w set)
+  unfolding found_with
+  found_not f = rw f refl
+
+  -- it writes other words
+  pub found_other : (h : Station) → set_fits set p.address ≡ true → h ≡ head_from p n w → words_fit h w ≡ false → None ≡ unlinked_in (found_with p n w set)
+  unfolding found_with checked_in
+  found_other h t e f =
+      let fits : words_fit (station_from p n w set) w ≡ false = head_fits ∙ ap (λ (s : Station). words_fit s w) (sym e) ∙ f in
+      rw (t, fits) refl
+
+  -- it is found
+  pub found_head : (h : Station) → set_fits set p.address ≡ true → h ≡ head_from p n w → words_fit h w ≡ true → Some h ≡ unlinked_in (found_with p n w set)
+  unfolding found_with checked_in
+  found_head h t e f =
+      let fits : words_fit (station_from p n w set) w ≡ true = head_fits ∙ ap (λ (s : Station). words_fit s w) (sym e) ∙ f in
+      rw (t, fits) (ap (λ (s : Station). Some s) (e ∙ sym head_is))
+
+-- a station whose ring is that of own and a set
+abbrev Linked : List ℕ → Station → Type 0
+Linked set s = s.token_ring ≡ ring_in s.token_ring.own s.token_ring.laps s.token_ring.ready set
+
+from_linked : (p : Parameters) (n : ℕ) (w : Words) (set : List ℕ) → Linked set (station_from p n w set)
+unfolding station_from
+from_linked p n w set =
+    let is = ring_unlinked p.address (laps_in w) (ready_in w) set in
+    sym
+    (ap (λ (r : Ring). ring_in r.own r.laps r.ready set) is)
+
+with_linked : (p : Parameters) (n : ℕ) (w : Words) (set : List ℕ) (s : Station) → found_with p n w set ≡ Some s → Linked set s
+unfolding found_with checked_in
+with_linked p n w set s e = go (set_fits set p.address) (words_fit (station_from p n w set) w) e
+  where
+    go : (b c : Bool) → cond b (cond c (Some (station_from p n w set)) None) None ≡ Some s → Linked set s
+    go true true q = subst (Linked set) (ap (found s) q) (from_linked p n w set)
+    go true false q = absurd (cc q)
+    go false c q = absurd (cc q)
+
+in_linked : (w : Words) (set : List ℕ) (s : Station) → found_in w set ≡ Some s → Linked set s
+unfolding found_in found_on
+in_linked w set s e = go (settings_of (header_in w)) e
+  where
+    go : (x : Result Parameters Refusal) → found_on x (header_in w).applications w set ≡ Some s → Linked set s
+    go (Ok p) q = with_linked p (header_in w).applications w set s q
+    go (Err refusal) q = absurd (cc q)
+
+-- with its members it is the station that was found
+pub found_whole :
+    (w : Words) (set : List ℕ) (h : Station) (r : Ring)
+    → Some h ≡ unlinked_in (found_in w set)
+    → r ≡ ring_in h.token_ring.own h.token_ring.laps h.token_ring.ready set
+    → Some (record { state = h.state; core = h.core; token_ring = r; p = h.p; counts = h.counts; applications = h.applications }) ≡ found_in w set
+unfolding unlinked
+found_whole w set h r e is = go (found_in w set) (in_linked w set) e
+  where
+    go :
+        (x : Option Station)
+        → ((s : Station) → x ≡ Some s → Linked set s)
+        → Some h ≡ unlinked_in x
+        → Some (record { state = h.state; core = h.core; token_ring = r; p = h.p; counts = h.counts; applications = h.applications }) ≡ x
+    go None l q = absurd (cc q)
+    go (Some s) l q =
+        let same : h ≡ unlinked s = ap (found h) q in
+        let ring : r ≡ s.token_ring = is ∙ ap (λ (t : Station). ring_in t.token_ring.own t.token_ring.laps t.token_ring.ready set) same ∙ sym (l s refl) in
+        ap (λ (t : Ring). Some (record { state = h.state; core = h.core; token_ring = t; p = h.p; counts = h.counts; applications = h.applications })) ring
+        ∙ ap (λ (t : Station). Some (record { state = t.state; core = t.core; token_ring = s.token_ring; p = t.p; counts = t.counts; applications = t.applications })) same
+
+-- what it has counted is what the station that was found has
+pub found_counts : (w : Words) (set : List ℕ) (h : Station) → Some h ≡ unlinked_in (found_in w set) → Some h.counts ≡ counts_of (found_in w set)
+unfolding unlinked
+found_counts w set h e = go (found_in w set) e
+  where
+    go : (x : Option Station) → Some h ≡ unlinked_in x → Some h.counts ≡ counts_of x
+    go None q = absurd (cc q)
+    go (Some s) q = ap (λ (t : Station). Some t.counts) (ap (found h) q)

@@ -6,13 +6,14 @@
 ghost use Rattle.std.specs.Prelude.{◌≡◌, false, cond, [], ◌∷◌, ◌+◌, ◌<◌, ◌≤◌, length, take, drop, ltb};
 ghost use Rattle.codec_fields.specs.Fields.{be, load_of};
 ghost use Rattle.ring_members.specs.Members.{in_set};
-ghost use Rattle.station_bytes.specs.Bytes.{stores_from, five_in, words_in, station_from, words_fit, set_fits, ring_in, checked_in, found_with, found_in, read_of, words_stored, station_into};
+ghost use Rattle.station_bytes.specs.Bytes.{stores_from, five_in, words_in, head_from, words_fit, set_fits, ring_in, found_with, found_in, read_of, unlinked_in, counts_of, words_stored, station_into};
 
 use codec_fields::store;
 use ring::TokenRing;
+use ring_links::RingLinks;
 use ring_members::in_set;
 use settings::Parameters;
-use station::Station;
+use station::{Counts, Station};
 use station_words::Words;
 
 // The number that four bytes from `at` on are, the first the highest.
@@ -97,19 +98,19 @@ pub fn make_ring(own: u8, laps: u16, ready: bool, set: &[u8]) -> TokenRing
     ring
 }
 
-// The station that words say, with these settings, so many applications and these members, unchecked.
-#[tactic(auto, unfolding(crate::specs::Bytes::station_from))]
-fn station_from(p: Parameters, applications: u8, words: Words, set: &[u8]) -> Station
-    ensures { result ≡ station_from p applications words set.now }
+// The station that words say, with these settings and so many applications, unchecked, and with nobody in its ring.
+#[tactic(auto, unfolding(crate::specs::Bytes::head_from))]
+fn head_station(p: Parameters, applications: u8, words: Words) -> Station
+    ensures { result ≡ head_from p applications words }
 {
     Station {
         state: station_words::state_in(words),
         core: station_words::core_in(words),
-        token_ring: make_ring(
+        token_ring: TokenRing::from_links(
+            RingLinks::new(),
             p.address,
             station_words::laps_in(words),
             station_words::ready_in(words),
-            set,
         ),
         p,
         counts: station_words::counts_in(words),
@@ -139,15 +140,15 @@ fn set_fits(set: &[u8], own: u8) -> bool
     in_set(set, own) && !in_set(set, 126) && !in_set(set, 127)
 }
 
-// The station that words and a set of members say, where a station writes them.
-#[tactic(auto, unfolding(crate::specs::Bytes::found_with, crate::specs::Bytes::checked_in))]
+// The station that words and a set of members say, where a station writes them, but with nobody in its ring.
+#[tactic(auto, using(crate::specs::Laws::found_not, crate::specs::Laws::found_other, crate::specs::Laws::found_head))]
 fn found_with(p: Parameters, applications: u8, words: Words, set: &[u8]) -> Option<Station>
-    ensures { result ≡ found_with p applications words set.now }
+    ensures { result ≡ unlinked_in (found_with p applications words set.now) }
 {
     if !set_fits(set, p.address) {
         return None;
     }
-    let station = station_from(p, applications, words, set);
+    let station = head_station(p, applications, words);
     if words_fit(&station, words) {
         Some(station)
     } else {
@@ -155,10 +156,10 @@ fn found_with(p: Parameters, applications: u8, words: Words, set: &[u8]) -> Opti
     }
 }
 
-// What words and a set of members are.
+// What words and a set of members are, but with nobody in its ring.
 #[tactic(auto, unfolding(crate::specs::Bytes::found_in, crate::specs::Bytes::found_on))]
 fn found_in(words: Words, set: &[u8]) -> Option<Station>
-    ensures { result ≡ found_in words set.now }
+    ensures { result ≡ unlinked_in (found_in words set.now) }
 {
     let header = station_words::header_in(words);
     let p = trace::header_settings(header).ok()?;
@@ -166,14 +167,34 @@ fn found_in(words: Words, set: &[u8]) -> Option<Station>
 }
 
 /// The station that bytes are, or none.
-#[tactic(auto, unfolding(crate::specs::Bytes::read_of))]
+#[tactic(auto, using(crate::specs::Laws::found_whole), unfolding(crate::specs::Bytes::read_of))]
 pub fn read_station(bytes: &[u8]) -> Option<Station>
     ensures { result ≡ read_of bytes.now }
 {
     if bytes.len() < 96 {
         return None;
     }
-    found_in(read_words(bytes), &bytes[80..96])
+    let set = &bytes[80..96];
+    let mut station = found_in(read_words(bytes), set)?;
+    station.token_ring = make_ring(
+        station.token_ring.own(),
+        station.token_ring.laps(),
+        station.token_ring.ready_for_ring(),
+        set,
+    );
+    Some(station)
+}
+
+/// What the station that bytes are has counted, or none where they are no station. Its ring is not made.
+#[tactic(auto, using(crate::specs::Laws::found_counts), unfolding(crate::specs::Bytes::read_of))]
+pub fn read_counts(bytes: &[u8]) -> Option<Counts>
+    ensures { result ≡ counts_of (read_of bytes.now) }
+{
+    if bytes.len() < 96 {
+        return None;
+    }
+    let station = found_in(read_words(bytes), &bytes[80..96])?;
+    Some(station.counts)
 }
 
 // Writes five words one after the other from `at` on.

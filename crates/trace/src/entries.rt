@@ -3,6 +3,7 @@ ghost use Rattle.std.specs.Iterator.{item_count};
 ghost use Rattle.trace.specs.Entries.{record_length};
 ghost use Rattle.trace.specs.Taken.{TakesEntry, record_of};
 
+use crate::record_length;
 use refusals::Refusal;
 use std::marker::Model;
 
@@ -66,8 +67,8 @@ impl<'a> Iterator for Entries<'a> {
             0 => Entry::Online,
             1 => Entry::Offline,
             2 => Entry::Passive,
-            length => {
-                let length = length as usize;
+            kind => {
+                let length = record_length(kind);
                 if rest.len() < length {
                     self.rest = &rest[rest.len()..];
                     return Some(Err(Refusal::TraceLength));
