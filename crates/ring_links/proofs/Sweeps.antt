@@ -33,6 +33,14 @@ sweep_on own d (suc k) p q l m o h n e t =
     go true = refl
     go false = refl
 
+-- it is at an address again
+pub sweep_place : (own x p q : ℕ) → x < 126 → p < 126 → q ≡ cond (eqb x own) x p → q < 126
+sweep_place own x p q l m e = rw e (go (eqb x own))
+  where
+    go : (b : Bool) → cond b x p < 126
+    go true = l
+    go false = m
+
 -- what is left to sweep from here, with i steps done, is the whole
 pub record Swept (own d s : ℕ) (was : List ℕ) (i place : ℕ) (is : List ℕ) : Type 0 where
   pub rest : sweep_of own d (126 - i) place is ≡ sweep_of own d 126 s was

@@ -1,7 +1,18 @@
 -- The first member met going down: the walk, distance by distance.
-use Rattle.std.proofs.Common.{◌≡◌, ℕ, ◌+◌, ◌-◌, ◌<◌, ◌≤◌, Bool, true, false, sym, ap, ◌∙◌}
+use Rattle.std.proofs.Common.{◌≡◌, ℕ, ◌+◌, ◌-◌, ◌<◌, ◌≤◌, Bool, true, false, sym, ap, ◌∙◌, arith}
 use Rattle.ring_addresses.specs.Set.{down, walk, head_or, nearest}
 use Rattle.ring_addresses.specs.SetLaws.{walk_stop, walk_pass, walk_end}
+
+-- going down starts where it starts
+pub down_start : (a : ℕ) → a < 126 → a ≡ down a (1 - 1)
+down_start a l = omega arith
+
+-- and goes on one address further
+pub down_on : (a d x y : ℕ) → a < 126 → 1 ≤ d → d ≤ 126 → x ≡ down a (d - 1) → y ≡ down x 1 → y ≡ down a d
+down_on a d x y l m n e q = q ∙ ap (λ (z : ℕ). down z 1) e ∙ step
+  where
+    step : down (down a (d - 1)) 1 ≡ down a d
+    step = omega arith
 
 -- the walk down from a has passed nobody before distance d
 abbrev pub PassedNobody : (ℕ → Bool) → ℕ → ℕ → Type 0

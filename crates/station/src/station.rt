@@ -25,14 +25,13 @@ pub struct Station {
 }
 
 impl Station {
-    /// FdlActiveStation::new, for 1 to 8 applications: offline, alone in its ring, nothing counted. Refusal 11, and then no
-    /// station is made.
-    #[tactic(auto, using(refusals::proofs::Numbers::named_back, refusals::proofs::Numbers::refused), unfolding(refusals::specs::Refusals::answered, crate::specs::Parts::new_station, crate::specs::Parts::fresh_station))]
-    pub fn new(p: Parameters, applications: u8) -> Result<Self, Refusal>
-        ensures { result ≡ answered (new_station p applications).refusal (new_station p applications).station }
+    /// The station that `new` makes, for any number of applications, also one that `new` refuses: offline, alone in its ring, nothing
+    /// counted.
+    #[tactic(auto, unfolding(crate::specs::Parts::new_station, crate::specs::Parts::fresh_station))]
+    pub fn fresh(p: Parameters, applications: u8) -> Self
+        ensures { result ≡ (new_station p applications).station }
     {
-        settings_rules::check_applications(applications)?;
-        Ok(Station {
+        Station {
             state: State::Offline,
             core: Core::new(),
             token_ring: TokenRing::new(p.address),
@@ -43,7 +42,17 @@ impl Station {
                 meetings: 0,
             },
             applications,
-        })
+        }
+    }
+
+    /// FdlActiveStation::new, for 1 to 8 applications: offline, alone in its ring, nothing counted. Refusal 11, and then no
+    /// station is made.
+    #[tactic(auto, using(refusals::proofs::Numbers::named_back, refusals::proofs::Numbers::refused), unfolding(refusals::specs::Refusals::answered, crate::specs::Parts::new_station))]
+    pub fn new(p: Parameters, applications: u8) -> Result<Self, Refusal>
+        ensures { result ≡ answered (new_station p applications).refusal (new_station p applications).station }
+    {
+        settings_rules::check_applications(applications)?;
+        Ok(Station::fresh(p, applications))
     }
 
     /// wait_synchronization_pause: 33 bits since the last activity, which is known from now on.

@@ -128,10 +128,11 @@ fn meetings(met: u8) -> Event
     }
 }
 
-/// The step that the telegrams of a poll lead to, from the station's state: all of them are consumed, and the collisions among them
-/// are counted.
+// The step that the telegrams of a poll lead to, where there are some. A function of its own, and kept one: what it needs room for is
+// laid out where its caller begins, and a poll without telegrams is spared that.
+#[inline(never)]
 #[tactic(auto, unfolding(crate::specs::Listen::consumed_all))]
-pub fn received(station: &mut Station, now: Micros, listening: bool, poll: Record<'_>) -> Done
+fn received_some(station: &mut Station, now: Micros, listening: bool, poll: Record<'_>) -> Done
     ensures { (station.new, result) ≡ after station.old (consumed_all (received_all station.old.p station.old.state station.old.core station.old.token_ring now listening poll.entry.bytes.now poll.entry.applications poll.entry.telegrams) poll.entry.telegrams) }
 {
     let all = receive_all_telegrams(station, now, listening, poll);
@@ -140,6 +141,18 @@ pub fn received(station: &mut Station, now: Micros, listening: bool, poll: Recor
         event: meetings(all.met),
         ..Done::new(all.outcome)
     }
+}
+
+/// The step that the telegrams of a poll lead to, from the station's state: all of them are consumed, and the collisions among them
+/// are counted. Most polls have none.
+#[tactic(auto, unfolding(station::specs::Steps::done_of, station::specs::Steps::heard_of, crate::specs::Listen::heard_all, crate::specs::Listen::met_in, crate::specs::Listen::received_all, crate::specs::Listen::consumed_all, crate::specs::Listen::meetings_of))]
+pub fn received(station: &mut Station, now: Micros, listening: bool, poll: Record<'_>) -> Done
+    ensures { (station.new, result) ≡ after station.old (consumed_all (received_all station.old.p station.old.state station.old.core station.old.token_ring now listening poll.entry.bytes.now poll.entry.applications poll.entry.telegrams) poll.entry.telegrams) }
+{
+    if poll.telegrams == 0 {
+        return Done::new(Outcome::Bus);
+    }
+    received_some(station, now, listening, poll)
 }
 
 /// do_listen_token.

@@ -18,6 +18,7 @@ use Rattle.station.proofs.state.State.listen_token.Reads as listen-token-reads
 use Rattle.station.proofs.state.State.passive_idle.Reads as passive-idle-reads
 use Rattle.station.proofs.state.State.active_idle.Reads as active-idle-reads
 use Rattle.station.proofs.state.State.use_token.Reads as use-token-reads
+use Rattle.station.proofs.station.Station.fresh.Reads as fresh-reads
 use Rattle.station.proofs.station.Station.new.Reads as new-reads
 use Rattle.station.proofs.station.Station.wait_synchronization_pause.Reads as wait-synchronization-pause-reads
 use Rattle.station.proofs.station.Station.check_slot_expired.Reads as check-slot-expired-reads
@@ -71,6 +72,9 @@ active_idle κs a r₁ r₂ s₁ s₂ p q = p ∙ sym q
 
 pub use_token : Determined use-token-reads.Post
 use_token κs a r₁ r₂ s₁ s₂ p q = p ∙ sym q
+
+pub fresh : Determined fresh-reads.Post
+fresh κs a r₁ r₂ s₁ s₂ p q = p ∙ sym q
 
 pub new : Determined new-reads.Post
 new κs a r₁ r₂ s₁ s₂ p q = p ∙ sym q
