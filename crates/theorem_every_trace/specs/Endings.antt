@@ -2,6 +2,7 @@
 use Rattle.std.specs.Prelude.{ℕ, ◌+◌, ◌≤◌, ◌&&◌, refl, List, [], ◌∷◌, leb, eqb, ◌≡◌, Bool, false, cond, Result, Ok, Err}
 use Rattle.std.proofs.Common.{inl, inr, lit≤, subst, sym}
 use Rattle.refusals.specs.declared.refusal.Refusal.{Refusal}
+use Rattle.refusals.specs.declared.refusal.Refusal.TheVariants.{BaudCode}
 use Rattle.refusals.specs.Refusals.{number_of, named, answered}
 use Rattle.bit_times.specs.declared.baud.Baud.{Baud}
 use Rattle.bit_times.proofs.Laws.{no_rate}
@@ -32,16 +33,25 @@ outside_small : (low v high n : ℕ) → HeaderNumber n → HeaderNumber (refuse
 unfolding refuse_outside
 outside_small low v high n h = either HeaderNumber (leb low v && leb v high) 0 n (number (lit≤ tt)) h
 
-refusal_small : (code : ℕ) (e : Refusal) → baud_of code ≡ Err e → HeaderNumber (number_of e)
-refusal_small code e r = subst (λ (x : Refusal). HeaderNumber (number_of x)) (sym (no_rate code e r)) (number (lit≤ tt))
+-- what a baud code gives: a rate, or the refusal 10
+abbrev Coded : Result Baud Refusal → Type 0
+Coded (Ok baud) = Unit {0}
+Coded (Err e) = e ≡ BaudCode
 
-baud_small : (code : ℕ) → HeaderNumber (baud_refusal (baud_of code))
-unfolding baud_refusal
-baud_small code = go (baud_of code) refl
+coded : (code : ℕ) → Coded (baud_of code)
+coded code = go (baud_of code) refl
   where
-    go : (x : Result Baud Refusal) → baud_of code ≡ x → HeaderNumber (baud_refusal x)
-    go (Ok baud) r = number (lit≤ tt)
-    go (Err e) r = refusal_small code e r
+    go : (x : Result Baud Refusal) → baud_of code ≡ x → Coded x
+    go (Ok baud) r = tt
+    go (Err e) r = no_rate code e r
+
+refusal_small : (e : Refusal) → e ≡ BaudCode → HeaderNumber (number_of e)
+refusal_small e is = subst (λ (x : Refusal). HeaderNumber (number_of x)) (sym is) (number (lit≤ tt))
+
+baud_small : (x : Result Baud Refusal) → Coded x → HeaderNumber (baud_refusal x)
+unfolding baud_refusal
+baud_small (Ok baud) is = number (lit≤ tt)
+baud_small (Err e) is = refusal_small e is
 
 factors_small : (f1 f2 : ℕ) → HeaderNumber (factors_refusal f1 f2)
 unfolding factors_refusal
@@ -85,7 +95,7 @@ early_small f =
     let two : List ℕ = slot_bits_refusal (least_of (baud_of f.baud_code)) f.slot_bits ∷ three in
     let ten : List ℕ = baud_refusal (baud_of f.baud_code) ∷ two in
     first_has HeaderNumber (address_refusal f.address) ten (outside_small 0 f.address 125 1 (number (lit≤ tt)))
-    (first_has HeaderNumber (baud_refusal (baud_of f.baud_code)) two (baud_small f.baud_code)
+    (first_has HeaderNumber (baud_refusal (baud_of f.baud_code)) two (baud_small (baud_of f.baud_code) (coded f.baud_code))
     (first_has HeaderNumber (slot_bits_refusal (least_of (baud_of f.baud_code)) f.slot_bits) three (below_small (least_of (baud_of f.baud_code)) f.slot_bits 2 (number (lit≤ tt)))
     (first_has HeaderNumber (hsa_refusal f.address f.highest_station_address) four (outside_small (f.address + 1) f.highest_station_address 126 3 (number (lit≤ tt)))
     (first_has HeaderNumber (rotation_refusal f.token_rotation_bits) room (outside_small 256 f.token_rotation_bits 16777960 4 (number (lit≤ tt)))
@@ -130,14 +140,14 @@ named_small n h f small = subst HeaderNumber (sym (rw f at h)) small
 chosen_small : (n : ℕ) (x : Result Parameters Refusal) → Numbered n → SmallBuilt x → HeaderNumber n → SmallBuilt (cond (eqb n 0) x (Err (named n)))
 chosen_small n x h built small = cases (eqb n 0) (λ t. rw t built) (λ f. rw f (named_small n h f small))
 
-at_small : (f : PlainSettings) (x : Result Baud Refusal) → baud_of f.baud_code ≡ x → SmallBuilt (built_at f x)
+at_small : (f : PlainSettings) (x : Result Baud Refusal) → Coded x → SmallBuilt (built_at f x)
 unfolding built_at
-at_small f (Ok baud) r = tt
-at_small f (Err e) r = refusal_small f.baud_code e r
+at_small f (Ok baud) is = tt
+at_small f (Err e) is = refusal_small e is
 
 build_small : (f : PlainSettings) → SmallBuilt (build_of f)
 unfolding build_of
-build_small f = chosen_small (first_refusal f) _ (whole_numbered f) (at_small f (baud_of f.baud_code) refl) (settings_small f)
+build_small f = chosen_small (first_refusal f) _ (whole_numbered f) (at_small f (baud_of f.baud_code) (coded f.baud_code)) (settings_small f)
 
 settings_of_small : (h : Header) → SmallBuilt (settings_of h)
 unfolding settings_of
