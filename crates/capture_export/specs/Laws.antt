@@ -1,6 +1,6 @@
 -- What the code writes is what the definitions say: a telegram's line, a record's lines, an entry, the loop over entries. Assumes
 -- nothing.
-use Rattle.std.specs.Prelude.{ℕ, zero, suc, ◌+◌, ◌-◌, ◌<◌, ◌≤◌, ◌≡◌, refl, get_or, drop, replicate, Result, Ok, Err, IsErrAnd}
+use Rattle.std.specs.Prelude.{ℕ, zero, suc, ◌+◌, ◌-◌, ◌/◌, ◌%◌, ◌<◌, ◌≤◌, ◌≡◌, refl, get_or, drop, replicate, Result, Ok, Err, IsErrAnd}
 use Rattle.std.proofs.Common.{sym, ◌∙◌, le_refl, add-zero, length-append, length-drop, drop_of_length-le, take_all, take_at, drop_at, drop-drop}
 use Rattle.std.proofs.Math.Path.{ap}
 use mathlib.Core.List.{List, [], ◌∷◌, ◌++◌, append-nil, append_assoc}
@@ -14,7 +14,7 @@ use Rattle.std.proofs.Math.ListN.{length, take}
 use Rattle.std.proofs.Math.Dec.{eqb, ltb}
 use Rattle.codec_fields.proofs.Laws.{never}
 use Rattle.codec_telegrams.specs.Words.{telegram_of, telegram_refusal}
-use Rattle.codec_frames.specs.Frames.{Written, not_written, fitted, write_of, written_count, written_over, frame_bytes, is_other_request}
+use Rattle.codec_frames.specs.Frames.{Written, not_written, fitted, write_of, written_count, write_number, written_over, frame_bytes, is_other_request}
 use Rattle.codec_records.specs.Records.{head_of, telegram_word_at, record_refusal}
 use Rattle.capture_text.specs.Text.{line_text}
 use Rattle.refusals.specs.declared.refusal.Refusal.{Refusal}
@@ -47,6 +47,12 @@ write_small word room =
     (λ b. rw (a, b) (record { number = omega arith; size = omega arith }))
     (λ b. rw (a, b) (fitted_small (frame_bytes (telegram_of word)) room)))
     (λ a. rw a (record { number = omega arith; size = omega arith }))
+
+-- how many bytes a telegram's frame has, by a writer's number that does not refuse
+pub word_size : (word : ℕ) {number : ℕ} → number ≡ write_number (write_of word longest_frame) → number % 256 ≡ 0 → number / 256 ≡ length (write_of word longest_frame).bytes
+word_size word {number} is ok =
+    let small = write_small word longest_frame in
+    omega (arith, is, ok, small.number)
 
 -- what a count says of what is written
 counted_is : (w : Written) {count : ℕ} → Ok count ≡ written_count w → (w.refusal ≡ 0) × (count ≡ length w.bytes)
