@@ -150,6 +150,8 @@ class Names:
         parameter = re.search(rf"[(,]\s*(?:mut )?{first}: &?(?:'\w+ )?(?:mut )?(\w+)", f.head)
         word = "Self" if first == "self" else parameter[1] if parameter else "".join(part.title() for part in first.split("_"))
         kind = self.meant(f, word) if first == "self" or parameter else self.type_of(f.crate, f.file, word) or ""
+        if first != "self" and not parameter and re.search(r"<\w+: ", f.head):
+            return ""  # it may be of the type that is a parameter
         for word in rest:
             field_type = self.fields.get(kind, {}).get(word)
             if not field_type:
@@ -207,7 +209,7 @@ def called(f, near, names):
                 into = any(name == "into" for _, name in methods) and (kind in made or kind not in names.declared)
                 called_here = names.types_in(g.crate, g.file, source[1]) <= held and (by_type or into or "?" in body and kind in returned)
             else:
-                called_here = by_type or any(name == g.short and (at in kinds if at else kind in held) for at, name in methods)
+                called_here = by_type or any(name == g.short and (at in kinds if at else kinds & held) for at, name in methods)
                 called_here = called_here or g.trait == "Iterator" and kind in held and re.search(r"\bfor .* in ", body)
             hit |= {g} if called_here else set()
     return hit - {f}

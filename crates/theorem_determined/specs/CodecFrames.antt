@@ -1,8 +1,12 @@
 -- Determined, for the public calls of codec_frames.
-use Rattle.std.specs.Prelude.{◌≡◌}
+use Rattle.std.specs.Prelude.{ℕ, ◌≡◌, Result, Err}
 use Rattle.std.proofs.Common.{◌∙◌, sym}
 use Rattle.theorem_determined.specs.Claim.{Determined}
+use Rattle.codec_frames.specs.declared.Frame.{Frame}
 use Rattle.codec_frames.specs.Laws.{numbered_same}
+use Rattle.codec_frames.proofs.FrameRefusal.number.Reads as refusal-number-reads
+use Rattle.codec_frames.proofs.RefusalFrameRefusal.number.Reads as refusal-refusal-number-reads
+use Rattle.codec_frames.proofs.U8FrameRefusal.number.Reads as byte-refusal-number-reads
 use Rattle.codec_frames.proofs.StartFromU8.from.Reads as from-reads
 use Rattle.codec_frames.proofs.check_byte.Reads as check-byte-reads
 use Rattle.codec_frames.proofs.read_frame.Reads as read-frame-reads
@@ -33,3 +37,22 @@ pub write_frame :
     → write-frame-reads.Post κs a r₂ s₂
     → (r₁ ≡ r₂) × (s₁.1.0.now ≡ s₂.1.0.now)
 write_frame κs a r₁ r₂ s₁ s₂ p q = (numbered_same r₁ r₂ (p.0 ∙ sym q.0), p.1 ∙ sym q.1)
+
+-- an error says the number that stands in it
+err_same : (x y : ℕ) → ◌≡◌ {A = Result Frame ℕ} (Err x) (Err y) → x ≡ y
+err_same x y e = cc
+
+-- of the trait of what `read_number` takes: at each such type the number of a refusal
+pub refusal_number :
+    (T : _) (L : _) (C : _) (F : _) (d : _) (G : _) (e : _) (κs : _) (a : _) (r₁ r₂ : _) (s₁ s₂ : _)
+    → refusal-number-reads.Post T L C F d G e κs a r₁ s₁
+    → refusal-number-reads.Post T L C F d G e κs a r₂ s₂
+    → r₁ ≡ r₂
+refusal_number T L C F d G e κs a r₁ r₂ s₁ s₂ p q = err_same r₁ r₂ (sym p ∙ q)
+
+-- and of the two types themselves
+pub refusal_refusal_number : Determined refusal-refusal-number-reads.Post
+refusal_refusal_number κs a r₁ r₂ s₁ s₂ p q = err_same r₁ r₂ (sym p ∙ q)
+
+pub byte_refusal_number : Determined byte-refusal-number-reads.Post
+byte_refusal_number κs a r₁ r₂ s₁ s₂ p q = err_same r₁ r₂ (sym p ∙ q)
