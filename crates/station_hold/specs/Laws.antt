@@ -19,6 +19,19 @@ pub capped_not : (n : ℕ) → largest < n → capped n ≡ largest
 unfolding capped
 capped_not n h = simp (lt-leb n largest h)
 
+-- the end of hold in its four cases: whether what is added or taken off is more, and whether it fits
+pub end_fits : (from span less : ℕ) → span ≤ largest → less ≤ span → from ≤ largest - (span - less) → capped (from + span - less) ≡ from + (span - less)
+end_fits from span less u h g = capped_fits (from + span - less) (from + (span - less)) (omega arith) (omega arith)
+
+pub end_high : (from span less : ℕ) → less ≤ span → largest - (span - less) < from → capped (from + span - less) ≡ largest
+end_high from span less h g = capped_not (from + span - less) (omega arith)
+
+pub end_over : (from span less : ℕ) → from ≤ largest → span < less → less - span ≤ from → capped (from + span - less) ≡ from - (less - span)
+end_over from span less u h g = capped_fits (from + span - less) (from - (less - span)) (omega arith) (omega arith)
+
+pub end_below : (from span less : ℕ) → span < less → from < less - span → capped (from + span - less) ≡ 0
+end_below from span less h g = capped_fits (from + span - less) 0 (omega arith) (omega arith)
+
 -- a clock of 48 bits is before the end exactly if it is before the capped end
 pub holds_capped : (now end : ℕ) → now < 2 ^ 48 → ltb now (capped end) ≡ ltb now end
 holds_capped now end h = by (leb end largest) refl

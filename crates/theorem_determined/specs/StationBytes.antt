@@ -3,11 +3,15 @@ use Rattle.std.specs.Prelude.{◌≡◌}
 use Rattle.std.proofs.Common.{◌∙◌, sym}
 use Rattle.theorem_determined.specs.Claim.{Determined}
 use Rattle.station_bytes.proofs.read_station.Reads as read-station-reads
+use Rattle.station_bytes.proofs.read_counts.Reads as read-counts-reads
 use Rattle.station_bytes.proofs.make_ring.Reads as make-ring-reads
 use Rattle.station_bytes.proofs.write_station.Reads as write-station-reads
 
 pub read_station : Determined read-station-reads.Post
 read_station κs a r₁ r₂ s₁ s₂ p q = p ∙ sym q
+
+pub read_counts : Determined read-counts-reads.Post
+read_counts κs a r₁ r₂ s₁ s₂ p q = p ∙ sym q
 
 pub make_ring : Determined make-ring-reads.Post
 make_ring κs a r₁ r₂ s₁ s₂ p q = p ∙ sym q
