@@ -71,6 +71,8 @@ fn write_hex(text: &mut [u8], bytes: &[u8])
 
 /// Writes the line of a time and a frame at the start of a slice, and says how many bytes it has; the bytes past it stay. Where there
 /// is no room it is refused with 18, and nothing is written.
+// A call of its own: built into a loop over telegrams, its time is worked out for those too that have no line.
+#[inline(never)]
 #[tactic(auto, using(crate::specs::Laws::line_full, crate::specs::Laws::time_length, crate::specs::Laws::space_length, crate::specs::Laws::hex_room, crate::specs::Laws::hex_whole, crate::specs::Laws::line_whole, crate::specs::Laws::line_fits))]
 pub fn write_line(text: &mut [u8], time: u64, frame: &[u8]) -> Result<usize, Refusal>
     ensures value { numbered result ≡ written_count (fitted (line_text time frame.now) (length text.old)) }

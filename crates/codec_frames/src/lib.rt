@@ -278,7 +278,9 @@ fn sd1_frame(destination: u8, source: u8, code: u8) -> [u8; 6]
     [SD1, destination, source, code, check, END_BYTE]
 }
 
-// Writes bytes at the start of a slice, where there is room, and says how many they are.
+// Writes bytes at the start of a slice, where there is room, and says how many they are. Built into its callers: as a call it costs a
+// frame up to half as much again.
+#[inline(always)]
 #[tactic(auto, unfolding(crate::specs::Frames::fitted))]
 fn store(frame: &mut [u8], bytes: &[u8]) -> Result<usize, Refusal>
     ensures value { numbered result ≡ written_count (fitted bytes.now (length frame.old)) }
@@ -294,6 +296,7 @@ fn store(frame: &mut [u8], bytes: &[u8]) -> Result<usize, Refusal>
 /// Writes the frame of a telegram word at the start of a slice and says how many bytes it has. Refused with 14 for a word that no
 /// telegram has, 34 for a request that is no status request, 18 without room. A refused call writes nothing, and bytes past the frame
 /// stay.
+#[inline(always)]
 #[tactic(auto, using(refusals::proofs::Numbers::refused, crate::specs::Laws::write_refused, crate::specs::Laws::write_barred, crate::specs::Laws::write_fitted, crate::specs::Laws::write_status, crate::specs::Laws::write_other, crate::specs::Laws::write_response, crate::specs::Laws::status_below, crate::specs::Laws::state_is_below))]
 pub fn write_frame(word: u64, frame: &mut [u8]) -> Result<usize, Refusal>
     ensures value { numbered result ≡ written_count (write_of word (length frame.old)) }

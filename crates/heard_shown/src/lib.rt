@@ -41,6 +41,7 @@ pub fn lookup(table: &[u8], address: u8) -> Result<Option<AddressEntry>, Refusal
 
 /// The display's summary: writes the entry of an address into the first 17 bytes of `shown`, 17 zero bytes for one that was never
 /// heard. Refused with 26, or 18 where `shown` is too short: then nothing is written.
+#[inline(always)]
 #[tactic(auto, unfolding(heard::specs::Heard::summary_number, heard::specs::Heard::summary_into, heard::specs::Heard::lookup_number, heard::specs::Heard::shown_of))]
 pub fn summary(table: &[u8], address: u8, shown: &mut [u8]) -> Result<(), Refusal>
     ensures value { number_in result ≡ summary_number (lookup_of table.now address) (length shown.old) }
