@@ -22,7 +22,7 @@ use Rattle.station.specs.declared.station.Station.{Station}
 use Rattle.station_words.specs.declared.Words.{Words}
 use Rattle.station_words.specs.Words.{words_of, state_in, core_in, counts_in, laps_in, ready_in, header_in}
 use Rattle.trace.specs.Trace.{settings_of}
-use Rattle.station_bytes.specs.Bytes.{ring_in, station_from, words_fit, set_fits, checked_in, found_with, found_on, found_in, unlinked_ring, unlinked, unlinked_in, head_from, counts_of, stores_from, words_stored, word_list, all_bytes, station_bytes, station_into}
+use Rattle.station_bytes.specs.Bytes.{words_in, set_in, read_of, ring_in, station_from, words_fit, set_fits, checked_in, found_with, found_on, found_in, unlinked_ring, unlinked, unlinked_in, head_from, counts_of, stores_from, words_stored, word_list, all_bytes, station_bytes, station_into}
 
 -- The words.
 
@@ -299,3 +299,14 @@ found_counts w set h e = go (found_in w set) e
     go : (x : Option Station) → Some h ≡ unlinked_in x → Some h.counts ≡ counts_of x
     go None q = absurd (cc q)
     go (Some s) q = ap (λ (t : Station). Some t.counts) (ap (found h) q)
+
+-- so it is of the bytes that the words are read from, where a station has room in them
+pub counts_read :
+    (bytes : List ℕ) (w : Words) (h : Station)
+    → 96 ≤ length bytes
+    → w ≡ words_in bytes
+    → Some h ≡ unlinked_in (found_in w (set_in bytes))
+    → Some h.counts ≡ counts_of (read_of bytes)
+unfolding read_of
+counts_read bytes w h room read e =
+    rw (le-ltb (length bytes) 96 room) (found_counts w (set_in bytes) h e ∙ ap (λ (v : Words). counts_of (found_in v (set_in bytes))) read)

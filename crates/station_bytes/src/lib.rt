@@ -186,7 +186,7 @@ pub fn read_station(bytes: &[u8]) -> Option<Station>
 }
 
 /// What the station that bytes are has counted, or none where they are no station. Its ring is not made.
-#[tactic(auto, using(crate::specs::Laws::found_counts), unfolding(crate::specs::Bytes::read_of))]
+#[tactic(auto, unfolding(crate::specs::Bytes::read_of))]
 pub fn read_counts(bytes: &[u8]) -> Option<Counts>
     ensures { result ≡ counts_of (read_of bytes.now) }
 {
