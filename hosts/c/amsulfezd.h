@@ -46,7 +46,7 @@
  *
  * Stack. A call uses at most AMSULFEZD_STACK_BYTES of the caller's stack, its return address included, whatever the trace's
  * length; the two calls on a simulated bus, which keep eight stations there, at most AMSULFEZD_SIMULATION_STACK_BYTES.
- * Measured: at most 19,464 bytes for these two, else at most 5,032, with the library of the toolchain rattle-kit-13f. The
+ * Measured: at most 21,368 bytes for these two, else at most 4,408, with the library of the toolchain rattle-kit-13f. The
  * method: the call runs on a stack of its own that was filled with a pattern, and the deepest byte that changed is looked
  * for, over all traces of traces/, one of 100,000 entries and 1,000 traces made at random, which reach every state and every
  * kind of send; each is replayed, asked for an address that was heard and for its counts, its header moved to the other
